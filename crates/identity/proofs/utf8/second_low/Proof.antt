@@ -1,0 +1,16 @@
+-- `identity::utf8::second_low` meets its contract. Assumes nothing.
+use borrow.Author.Tests.{ne-eqb}
+use Rattle.identity.proofs.utf8.second_low.Statement.{statement}
+use Rattle.identity.proofs.utf8.second_low.Tie as tie
+
+returns : tie.Need-returns
+returns c = rw (c .match .keys1)
+
+returns-2 : tie.Need-returns-2
+returns-2 c = rw (c .match .keys2)
+
+returns-3 : tie.Need-returns-3
+returns-3 c = rw (ne-eqb _ _ (c .match .rest .0 .1), ne-eqb _ _ (c .match .rest .1))
+
+pub second-low-spec : {M : Type 1} → statement M
+second-low-spec = tie.close (tie.spec returns returns-2 returns-3)

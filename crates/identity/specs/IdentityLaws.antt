@@ -1,0 +1,89 @@
+-- Laws of slots, incarnations and node ids: what passed a check is within its bounds, and node ids are made and read without loss.
+-- Each name here is a step of a proof or a law for the layers above; what is right is said in Identity.
+-- Assumes nothing.
+use Prim.Native.Nat.{ℕ, _+_, _-_, _*_, _/_, _%_, _≤_}
+use mathlib.Core.Path.{_≡_, refl, sym}
+use mathlib.Core.Bool.{Bool, true, false, cond, _&&_}
+use native.Mathlib.Omega.{arith}
+use lib.Dec.{leb}
+use borrow.Author.Tests.{leb-true}
+use Rattle.identity.specs.Answer.{isAccepted}
+use Rattle.identity.specs.Identity.{maxSlotId, maxVoterIncarnation, nodeIdSpan, isSlotId, isVoterIncarnation, validateVoterIncarnation, validateVoterSlotIdentity, numberWhere, identityWhere, identityOf, newVoterSlotIdentity, nodeId, fromNodeId}
+use Rattle.identity.specs.declared.answer.Answer.{Answer}
+use Rattle.identity.specs.declared.answer.Answer.the-variants.{Accepted, InvalidSlot, InvalidIncarnation}
+use Rattle.identity.specs.declared.identity.NumberResult.{NumberResult}
+use Rattle.identity.specs.declared.identity.VoterSlotIdentity.{VoterSlotIdentity}
+use Rattle.identity.specs.declared.identity.VoterSlotIdentityResult.{VoterSlotIdentityResult}
+
+-- A number within two bounds.
+pub record Within (low high value : ℕ) : Type 0 where
+  pub above : low ≤ value
+  pub below : value ≤ high
+
+-- An identity that the Rust types can hold.
+pub record Sound (identity : VoterSlotIdentity) : Type 0 where
+  pub slot : Within 1 maxSlotId (identity .slot)
+  pub incarnation : Within 1 maxVoterIncarnation (identity .incarnation)
+
+within-by : (low high value : ℕ) (p q : Bool) → leb low value ≡ p → leb value high ≡ q → (p && q) ≡ true → Within low high value
+within-by low high value true true h k e = record { above = leb-true low value h; below = leb-true value high k }
+within-by low high value true false h k e = absurd (let z : _≡_ {A = ℕ} 0 1 = cc in omega arith)
+within-by low high value false q h k e = absurd (let z : _≡_ {A = ℕ} 0 1 = cc in omega arith)
+
+-- What a test that passed tells.
+within : (low high value : ℕ) → (leb low value && leb value high) ≡ true → Within low high value
+within low high value e = within-by low high value (leb low value) (leb value high) refl refl e
+
+accepted-by : (t : Bool) (a b : Answer) → isAccepted b ≡ false → isAccepted (cond t a b) ≡ true → (t ≡ true) × (isAccepted a ≡ true)
+accepted-by true a b n e = (refl, e)
+accepted-by false a b n e = absurd (let z : _≡_ {A = ℕ} 0 1 = cc in omega arith)
+
+pub incarnation-within : (value : ℕ) → isAccepted (validateVoterIncarnation value) ≡ true → Within 1 maxVoterIncarnation value
+unfolding validateVoterIncarnation
+incarnation-within value h = within 1 maxVoterIncarnation value (accepted-by (isVoterIncarnation value) Accepted InvalidIncarnation refl h .0)
+
+pub identity-sound : (identity : VoterSlotIdentity) → isAccepted (validateVoterSlotIdentity identity) ≡ true → Sound identity
+unfolding validateVoterSlotIdentity
+identity-sound identity h =
+    let e = accepted-by (isSlotId (identity .slot)) (validateVoterIncarnation (identity .incarnation)) InvalidSlot refl h in
+    record { slot = within 1 maxSlotId (identity .slot) (e .0); incarnation = incarnation-within (identity .incarnation) (e .1) }
+
+-- ---- node ids are made and read without loss
+
+abbrev numberOfNode : VoterSlotIdentity → ℕ
+numberOfNode identity = (identity .incarnation - 1) * nodeIdSpan + identity .slot
+
+number-where : (t : Answer) (value node : ℕ) → numberWhere t value ≡ NumberResult.Ok node → (isAccepted t ≡ true) × (value ≡ node)
+number-where t value node h = go (isAccepted t) refl
+  where
+    go : (b : Bool) → isAccepted t ≡ b → (isAccepted t ≡ true) × (value ≡ node)
+    go true e = (e, let k : NumberResult.Ok value ≡ NumberResult.Ok node = rw e at h in cc)
+    go false e = absurd (let k : NumberResult.Err t ≡ NumberResult.Ok node = rw e at h in let z : _≡_ {A = ℕ} 0 1 = cc in omega arith)
+
+identity-where : (t : Answer) (found identity : VoterSlotIdentity) → identityWhere t found ≡ VoterSlotIdentityResult.Ok identity → (isAccepted t ≡ true) × (found ≡ identity)
+identity-where t found identity h = go (isAccepted t) refl
+  where
+    go : (b : Bool) → isAccepted t ≡ b → (isAccepted t ≡ true) × (found ≡ identity)
+    go true e = (e, let k : VoterSlotIdentityResult.Ok found ≡ VoterSlotIdentityResult.Ok identity = rw e at h in cc)
+    go false e = absurd (let k : VoterSlotIdentityResult.Err t ≡ VoterSlotIdentityResult.Ok identity = rw e at h in let z : _≡_ {A = ℕ} 0 1 = cc in omega arith)
+
+-- The identity that a node id was made of is the one that is read.
+pub read-made : (identity : VoterSlotIdentity) (node : ℕ) → nodeId identity ≡ NumberResult.Ok node → fromNodeId node ≡ VoterSlotIdentityResult.Ok identity
+unfolding nodeId fromNodeId newVoterSlotIdentity
+read-made identity node h =
+    let e = number-where (validateVoterSlotIdentity identity) (numberOfNode identity) node h in
+    let s = identity-sound identity (e .0) in
+    let n : numberOfNode identity ≡ node = e .1 in
+    let p : node % 65536 ≡ identity .slot = omega (arith, s .slot .below, s .incarnation .above) in
+    let q : node / 65536 + 1 ≡ identity .incarnation = omega (arith, s .slot .below, s .incarnation .above) in
+    let i : identityOf (node % 65536) (node / 65536 + 1) ≡ identity = λ j. record { slot = p j; incarnation = q j } in
+    rw (i, e .0)
+
+-- The node id that an identity was read from is the one that is made of it.
+pub made-read : (node : ℕ) (identity : VoterSlotIdentity) → fromNodeId node ≡ VoterSlotIdentityResult.Ok identity → nodeId identity ≡ NumberResult.Ok node
+unfolding nodeId fromNodeId newVoterSlotIdentity
+made-read node identity h =
+    let found = identityOf (node % 65536) (node / 65536 + 1) in
+    let e = identity-where (validateVoterSlotIdentity found) found identity h in
+    let n : numberOfNode found ≡ node = omega arith in
+    rw (sym (e .1), e .0, n)

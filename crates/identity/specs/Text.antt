@@ -1,0 +1,105 @@
+-- Names, snapshot ids and strict names: document 01, section "Text". Lengths are counted in bytes.
+-- The first two are the rules on text in validation.rs; the strict name is this project's, after the SPIFFE-ID standard.
+-- Assumes nothing.
+use Prim.Native.Nat.{ℕ}
+use mathlib.Core.Bool.{Bool, true, false, cond, not, _&&_, _||_}
+use mathlib.Core.List.{List, [], _∷_}
+use lib.ListN.{length, drop}
+use lib.Dec.{eqb, leb}
+use Rattle.identity.specs.Utf8.{allChars}
+use Rattle.identity.specs.declared.text.Allowed.{Allowed}
+use Rattle.identity.specs.declared.text.Allowed.the-variants.{Any, NoControl, NoControlNoWhitespace}
+
+-- "control character (U+0000 to 001F, 007F to 009F)"
+abbrev pub isControl : ℕ → Bool
+isControl code = leb code 0x1F || (leb 0x7F code && leb code 0x9F)
+
+-- "Unicode's 25 White_Space code points, kept as a list"
+abbrev pub whiteSpace : List ℕ
+whiteSpace =
+    0x0009 ∷ 0x000A ∷ 0x000B ∷ 0x000C ∷ 0x000D ∷ 0x0020 ∷ 0x0085 ∷ 0x00A0 ∷ 0x1680
+    ∷ 0x2000 ∷ 0x2001 ∷ 0x2002 ∷ 0x2003 ∷ 0x2004 ∷ 0x2005 ∷ 0x2006 ∷ 0x2007 ∷ 0x2008 ∷ 0x2009 ∷ 0x200A
+    ∷ 0x2028 ∷ 0x2029 ∷ 0x202F ∷ 0x205F ∷ 0x3000 ∷ []
+
+unfoldable pub isIn : List ℕ → ℕ → Bool
+isIn [] code = false
+isIn (c ∷ cs) code = eqb c code || isIn cs code
+
+abbrev pub isWhitespace : ℕ → Bool
+isWhitespace code = isIn whiteSpace code
+
+-- Which code points a text may hold.
+abbrev pub allows : Allowed → ℕ → Bool
+allows Any code = true
+allows NoControl code = not (isControl code)
+allows NoControlNoWhitespace code = not (isControl code) && not (isWhitespace code)
+
+unfoldable pub isUtf8 : List ℕ → Bool
+isUtf8 s = allChars (allows Any) s
+
+-- `spiffe://`
+abbrev pub scheme : List ℕ
+scheme = 115 ∷ 112 ∷ 105 ∷ 102 ∷ 102 ∷ 101 ∷ 58 ∷ 47 ∷ 47 ∷ []
+
+unfoldable pub startsWith : List ℕ → List ℕ → Bool
+startsWith s [] = true
+startsWith [] (p ∷ ps) = false
+startsWith (b ∷ s) (p ∷ ps) = eqb b p && startsWith s ps
+
+abbrev pub maxSpiffeIdBytes : ℕ
+maxSpiffeIdBytes = 2048
+
+abbrev pub maxSnapshotIdBytes : ℕ
+maxSnapshotIdBytes = 256
+
+-- "A controller or candidate name starts with `spiffe://`, is 10 to 2,048 bytes, and holds no control character .. and none of Unicode's 25 White_Space code points"
+unfoldable pub isName : List ℕ → Bool
+isName s =
+    (leb 10 (length s) && leb (length s) maxSpiffeIdBytes)
+    && (startsWith s scheme && allChars (allows NoControlNoWhitespace) s)
+
+-- "A snapshot id is 1 to 256 bytes without control characters; spaces may stand in it."
+unfoldable pub isSnapshotId : List ℕ → Bool
+isSnapshotId s = (leb 1 (length s) && leb (length s) maxSnapshotIdBytes) && allChars (allows NoControl) s
+
+-- The bytes of a strict name: "a-z, 0-9, dot, hyphen, underscore" in a trust domain, and A-Z too in a segment.
+abbrev pub isDomainByte : ℕ → Bool
+isDomainByte b =
+    (leb 97 b && leb b 122) || ((leb 48 b && leb b 57) || (eqb b 46 || (eqb b 45 || eqb b 95)))
+
+abbrev pub isSegmentByte : ℕ → Bool
+isSegmentByte b = (leb 65 b && leb b 90) || isDomainByte b
+
+unfoldable pub all : (ℕ → Bool) → List ℕ → Bool
+all p [] = true
+all p (b ∷ s) = p b && all p s
+
+-- "a trust domain of 1 to 255 bytes"
+abbrev pub isTrustDomain : List ℕ → Bool
+isTrustDomain d = (leb 1 (length d) && leb (length d) 255) && all isDomainByte d
+
+-- "each a slash and one or more of .."
+abbrev pub isSegment : List ℕ → Bool
+isSegment g = leb 1 (length g) && all isSegmentByte g
+
+-- What stands between the slashes of s: with k slashes, k + 1 parts.
+abbrev pub prepend : ℕ → List (List ℕ) → List (List ℕ)
+prepend b [] = (b ∷ []) ∷ []
+prepend b (part ∷ parts) = (b ∷ part) ∷ parts
+
+unfoldable pub split : List ℕ → List (List ℕ)
+split [] = [] ∷ []
+split (b ∷ s) = cond (eqb b 47) ([] ∷ split s) (prepend b (split s))
+
+unfoldable pub allSegments : List (List ℕ) → Bool
+allSegments [] = true
+allSegments (g ∷ gs) = isSegment g && allSegments gs
+
+-- the trust domain, "then no or more segments"
+abbrev pub areStrictParts : List (List ℕ) → Bool
+areStrictParts [] = false
+areStrictParts (domain ∷ segments) = isTrustDomain domain && allSegments segments
+
+-- "At most 2,048 bytes in all: `spiffe://`, then a trust domain .., then no or more segments"
+unfoldable pub isStrictName : List ℕ → Bool
+isStrictName s = leb (length s) maxSpiffeIdBytes && (startsWith s scheme && areStrictParts (split (drop 9 s)))
