@@ -3,7 +3,7 @@ use mathlib.Core.Path.{sym, _∙_}
 use borrow.Author.Tests.{le-leb, lt-leb, not-true, not-false}
 use native.Mathlib.Omega.{arith}
 use lib.ListN.{length}
-use Rattle.identity.specs.Text.{isName}
+use Rattle.identity.specs.Text.{maxSpiffeIdBytes, isName}
 use borrow.Author.Needs.{needs}
 use Rattle.identity.proofs.text.is_name.Statement.{statement}
 use Rattle.identity.proofs.text.is_name.Tie as tie
@@ -16,7 +16,7 @@ returns-2 : tie.Need-returns-2
 unfolding isName
 returns-2 c =
     let n = length (c .before .before .before .args .bytes .now) in
-    rw (le-leb 10 n (omega arith), lt-leb n 2048 (omega arith))
+    rw (le-leb 10 n (omega arith), lt-leb n maxSpiffeIdBytes (omega arith))
 
 slice-aggregate-starts-with : tie.Need-slice-aggregate-starts-with
 slice-aggregate-starts-with c = search needs
@@ -28,7 +28,7 @@ returns-3 : tie.Need-returns-3
 unfolding isName
 returns-3 c =
     let n = length (c .before .before .before .before .before .before .args .bytes .now) in
-    rw (le-leb 10 n (omega arith), le-leb n 2048 (omega arith), sym (c .before .starts-with .ensures) ∙ not-true _ (c .if3 .taken))
+    rw (le-leb 10 n (omega arith), le-leb n maxSpiffeIdBytes (omega arith), sym (c .before .starts-with .ensures) ∙ not-true _ (c .if3 .taken))
 
 is-text-requires : tie.Need-is-text-requires
 is-text-requires c κs = search needs
@@ -37,7 +37,7 @@ returns-4 : tie.Need-returns-4
 unfolding isName
 returns-4 c =
     let n = length (c .before .before .before .before .before .before .before .args .bytes .now) in
-    rw (le-leb 10 n (omega arith), le-leb n 2048 (omega arith), sym (c .before .before .starts-with .ensures) ∙ not-false _ (c .before .if3 .left)) (c .is-text .ensures)
+    rw (le-leb 10 n (omega arith), le-leb n maxSpiffeIdBytes (omega arith), sym (c .before .before .starts-with .ensures) ∙ not-false _ (c .before .if3 .left)) (c .is-text .ensures)
 
 pub is-name-spec : {M : Type 1} → statement M
 is-name-spec =

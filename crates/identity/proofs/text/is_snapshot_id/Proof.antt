@@ -2,7 +2,7 @@
 use borrow.Author.Tests.{le-leb, lt-leb}
 use native.Mathlib.Omega.{arith}
 use lib.ListN.{length}
-use Rattle.identity.specs.Text.{isSnapshotId}
+use Rattle.identity.specs.Text.{maxSnapshotIdBytes, isSnapshotId}
 use borrow.Author.Needs.{needs}
 use Rattle.identity.proofs.text.is_snapshot_id.Statement.{statement}
 use Rattle.identity.proofs.text.is_snapshot_id.Tie as tie
@@ -15,7 +15,7 @@ returns-2 : tie.Need-returns-2
 unfolding isSnapshotId
 returns-2 c =
     let n = length (c .before .before .before .args .bytes .now) in
-    rw (le-leb 1 n (omega arith), lt-leb n 256 (omega arith))
+    rw (le-leb 1 n (omega arith), lt-leb n maxSnapshotIdBytes (omega arith))
 
 is-text-requires : tie.Need-is-text-requires
 is-text-requires c κs = search needs
@@ -24,7 +24,7 @@ returns-3 : tie.Need-returns-3
 unfolding isSnapshotId
 returns-3 c =
     let n = length (c .before .before .before .before .args .bytes .now) in
-    rw (le-leb 1 n (omega arith), le-leb n 256 (omega arith)) (c .is-text .ensures)
+    rw (le-leb 1 n (omega arith), le-leb n maxSnapshotIdBytes (omega arith)) (c .is-text .ensures)
 
 pub is-snapshot-id-spec : {M : Type 1} → statement M
 is-snapshot-id-spec = tie.close (tie.spec returns returns-2 is-text-requires returns-3)

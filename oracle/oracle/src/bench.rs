@@ -1,0 +1,255 @@
+//! `oracle bench`: nanoseconds of each call on tables of 3, 5 and 9 slots, idle and with a request
+//! open. Every subject gets the same inputs in the same run, batch by batch in turn.
+
+use std::hint::black_box;
+use std::time::Instant;
+
+use original::VoterReplacementPhase::*;
+use original::{
+    decode_voter_slot_table, encode_voter_slot_table, with_supplied, VoterReplacementPhase,
+    VoterSlotTable,
+};
+
+use crate::call::{self, Call};
+use crate::record::{Body, Step};
+use crate::sample::{
+    advance, begin, cut, identity, idle, marker, observation, open, replacement, snapshot,
+};
+
+/// Calls of one batch, and batches of one measurement. The median batch counts.
+const CALLS: usize = 256;
+const BATCHES: usize = 151;
+
+/// One measured call on one table.
+struct Task {
+    name: &'static str,
+    state: String,
+    table: VoterSlotTable,
+    work: Work,
+}
+
+enum Work {
+    Decode,
+    Encode,
+    Command(Box<Body>),
+    Retired(u64),
+}
+
+/// Something that can be timed.
+trait Subject {
+    fn name(&self) -> &'static str;
+
+    /// Nanoseconds of one batch: fresh inputs are made first, and only the calls are timed.
+    fn batch(&self, task: &Task) -> u128;
+}
+
+/// The columns of the report. The port's library becomes the second one; its ratio to the first
+/// is printed then.
+fn subjects() -> Vec<Box<dyn Subject>> {
+    vec![Box::new(Original)]
+}
+
+/// Hands over a line for each task as soon as it is measured.
+pub fn run(mut line: impl FnMut(&str) -> Result<(), String>) -> Result<(), String> {
+    let subjects = subjects();
+    let names: String = subjects
+        .iter()
+        .map(|subject| format!("{:>10}", subject.name()))
+        .collect();
+    let (call, slots, state) = ("call", "slots", "state");
+    let unit = format!("(ns, median of {BATCHES} batches of {CALLS} calls)");
+    line(&format!("{call:<22}{slots:>6}  {state:<26}{names}  {unit}"))?;
+    for task in [3, 5, 9].into_iter().flat_map(tasks) {
+        line(&measured(&subjects, &task))?;
+    }
+    Ok(())
+}
+
+fn measured(subjects: &[Box<dyn Subject>], task: &Task) -> String {
+    let mut times: Vec<Vec<u128>> = vec![Vec::new(); subjects.len()];
+    for _ in 0..BATCHES {
+        for (subject, times) in subjects.iter().zip(&mut times) {
+            times.push(subject.batch(task));
+        }
+    }
+    let medians: Vec<f64> = times
+        .iter_mut()
+        .map(|times| median(times) / CALLS as f64)
+        .collect();
+    let slots = task.table.slots.len();
+    let mut line = format!("{:<22}{slots:>6}  {:<26}", task.name, task.state);
+    for median in &medians {
+        line += &format!("{median:>10.1}");
+    }
+    if let [first, second, ..] = medians[..] {
+        line += &format!("  ratio {:.2}", second / first);
+    }
+    line
+}
+
+fn median(times: &mut [u128]) -> f64 {
+    times.sort_unstable();
+    times[times.len() / 2] as f64
+}
+
+fn tasks(count: u16) -> Vec<Task> {
+    let mut tasks = Vec::new();
+    let mut add = |name, state: &str, table: VoterSlotTable, work| {
+        tasks.push(Task {
+            name,
+            state: state.to_owned(),
+            table,
+            work,
+        });
+    };
+    let node = identity(2, 1).node_id().get();
+    for (state, table) in [
+        ("idle", idle(count)),
+        ("open, CaughtUp", open(count, CaughtUp)),
+    ] {
+        add("decode", state, table.clone(), Work::Decode);
+        add("encode", state, table.clone(), Work::Encode);
+        add("retired test", state, table, Work::Retired(node));
+    }
+    for (name, state, table, body) in commands(count) {
+        add(name, &state, table, Work::Command(Box::new(body)));
+    }
+    tasks
+}
+
+type Command = (&'static str, String, VoterSlotTable, Body);
+
+/// Every command and observation that takes a request further, and the repeats.
+fn commands(count: u16) -> Vec<Command> {
+    let idle = idle(count);
+    let at = |phase: VoterReplacementPhase| (format!("open, {phase:?}"), open(count, phase));
+    let steps = replacement(&idle, 1, 10);
+    let names = [
+        "Begin",
+        "Advance snapshot",
+        "observation learner",
+        "Advance caught up",
+        "Advance fence",
+        "observation joint",
+        "observation uniform",
+        "Advance finalize",
+    ];
+    let phases = [
+        Prepared,
+        SnapshotInstalled,
+        LearnerAdded,
+        CaughtUp,
+        Fenced,
+        Joint,
+        Uniform,
+    ];
+    let before = [("idle".to_owned(), idle.clone())]
+        .into_iter()
+        .chain(phases.map(at));
+    let mut commands: Vec<Command> = names
+        .into_iter()
+        .zip(before)
+        .zip(steps)
+        .map(|((name, (state, table)), body)| (name, state, table, body))
+        .collect();
+    let (state, prepared) = at(Prepared);
+    let superseding = Body::Begin(begin(&prepared, 2, 2, cut(2, 30)));
+    let repeated = Body::Begin(begin(&idle, 2, 1, cut(2, 10)));
+    commands.push((
+        "Begin superseding",
+        state.clone(),
+        prepared.clone(),
+        superseding,
+    ));
+    commands.push(("Begin repeated", state.clone(), prepared.clone(), repeated));
+    commands.push((
+        "Advance continuation",
+        state,
+        prepared,
+        advance(1, cut(2, 30), Step::Continuation),
+    ));
+    let (state, installed) = at(SnapshotInstalled);
+    commands.push((
+        "Advance repeated",
+        state,
+        installed,
+        advance(1, cut(2, 30), snapshot(cut(2, 10))),
+    ));
+    let (state, added) = at(LearnerAdded);
+    commands.push(("Marker", state, added, marker(1, cut(2, 30))));
+    let all: Vec<u64> = (1..=u64::from(count)).collect();
+    commands.push((
+        "observation idle",
+        "idle".to_owned(),
+        idle,
+        observation(cut(2, 30), &[&all], &all),
+    ));
+    commands
+}
+
+/// The original functions, with the digests supplied as document 01 has it, so that no time goes
+/// into hashing.
+struct Original;
+
+impl Subject for Original {
+    fn name(&self) -> &'static str {
+        "original"
+    }
+
+    fn batch(&self, task: &Task) -> u128 {
+        match &task.work {
+            Work::Decode => {
+                let bytes = encode_voter_slot_table(&task.table).expect("a valid table");
+                timed(|| decode_voter_slot_table(black_box(&bytes)))
+            }
+            Work::Encode => timed(|| encode_voter_slot_table(black_box(&task.table))),
+            Work::Retired(node) => {
+                let node = call::held_node(*node).expect("an id that can be held");
+                timed(|| black_box(&task.table).is_retired(black_box(node)))
+            }
+            Work::Command(body) => {
+                let Ok(call) = call::held(body) else {
+                    unreachable!("values that can be held")
+                };
+                let tables = vec![task.table.clone(); CALLS];
+                commanded(&call, tables)
+            }
+        }
+    }
+}
+
+/// `CALLS` calls of the same work. What they hand back is dropped within the time, as a caller
+/// would drop it.
+fn timed<T>(work: impl Fn() -> T) -> u128 {
+    let start = Instant::now();
+    for _ in 0..CALLS {
+        black_box(work());
+    }
+    start.elapsed().as_nanos()
+}
+
+/// One call on each of the tables.
+fn commanded(call: &Call, mut tables: Vec<VoterSlotTable>) -> u128 {
+    match call {
+        Call::Control {
+            control,
+            cut,
+            supplied,
+        } => with_supplied(supplied.0, supplied.1, || {
+            let start = Instant::now();
+            for table in &mut tables {
+                black_box(table.apply_control(black_box(control), *cut))
+                    .expect("an accepted command");
+            }
+            start.elapsed().as_nanos()
+        }),
+        Call::Observation { sets, nodes, cut } => {
+            let start = Instant::now();
+            for table in &mut tables {
+                black_box(table.observe_membership(black_box(sets), nodes, *cut))
+                    .expect("an accepted observation");
+            }
+            start.elapsed().as_nanos()
+        }
+    }
+}

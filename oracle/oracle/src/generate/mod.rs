@@ -1,0 +1,84 @@
+//! `oracle generate`: inputs made from a seed, the same on every machine. The original runs along,
+//! so that most lines of history go all the way through a replacement.
+
+mod damage;
+mod departures;
+mod limits;
+mod logs;
+mod observations;
+mod pairs;
+mod questions;
+mod random;
+mod records;
+mod reshape;
+mod tables;
+#[cfg(test)]
+mod tests;
+mod text;
+mod walk;
+
+use crate::format::{Mark, HIGHER_MARKS};
+use questions::Source;
+use random::Random;
+
+/// The kinds of input, as the command names them, and what they hold.
+pub const KINDS: [(&str, &str); 6] = [
+    (
+        "text",
+        "questions of layer one: U8 NM SI SN CC WS SL IN NX EP ND ID",
+    ),
+    ("bytes", "reading table and attestation bytes: TR AR"),
+    (
+        "values",
+        "validity, writer, successor check, retired test: VT WR SC RT",
+    ),
+    ("calls", "commands and observations on raw tables: CM OV"),
+    ("questions", "all questions"),
+    ("log", "one replay log of COUNT records"),
+];
+
+/// An input of a kind, or `None` where there is no such kind.
+pub fn generate(seed: u64, count: usize, kind: &str) -> Option<Vec<u8>> {
+    let mut random = Random::for_kind(seed, kind);
+    match kind {
+        "text" => Some(text_questions(&mut random, count)),
+        "bytes" => Some(table_questions(&mut random, count, &HIGHER_MARKS[..2])),
+        "values" => Some(table_questions(&mut random, count, &HIGHER_MARKS[2..6])),
+        "calls" => Some(table_questions(&mut random, count, &HIGHER_MARKS[6..])),
+        "questions" => Some(all_questions(&mut random, count)),
+        "log" => Some(logs::log(&mut random, count)),
+        _ => None,
+    }
+}
+
+fn text_questions(random: &mut Random, count: usize) -> Vec<u8> {
+    let mut out = Vec::new();
+    for _ in 0..count {
+        text::put_text_question(random, &mut out);
+    }
+    out
+}
+
+fn table_questions(random: &mut Random, count: usize, marks: &[Mark]) -> Vec<u8> {
+    let mut out = Vec::new();
+    let mut source = Source::new(random);
+    for _ in 0..count {
+        let mark = random.pick(marks);
+        source.put(random, mark, &mut out);
+    }
+    out
+}
+
+fn all_questions(random: &mut Random, count: usize) -> Vec<u8> {
+    let mut out = Vec::new();
+    let mut source = Source::new(random);
+    for _ in 0..count {
+        if random.chance(20) {
+            text::put_text_question(random, &mut out);
+        } else {
+            let mark = random.pick(&HIGHER_MARKS);
+            source.put(random, mark, &mut out);
+        }
+    }
+    out
+}

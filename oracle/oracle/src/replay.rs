@@ -1,0 +1,101 @@
+//! `oracle replay`: document 01's replay program, decided by the original functions.
+//! One record's order: 33, the reader's number, 30, 31, the original.
+
+use original::{decode_voter_slot_table, VoterSlotTable};
+
+use crate::answer::{self, ACCEPTED, BAD_FORM};
+use crate::call;
+use crate::format::{Fields, Mark};
+use crate::record::{self, Body};
+
+/// The first line of every run.
+pub const HEADLINE: &str = "replay 1\n";
+
+/// What stands at one place of a log.
+#[derive(Debug, Clone, Copy, PartialEq, Eq)]
+pub enum Item<'a> {
+    Whole(Mark, &'a [u8]),
+    /// Unknown mark, or mark, size or body cut short. Nothing behind it is read.
+    Bad(Option<Mark>),
+}
+
+/// The items of a log, in order.
+pub fn items(log: &[u8]) -> Vec<Item<'_>> {
+    let mut items = Vec::new();
+    let mut fields = Fields(log);
+    while !fields.0.is_empty() {
+        let mark = fields.array();
+        let known = mark.filter(|mark| record::is_known(*mark));
+        let body = known.and_then(|_| fields.sized());
+        let (Some(mark), Some(body)) = (known, body) else {
+            items.push(Item::Bad(known));
+            break;
+        };
+        items.push(Item::Whole(mark, body));
+    }
+    items
+}
+
+/// The lines of a whole run.
+pub fn lines(log: &[u8]) -> String {
+    let mut lines = HEADLINE.to_owned();
+    let mut run = Run::default();
+    for (index, item) in items(log).into_iter().enumerate() {
+        let (mark, answer) = match item {
+            Item::Whole(mark, body) => (Some(mark), run.step(mark, body)),
+            Item::Bad(mark) => (mark, BAD_FORM),
+        };
+        lines += &format!(
+            "{} {} {answer} {}\n",
+            index + 1,
+            mark_text(mark),
+            run.revision()
+        );
+    }
+    lines
+}
+
+fn mark_text(mark: Option<Mark>) -> String {
+    mark.map_or("??".to_owned(), |mark| {
+        String::from_utf8_lossy(&mark).into_owned()
+    })
+}
+
+/// A run between two records.
+#[derive(Default)]
+pub struct Run {
+    pub table: Option<VoterSlotTable>,
+}
+
+impl Run {
+    /// Plays one record of a known mark and gives its answer.
+    pub fn step(&mut self, mark: Mark, body: &[u8]) -> u8 {
+        if mark == *b"TB" {
+            return self.set_table(body);
+        }
+        let (Some(table), Some(body)) = (&mut self.table, Body::read(mark, body)) else {
+            return BAD_FORM;
+        };
+        match call::held(&body) {
+            Ok(call) => call::run(&call, table),
+            Err(refusal) => refusal.number(),
+        }
+    }
+
+    fn set_table(&mut self, body: &[u8]) -> u8 {
+        if self.table.is_some() {
+            return BAD_FORM;
+        }
+        match decode_voter_slot_table(body) {
+            Ok(table) => {
+                self.table = Some(table);
+                ACCEPTED
+            }
+            Err(error) => answer::of_slot_error(error),
+        }
+    }
+
+    pub fn revision(&self) -> u64 {
+        self.table.as_ref().map_or(0, |table| table.revision)
+    }
+}

@@ -1,0 +1,55 @@
+//! `oracle samples`: the stored samples, which the port's programs play with no Rust at hand.
+//! The seeds stand here, so one command makes the same files again.
+
+use std::path::Path;
+
+use crate::{cases, fixed, generate, replay};
+
+/// Files of questions: name, seed, count, kind.
+const QUESTIONS: [(&str, u64, usize, &str); 4] = [
+    ("text", 1, 4000, "text"),
+    ("bytes", 2, 500, "bytes"),
+    ("values", 3, 500, "values"),
+    ("calls", 4, 700, "calls"),
+];
+
+/// Logs: seeds 1 to `LOGS`, of so many records each.
+const LOGS: u64 = 40;
+const RECORDS: usize = 60;
+
+/// Writes every sample into the folder: questions and answers, logs and lines.
+pub fn write(folder: &Path) -> Result<(), String> {
+    std::fs::create_dir_all(folder).map_err(|error| format!("{}: {error}", folder.display()))?;
+    write_questions(folder, "fixed", &fixed::questions())?;
+    for (name, seed, count, kind) in QUESTIONS {
+        write_questions(
+            folder,
+            name,
+            &generate::generate(seed, count, kind).unwrap_or_default(),
+        )?;
+    }
+    for seed in 1..=LOGS {
+        let log = generate::generate(seed, RECORDS, "log").unwrap_or_default();
+        write_file(folder, &format!("log-{seed:02}.log"), &log)?;
+        write_file(
+            folder,
+            &format!("log-{seed:02}.lines"),
+            replay::lines(&log).as_bytes(),
+        )?;
+    }
+    Ok(())
+}
+
+fn write_questions(folder: &Path, name: &str, questions: &[u8]) -> Result<(), String> {
+    write_file(folder, &format!("{name}.questions"), questions)?;
+    write_file(
+        folder,
+        &format!("{name}.answers"),
+        cases::answers(questions).as_bytes(),
+    )
+}
+
+fn write_file(folder: &Path, name: &str, bytes: &[u8]) -> Result<(), String> {
+    let file = folder.join(name);
+    std::fs::write(&file, bytes).map_err(|error| format!("{}: {error}", file.display()))
+}
