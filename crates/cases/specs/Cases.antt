@@ -1,14 +1,25 @@
 -- The cases that document 01 marks P: rows of one table, and the one theorem that covers each row, computed from the definitions.
 -- Document 01, section "Cases (P: proved)". A later layer adds its rows to the same table.
 -- Assumes nothing.
-use Prim.Native.Nat.{ℕ, _+_, _-_, _^_}
+use Prim.Native.Nat.{ℕ, zero, suc, _+_, _-_, _^_}
 use mathlib.Core.Path.{_≡_, refl}
-use mathlib.Core.Bool.{Bool, true, false, not, _&&_}
+use mathlib.Core.Bool.{Bool, true, false, cond, not, _&&_}
 use mathlib.Core.List.{List, [], _∷_, _++_}
-use lib.Dec.{T, eqb, eqb→eq}
+use lib.ListN.{replicate}
+use lib.Dec.{T, eqb, leb, eqb→eq}
+use Rattle.identity.specs.Answer.{numberOf}
 use Rattle.identity.specs.Identity.{validateVoterIncarnation, validateVoterSlotIdentity, newVoterSlotIdentity, identityOf, nodeId, fromNodeId, numberOfNumber, valueOfNumber, numberOfIdentity}
 use Rattle.identity.specs.Text.{scheme, isIn, startsWith, isName}
 use Rattle.identity.specs.Utf8.{fits, widthIn, decoded, charsFrom, allChars}
+use Rattle.records.specs.Blank.{blankVoterSlotIdentity, blankSpiffeId, blankSnapshotId, blankVoterSlotLogId, blankOptionalLogId, blankVoterSlotMember, blankVoterReplacementResult, blankVoterSlotRecord, blankVoterSnapshotEvidence, blankVoterConfiguration, blankLostVoterAttestationV1, blankVoterReplacementEvidence, blankVoterReplacementRecord}
+use Rattle.records.specs.Equality.{all as sameTests, eqList, sameVoterSlotIdentity, sameSpiffeId, sameSnapshotId, sameVoterSlotLogId, sameOptionalLogId, sameVoterSlotMember, sameVoterReplacementResult, sameVoterSlotRecord, sameVoterSnapshotEvidence, sameVoterConfiguration, sameLostVoterAttestationV1, sameVoterReplacementEvidence, sameVoterReplacementRecord}
+use Rattle.records.specs.Evidence.{follows}
+use Rattle.records.specs.Records.{voting, allBelow}
+use Rattle.records.specs.Representable.{representableMember, representableResult, representableSlotRecord, representable}
+use Rattle.records.specs.Validation.{validResult, validSlot, validSlots, validity, validate}
+use Rattle.records.specs.declared.records.VoterSlotLogId.{VoterSlotLogId}
+use Rattle.records.specs.declared.records.VoterSlotRecord.{VoterSlotRecord}
+use Rattle.records.specs.declared.records.VoterSlotTable.{VoterSlotTable}
 
 -- What a row says: two numbers are equal, or a test answers yes, or no.
 pub data Row : Type 0 where
@@ -24,6 +35,41 @@ Holds (is-no answer) = answer ≡ false
 abbrev pub Every : List Row → Type 0
 Every [] = Unit {0}
 Every (r ∷ rs) = Holds r × Every rs
+
+-- ---- what the rows speak of
+
+abbrev pub cut : ℕ → ℕ → VoterSlotLogId
+cut term index = record { term = term; index = index }
+
+-- A slot of that number in its first incarnation, voting, with no receipt.
+abbrev pub slotOf : ℕ → VoterSlotRecord
+slotOf slot =
+    record {
+      member = record { identity = identityOf slot 1; «key_digest» = replicate 32 0; «descriptor_digest» = replicate 32 0; «admission_generation» = 1 };
+      «retired_through» = 0;
+      phase = voting;
+      «has_last_result» = false;
+      «last_result» = blankVoterReplacementResult;
+    }
+
+-- The slots 1 to n in the first places, blanks behind them: k places from number i on.
+abbrev pub placesOf : ℕ → ℕ → ℕ → List VoterSlotRecord
+placesOf n zero i = []
+placesOf n (suc k) i = cond (leb i n) (slotOf i) blankVoterSlotRecord ∷ placesOf n k (i + 1)
+
+-- A table of revision 1 with n slots and no request open; n above 9 is a count that its places cannot have.
+abbrev pub tableOf : ℕ → VoterSlotTable
+tableOf n =
+    record {
+      «cluster_instance» = replicate 32 0;
+      «manifest_digest» = replicate 32 0;
+      revision = 1;
+      «configuration_epoch» = 1;
+      slots = placesOf n 9 1;
+      count = n;
+      «has_replacement» = false;
+      replacement = blankVoterReplacementRecord;
+    }
 
 -- ---- the table
 
@@ -44,6 +90,16 @@ rows =
     -- U+200B may stand in a name, U+00A0 not
     ∷ is-yes (isName (scheme ++ (97 ∷ 0xE2 ∷ 0x80 ∷ 0x8B ∷ [])))
     ∷ is-no (isName (scheme ++ (97 ∷ 0xC2 ∷ 0xA0 ∷ [])))
+    -- after (3, 10): (3, 11) follows, (2, 11) and (4, 10) don't
+    ∷ is-yes (follows (cut 3 11) (cut 3 10) false)
+    ∷ is-no (follows (cut 2 11) (cut 3 10) false)
+    ∷ is-no (follows (cut 4 10) (cut 3 10) false)
+    -- counts 1 and 9 pass, 0 and 2 do not; 10 as a value is 30
+    ∷ is-number (numberOf (validate (tableOf 1))) 0
+    ∷ is-number (numberOf (validate (tableOf 9))) 0
+    ∷ is-number (numberOf (validate (tableOf 0))) 6
+    ∷ is-number (numberOf (validate (tableOf 2))) 6
+    ∷ is-number (numberOf (validate (tableOf 10))) 30
     ∷ []
 
 -- ---- the same as a test, which is computed
@@ -75,5 +131,5 @@ every (r ∷ rs) h = let p = both (holds r) (all rs) h in (row r (p .0), every r
 -- ---- the theorem
 
 pub cases : Every rows
-unfolding validateVoterIncarnation validateVoterSlotIdentity newVoterSlotIdentity nodeId fromNodeId isIn startsWith isName fits widthIn decoded charsFrom allChars
+unfolding validateVoterIncarnation validateVoterSlotIdentity newVoterSlotIdentity nodeId fromNodeId isIn startsWith isName fits widthIn decoded charsFrom allChars eqList sameTests sameVoterSlotIdentity sameSpiffeId sameSnapshotId sameVoterSlotLogId sameOptionalLogId sameVoterSlotMember sameVoterReplacementResult sameVoterSlotRecord sameVoterSnapshotEvidence sameVoterConfiguration sameLostVoterAttestationV1 sameVoterReplacementEvidence sameVoterReplacementRecord blankVoterSlotIdentity blankSpiffeId blankSnapshotId blankVoterSlotLogId blankOptionalLogId blankVoterSlotMember blankVoterReplacementResult blankVoterSlotRecord blankVoterSnapshotEvidence blankVoterConfiguration blankLostVoterAttestationV1 blankVoterReplacementEvidence blankVoterReplacementRecord allBelow representableMember representableResult representableSlotRecord representable follows validResult validSlot validSlots validity validate
 cases = every rows tt

@@ -1,16 +1,15 @@
 // Answers questions about single calls, from standard input to standard output, one line for each.
 // oracle/FORMAT.md has the format; `oracle cases` answers the same questions by the original.
 mod line;
-mod number;
 mod question;
 mod reply;
 
 ghost use Prim.Native.Nat.{_≤_};
 use line::Line;
-use number::be32;
 use question::Question;
 use question::put_mark;
 use question::question_of;
+use raw::number::be32;
 use reply::Reply;
 use reply::put_reply;
 use reply::reply_to;

@@ -14,6 +14,8 @@ pub enum Question {
     Epoch,
     NodeId,
     Identity,
+    Validity,
+    Successor,
     Unknown,
 }
 
@@ -27,6 +29,7 @@ pub fn question_of(first: u8, second: u8) -> Question {
         b'W' => when(second == b'S', Question::Whitespace),
         b'I' => named_i(second),
         b'E' => when(second == b'P', Question::Epoch),
+        b'V' => when(second == b'T', Question::Validity),
         _ => Question::Unknown,
     }
 }
@@ -49,6 +52,7 @@ fn named_s(second: u8) -> Question {
         b'I' => Question::SnapshotId,
         b'N' => Question::StrictName,
         b'L' => Question::Slot,
+        b'C' => Question::Successor,
         _ => Question::Unknown,
     }
 }
@@ -76,6 +80,8 @@ pub fn put_mark(line: Line, question: Question) -> Line {
         Question::Epoch => line.text(b"EP"),
         Question::NodeId => line.text(b"ND"),
         Question::Identity => line.text(b"ID"),
+        Question::Validity => line.text(b"VT"),
+        Question::Successor => line.text(b"SC"),
         Question::Unknown => line.text(b"??"),
     }
 }

@@ -1,13 +1,18 @@
 // The reply to each question, and how it is printed.
 use crate::line::Line;
-use crate::number::be16;
-use crate::number::be32;
-use crate::number::be64;
 use crate::question::Question;
 use identity::answer::Answer;
 use identity::identity::NumberResult;
 use identity::identity::VoterSlotIdentity;
 use identity::identity::VoterSlotIdentityResult;
+use raw::number::be16;
+use raw::number::be32;
+use raw::number::be64;
+use raw::table::flags_are_bools;
+use raw::table::lay_pieces;
+use raw::table::table_of;
+use records::successor::validate_successor_of;
+use records::validation::validate_table;
 
 pub enum Reply {
     YesNo(bool),
@@ -25,8 +30,41 @@ pub fn reply_to(question: Question, body: &[u8]) -> Reply {
         Question::Name => Reply::YesNo(identity::text::is_name(body)),
         Question::SnapshotId => Reply::YesNo(identity::text::is_snapshot_id(body)),
         Question::StrictName => Reply::YesNo(identity::text::is_strict_name(body)),
+        Question::Validity => validity(body),
+        Question::Successor => successor(body),
         _ => reply_to_numbers(question, body),
     }
+}
+
+// The answer of the test for validity. The body is one raw table.
+fn validity(body: &[u8]) -> Reply {
+    let mut raw = [0u8; 8062];
+    let place = lay_pieces(&mut raw, body, 0);
+    if !(place.whole & (place.at == body.len())) {
+        return Reply::Malformed;
+    }
+    if !flags_are_bools(&raw) {
+        return Reply::Malformed;
+    }
+    Reply::Number(number(validate_table(table_of(&raw))))
+}
+
+// The answer of the successor check. The body is the new raw table and the old one.
+fn successor(body: &[u8]) -> Reply {
+    let mut new = [0u8; 8062];
+    let mut old = [0u8; 8062];
+    let first = lay_pieces(&mut new, body, 0);
+    if !first.whole {
+        return Reply::Malformed;
+    }
+    let second = lay_pieces(&mut old, body, first.at);
+    if !(second.whole & (second.at == body.len())) {
+        return Reply::Malformed;
+    }
+    if !(flags_are_bools(&new) & flags_are_bools(&old)) {
+        return Reply::Malformed;
+    }
+    Reply::Number(number(validate_successor_of(table_of(&new), table_of(&old))))
 }
 
 // The size that the body of a question about numbers has.

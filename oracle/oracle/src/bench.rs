@@ -29,6 +29,9 @@ struct Task {
 }
 
 enum Work {
+    Validity,
+    /// The check of the task's table against this older one.
+    Successor(Box<VoterSlotTable>),
     Decode,
     Encode,
     Command(Box<Body>),
@@ -39,14 +42,19 @@ enum Work {
 trait Subject {
     fn name(&self) -> &'static str;
 
-    /// Nanoseconds of one batch: fresh inputs are made first, and only the calls are timed.
-    fn batch(&self, task: &Task) -> u128;
+    /// Nanoseconds of one batch: fresh inputs are made first, and only the calls are timed. None
+    /// where the subject has no such call.
+    fn batch(&self, task: &Task) -> Option<u128>;
 }
 
-/// The columns of the report. The port's library becomes the second one; its ratio to the first
-/// is printed then.
+/// The columns of the report. The port's library is the second one, where the program was built
+/// with the feature `port`; its ratio to the first is printed then.
 fn subjects() -> Vec<Box<dyn Subject>> {
-    vec![Box::new(Original)]
+    vec![
+        Box::new(Original),
+        #[cfg(feature = "port")]
+        Box::new(port::Port),
+    ]
 }
 
 /// Hands over a line for each task as soon as it is measured.
@@ -69,9 +77,10 @@ fn measured(subjects: &[Box<dyn Subject>], task: &Task) -> String {
     let mut times: Vec<Vec<u128>> = vec![Vec::new(); subjects.len()];
     for _ in 0..BATCHES {
         for (subject, times) in subjects.iter().zip(&mut times) {
-            times.push(subject.batch(task));
+            times.extend(subject.batch(task));
         }
     }
+    times.retain(|times| !times.is_empty());
     let medians: Vec<f64> = times
         .iter_mut()
         .map(|times| median(times) / CALLS as f64)
@@ -107,10 +116,18 @@ fn tasks(count: u16) -> Vec<Task> {
         ("idle", idle(count)),
         ("open, CaughtUp", open(count, CaughtUp)),
     ] {
+        add("validity", state, table.clone(), Work::Validity);
         add("decode", state, table.clone(), Work::Decode);
         add("encode", state, table.clone(), Work::Encode);
         add("retired test", state, table, Work::Retired(node));
     }
+    let older = Box::new(open(count, LearnerAdded));
+    add(
+        "successor check",
+        "open, CaughtUp",
+        open(count, CaughtUp),
+        Work::Successor(older),
+    );
     for (name, state, table, body) in commands(count) {
         add(name, &state, table, Work::Command(Box::new(body)));
     }
@@ -196,8 +213,12 @@ impl Subject for Original {
         "original"
     }
 
-    fn batch(&self, task: &Task) -> u128 {
-        match &task.work {
+    fn batch(&self, task: &Task) -> Option<u128> {
+        let time = match &task.work {
+            Work::Validity => timed(|| black_box(&task.table).check_validity()),
+            Work::Successor(older) => {
+                timed(|| black_box(&task.table).validate_successor_of(black_box(older)))
+            }
             Work::Decode => {
                 let bytes = encode_voter_slot_table(&task.table).expect("a valid table");
                 timed(|| decode_voter_slot_table(black_box(&bytes)))
@@ -214,7 +235,69 @@ impl Subject for Original {
                 let tables = vec![task.table.clone(); CALLS];
                 commanded(&call, tables)
             }
+        };
+        Some(time)
+    }
+}
+
+/// The port, through its static library.
+#[cfg(feature = "port")]
+mod port {
+    use std::time::Instant;
+
+    use super::{Subject, Task, Work, CALLS};
+    use crate::raw;
+
+    extern "C" {
+        fn bench_validity(raw: *const u8, len: usize, turns: u64) -> u64;
+        fn bench_successor(
+            new: *const u8,
+            new_len: usize,
+            old: *const u8,
+            old_len: usize,
+            turns: u64,
+        ) -> u64;
+    }
+
+    pub struct Port;
+
+    impl Subject for Port {
+        fn name(&self) -> &'static str {
+            "port"
         }
+
+        /// A table goes over in its raw form once for each batch; each call gets a copy of the value.
+        fn batch(&self, task: &Task) -> Option<u128> {
+            let turns = CALLS as u64;
+            let table = raw::of_table(&task.table).bytes;
+            match &task.work {
+                Work::Validity => Some(timed(|| unsafe {
+                    bench_validity(table.as_ptr(), table.len(), turns)
+                })),
+                Work::Successor(older) => {
+                    let older = raw::of_table(older).bytes;
+                    Some(timed(|| unsafe {
+                        bench_successor(
+                            table.as_ptr(),
+                            table.len(),
+                            older.as_ptr(),
+                            older.len(),
+                            turns,
+                        )
+                    }))
+                }
+                _ => None,
+            }
+        }
+    }
+
+    /// One batch. The port gives the sum of the answers' numbers, 0 where all were accepted.
+    fn timed(calls: impl Fn() -> u64) -> u128 {
+        let start = Instant::now();
+        let refused = calls();
+        let time = start.elapsed().as_nanos();
+        assert_eq!(refused, 0, "the port refused what the original accepts");
+        time
     }
 }
 

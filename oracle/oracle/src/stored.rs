@@ -6,8 +6,9 @@ use std::path::Path;
 use crate::{cases, fixed, generate, replay};
 
 /// Files of questions: name, seed, count, kind.
-const QUESTIONS: [(&str, u64, usize, &str); 4] = [
+const QUESTIONS: [(&str, u64, usize, &str); 5] = [
     ("text", 1, 4000, "text"),
+    ("validity", 5, 600, "validity"),
     ("bytes", 2, 500, "bytes"),
     ("values", 3, 500, "values"),
     ("calls", 4, 700, "calls"),

@@ -22,10 +22,14 @@ use questions::Source;
 use random::Random;
 
 /// The kinds of input, as the command names them, and what they hold.
-pub const KINDS: [(&str, &str); 6] = [
+pub const KINDS: [(&str, &str); 7] = [
     (
         "text",
         "questions of layer one: U8 NM SI SN CC WS SL IN NX EP ND ID",
+    ),
+    (
+        "validity",
+        "validity and the successor check of raw tables: VT SC",
     ),
     ("bytes", "reading table and attestation bytes: TR AR"),
     (
@@ -42,6 +46,7 @@ pub fn generate(seed: u64, count: usize, kind: &str) -> Option<Vec<u8>> {
     let mut random = Random::for_kind(seed, kind);
     match kind {
         "text" => Some(text_questions(&mut random, count)),
+        "validity" => Some(table_questions(&mut random, count, &[*b"VT", *b"SC"])),
         "bytes" => Some(table_questions(&mut random, count, &HIGHER_MARKS[..2])),
         "values" => Some(table_questions(&mut random, count, &HIGHER_MARKS[2..6])),
         "calls" => Some(table_questions(&mut random, count, &HIGHER_MARKS[6..])),

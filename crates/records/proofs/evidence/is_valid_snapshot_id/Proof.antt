@@ -1,0 +1,48 @@
+-- `records::evidence::is_valid_snapshot_id` meets its contract: beyond the array the text is all of its 256 bytes, and else the front that is lent. Assumes nothing.
+use mathlib.Core.Path.{sym, ap, _∙_, _≡_}
+use Prim.Native.Nat.{_≤_}
+use native.Mathlib.Omega.{arith}
+use lib.Seq.{take-all}
+use lib.ListN.{length, take, length-take}
+use borrow.Author.Needs.{needs}
+use Rattle.identity.specs.Text.{isSnapshotId}
+use Rattle.records.proofs.evidence.is_valid_snapshot_id.Statement.{statement}
+use Rattle.records.proofs.evidence.is_valid_snapshot_id.Tie as tie
+
+-- the array has 256 bytes
+len256 : (c : tie.Start) → length (c .args .t1 .bytes) ≡ 256
+len256 c = search needs
+
+is-snapshot-id-requires : tie.Need-is-snapshot-id-requires
+is-snapshot-id-requires c κs = search needs
+
+returns : tie.Need-returns
+returns c =
+    let s = c .before .before .before .before .before in
+    let h = len256 s in
+    c .is-snapshot-id .ensures ∙ ap isSnapshotId (sym (take-all (s .args .t1 .len) (s .args .t1 .bytes) (omega arith)))
+
+slice-aggregate-is-snapshot-id : tie.Need-slice-aggregate-is-snapshot-id
+slice-aggregate-is-snapshot-id c =
+    let t = c .before .before .before .before in
+    let id = t .before .args .t1 in
+    let h = len256 (t .before) in
+    let l : id .len ≤ 256 = t .if1 .left in
+    let k : id .len ≡ length (take (id .len) (id .bytes)) = simp length-take (omega arith) in
+    k
+
+is-snapshot-id-requires-2 : tie.Need-is-snapshot-id-requires-2
+is-snapshot-id-requires-2 c κs = search needs
+
+returns-2 : tie.Need-returns-2
+returns-2 c = search needs
+
+pub is-valid-snapshot-id-spec : {M : Type 1} → statement M
+is-valid-snapshot-id-spec =
+    tie.close
+    (tie.spec
+    is-snapshot-id-requires
+    returns
+    slice-aggregate-is-snapshot-id
+    is-snapshot-id-requires-2
+    returns-2)

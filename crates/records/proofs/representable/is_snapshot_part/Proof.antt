@@ -1,0 +1,29 @@
+-- `records::representable::is_snapshot_part` meets its contract: absent, the snapshot is blank. Assumes nothing.
+use borrow.Author.Needs.{needs}
+use Rattle.records.proofs.representable.is_snapshot_part.Statement.{statement}
+use Rattle.records.proofs.representable.is_snapshot_part.Tie as tie
+
+is-representable-snapshot-id-requires : tie.Need-is-representable-snapshot-id-requires
+is-representable-snapshot-id-requires c κs = search needs
+
+returns : tie.Need-returns
+returns c = rw (c .before .before .if1 .taken) (c .is-representable-snapshot-id .ensures)
+
+blank-voter-snapshot-evidence-requires : tie.Need-blank-voter-snapshot-evidence-requires
+blank-voter-snapshot-evidence-requires c κs = search needs
+
+same-voter-snapshot-evidence-requires : tie.Need-same-voter-snapshot-evidence-requires
+same-voter-snapshot-evidence-requires c κs = search needs
+
+returns-2 : tie.Need-returns-2
+returns-2 c = rw (c .before .before .if1 .left, ← c .before .blank-voter-snapshot-evidence .ensures) (c .same-voter-snapshot-evidence .ensures)
+
+pub is-snapshot-part-spec : {M : Type 1} → statement M
+is-snapshot-part-spec =
+    tie.close
+    (tie.spec
+    is-representable-snapshot-id-requires
+    returns
+    blank-voter-snapshot-evidence-requires
+    same-voter-snapshot-evidence-requires
+    returns-2)

@@ -1,0 +1,68 @@
+-- `records::successor::slot_index` meets its contract: what is left to find is the first of the places not passed. Assumes nothing.
+use Prim.Native.Nat.{ℕ, _≤_, _-_}
+use mathlib.Core.Path.{_≡_, sym, ap, _∙_}
+use mathlib.Core.Bool.{Bool}
+use native.Mathlib.Nat.{sub-zero}
+use native.Mathlib.Omega.{arith}
+use lib.Dec.{eqb}
+use borrow.Author.Tests.{eq-eqb, ne-eqb}
+use Rattle.records.specs.Records.{firstFrom, slotAt}
+use Rattle.records.specs.RecordsLaws.{first-more, first-stop, first-none}
+use Rattle.records.specs.declared.records.VoterSlotTable.{VoterSlotTable}
+use Rattle.records.proofs.successor.slot_index.Statement.{statement}
+use Rattle.records.proofs.successor.slot_index.Tie as tie
+
+-- the slot at a place has that number
+abbrev bears : VoterSlotTable → ℕ → ℕ → Bool
+bears t slot i = eqb (slotAt t i .member .identity .slot) slot
+
+abbrev Inv-loop : tie.InvT-loop
+Inv-loop slot table count i₀ i = ((i ≤ count) × (count ≤ 9)) × (firstFrom (bears table slot) count 0 ≡ firstFrom (bears table slot) (count - i) i)
+
+abbrev μ-loop : tie.MeasureT-loop
+μ-loop slot table count i₀ i = count - i
+
+loop-holds : tie.Need-loop-holds Inv-loop μ-loop
+loop-holds c = ((omega arith, c .pre), ap (λ (n : ℕ). firstFrom (bears (c .args .t1) (c .args .slot)) n 0) (sym (sub-zero (c .args .t1 .count))))
+
+mul-if1 : tie.Need-mul-if1 Inv-loop μ-loop
+mul-if1 c = omega arith
+
+element-copy-out-if1 : tie.Need-element-copy-out-if1 Inv-loop μ-loop
+element-copy-out-if1 c = omega arith
+
+returns : tie.Need-returns Inv-loop μ-loop
+returns c =
+    let l = c .before .before in
+    sym (l .loop .inv .1 ∙ first-stop (bears (l .before .args .t1) (l .before .args .slot)) (l .before .args .t1 .count) (l .loop .i) (omega arith) (eq-eqb _ _ (c .if1 .taken)))
+
+add-i : tie.Need-add-i Inv-loop μ-loop
+add-i c = omega arith
+
+loop-less : tie.Need-loop-less Inv-loop μ-loop
+loop-less c = omega arith
+
+loop-again : tie.Need-loop-again Inv-loop μ-loop
+loop-again c =
+    let l = c .before .before in
+    ((omega arith, omega arith), l .loop .inv .1 ∙ first-more (bears (l .before .args .t1) (l .before .args .slot)) (l .before .args .t1 .count) (l .loop .i) (omega arith) (ne-eqb _ _ (c .if1 .left)))
+
+returns-2 : tie.Need-returns-2 Inv-loop μ-loop
+returns-2 c =
+    let l = c .before in
+    sym (l .loop .inv .1 ∙ first-none (bears (l .before .args .t1) (l .before .args .slot)) (l .before .args .t1 .count) (l .loop .i) (omega arith))
+
+pub slot-index-spec : {M : Type 1} → statement M
+slot-index-spec =
+    tie.close
+    (tie.spec
+    Inv-loop
+    μ-loop
+    loop-holds
+    mul-if1
+    element-copy-out-if1
+    returns
+    add-i
+    loop-less
+    loop-again
+    returns-2)

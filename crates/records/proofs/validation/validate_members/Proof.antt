@@ -1,0 +1,92 @@
+-- `records::validation::validate_members` meets its contract: every slot passed is accepted, and the first that is refused gives the answer. Assumes nothing.
+use mathlib.Core.Path.{_≡_, refl, sym, _∙_}
+use Prim.Native.Nat.{_≤_, _-_}
+use native.Mathlib.Omega.{arith}
+use borrow.Author.Needs.{needs}
+use Rattle.identity.specs.AnswerLaws.{refused, passed}
+use Rattle.identity.specs.declared.answer.Answer.the-variants.{Accepted}
+use Rattle.records.specs.Validation.{validateMembers}
+use Rattle.records.specs.ValidationLaws.{members-accepted, members-refused}
+use Rattle.records.proofs.validation.validate_members.Statement.{statement}
+use Rattle.records.proofs.validation.validate_members.Tie as tie
+
+abbrev Inv-loop : tie.InvT-loop
+Inv-loop table operation predecessor successor count i₀ i = (i ≤ table .count) × (validateMembers table i ≡ Accepted)
+
+abbrev μ-loop : tie.MeasureT-loop
+μ-loop table operation predecessor successor count i₀ i = table .count - i
+
+loop-holds : tie.Need-loop-holds Inv-loop μ-loop
+unfolding validateMembers
+loop-holds c = (omega arith, refl)
+
+mul-slot : tie.Need-mul-slot Inv-loop μ-loop
+mul-slot c = omega arith
+
+element-copy-out-slot : tie.Need-element-copy-out-slot Inv-loop μ-loop
+element-copy-out-slot c = omega arith
+
+mul-old : tie.Need-mul-old Inv-loop μ-loop
+mul-old c = omega arith
+
+element-copy-out-old : tie.Need-element-copy-out-old Inv-loop μ-loop
+element-copy-out-old c = omega arith
+
+mul-new : tie.Need-mul-new Inv-loop μ-loop
+mul-new c = omega arith
+
+element-copy-out-new : tie.Need-element-copy-out-new Inv-loop μ-loop
+element-copy-out-new c = omega arith
+
+validate-member-requires : tie.Need-validate-member-requires Inv-loop μ-loop
+validate-member-requires c κs = search needs
+
+accepted-requires : tie.Need-accepted-requires Inv-loop μ-loop
+accepted-requires c κs = search needs
+
+returns : tie.Need-returns Inv-loop μ-loop
+returns c =
+    let l = c .before .before .before .before .before .before .before in
+    let t = l .before .before .before .before .args .t1 in
+    let v = c .before .before .validate-member .ensures in
+    v ∙ sym (members-refused t (l .loop .i) (t .count) (omega arith) (l .loop .inv .1) (refused _ _ _ v (c .before .accepted .ensures) (c .if1 .taken)))
+
+add-i : tie.Need-add-i Inv-loop μ-loop
+add-i c = omega arith
+
+loop-less : tie.Need-loop-less Inv-loop μ-loop
+loop-less c = omega arith
+
+loop-again : tie.Need-loop-again Inv-loop μ-loop
+loop-again c =
+    let l = c .before .before .before .before .before .before .before in
+    let t = l .before .before .before .before .args .t1 in
+    let v = c .before .before .validate-member .ensures in
+    (omega arith, members-accepted t (l .loop .i) (l .loop .inv .1) (passed _ _ _ v (c .before .accepted .ensures) (c .if1 .left)))
+
+returns-2 : tie.Need-returns-2 Inv-loop μ-loop
+returns-2 c =
+    let l = c .before in
+    let e : l .loop .i ≡ l .before .before .before .before .args .t1 .count = omega arith in
+    sym (rw e at (l .loop .inv .1))
+
+pub validate-members-spec : {M : Type 1} → statement M
+validate-members-spec =
+    tie.close
+    (tie.spec
+    Inv-loop
+    μ-loop
+    loop-holds
+    mul-slot
+    element-copy-out-slot
+    mul-old
+    element-copy-out-old
+    mul-new
+    element-copy-out-new
+    validate-member-requires
+    accepted-requires
+    returns
+    add-i
+    loop-less
+    loop-again
+    returns-2)

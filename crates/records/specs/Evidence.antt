@@ -1,0 +1,103 @@
+-- Cuts and the evidence of a replacement: `VoterSlotLogId` and `VoterReplacementEvidence` of validation.rs (`validate`, `follows`, `retains`, `latest`).
+-- Document 01, section "Validity": a cut is a log position, and the evidence runs from prepare to uniform.
+-- Assumes nothing.
+use Prim.Native.Nat.{ℕ}
+use mathlib.Core.Bool.{Bool, true, false, cond, not, Bool·beq, _&&_, _||_}
+use lib.ListN.{take}
+use lib.Dec.{eqb, leb, ltb}
+use Rattle.identity.specs.Text.{isSnapshotId}
+use Rattle.records.specs.Equality.{sameVoterSlotLogId, sameVoterSnapshotEvidence}
+use Rattle.records.specs.Records.{snapshotInstalled, learnerAdded, caughtUp, fenced, joint, uniform}
+use Rattle.records.specs.declared.records.OptionalLogId.{OptionalLogId}
+use Rattle.records.specs.declared.records.VoterSlotLogId.{VoterSlotLogId}
+use Rattle.records.specs.declared.records.VoterReplacementEvidence.{VoterReplacementEvidence}
+
+-- `VoterSlotLogId::validate`
+abbrev pub validLogId : VoterSlotLogId → Bool
+validLogId cut = ltb 0 (cut .term) && ltb 0 (cut .index)
+
+-- `VoterSlotLogId::follows`: "Cut B follows A if its index is greater and its term not smaller."
+unfoldable pub follows : VoterSlotLogId → VoterSlotLogId → Bool → Bool
+follows cut older allowEqual =
+    cond (eqb (cut .index) (older .index)) (allowEqual && sameVoterSlotLogId cut older)
+    (ltb (older .index) (cut .index) && leb (older .term) (cut .term))
+
+-- One stage of the evidence: "each following the last and present exactly from its phase on"
+unfoldable pub validStage : OptionalLogId → Bool → VoterSlotLogId → Bool → Bool
+validStage stage due previous allowEqual =
+    Bool·beq (stage .«is_some») due && (not (stage .«is_some») || (validLogId (stage .cut) && follows (stage .cut) previous allowEqual))
+
+-- The cut that the next stage follows.
+unfoldable pub stageOr : OptionalLogId → VoterSlotLogId → VoterSlotLogId
+stageOr stage previous = cond (stage .«is_some») (stage .cut) previous
+
+abbrev pub snapshotCut : VoterReplacementEvidence → OptionalLogId
+snapshotCut e = record { «is_some» = e .«has_snapshot»; cut = e .snapshot .cut }
+
+-- "Evidence runs prepare, snapshot, learner, caught up, fence, joint, uniform ..; only a snapshot cut may equal prepare."
+unfoldable pub validStages : VoterReplacementEvidence → ℕ → Bool
+validStages e phase =
+    let first = stageOr (snapshotCut e) (e .prepare) in
+    let second = stageOr (e .learner) first in
+    let third = stageOr (e .«caught_up») second in
+    let fourth = stageOr (e .fence) third in
+    let fifth = stageOr (e .joint) fourth in
+    validStage (snapshotCut e) (leb snapshotInstalled phase) (e .prepare) true
+    && (validStage (e .learner) (leb learnerAdded phase) first false
+    && (validStage (e .«caught_up») (leb caughtUp phase) second false
+    && (validStage (e .fence) (leb fenced phase) third false
+    && (validStage (e .joint) (leb joint phase) fourth false && validStage (e .uniform) (leb uniform phase) fifth false))))
+
+-- The continuation beside one other cut, whichever of the two is later.
+unfoldable pub validBeside : VoterSlotLogId → OptionalLogId → Bool → Bool
+validBeside continuation other isSnapshot =
+    not (other .«is_some»)
+    || cond (leb (other .cut .index) (continuation .index)) (follows continuation (other .cut) isSnapshot) (follows (other .cut) continuation false)
+
+unfoldable pub validContinuation : VoterReplacementEvidence → Bool
+validContinuation e =
+    let c = e .continuation .cut in
+    not (e .continuation .«is_some»)
+    || (validLogId c
+    && (follows c (e .prepare) false
+    && ((not (e .fence .«is_some») || follows (e .fence .cut) c false)
+    && (validBeside c (snapshotCut e) true && (validBeside c (e .learner) false && validBeside c (e .«caught_up») false)))))
+
+-- `VoterReplacementEvidence::validate`
+unfoldable pub validEvidence : VoterReplacementEvidence → ℕ → Bool
+validEvidence e phase =
+    validLogId (e .prepare)
+    && ((not (e .«has_snapshot») || isSnapshotId (take (e .snapshot .«snapshot_id» .len) (e .snapshot .«snapshot_id» .bytes)))
+    && (validStages e phase && validContinuation e))
+
+-- A cut that was there is still there.
+unfoldable pub retainsCut : OptionalLogId → OptionalLogId → Bool
+retainsCut new old = not (old .«is_some») || (new .«is_some» && sameVoterSlotLogId (new .cut) (old .cut))
+
+-- The caught-up mark is kept or, before the fence, moved on.
+unfoldable pub retainsMarker : OptionalLogId → OptionalLogId → ℕ → Bool
+retainsMarker new old oldPhase =
+    not (old .«is_some»)
+    || (new .«is_some» && (sameVoterSlotLogId (new .cut) (old .cut) || (ltb oldPhase fenced && follows (new .cut) (old .cut) false)))
+
+unfoldable pub retainsCuts : VoterReplacementEvidence → VoterReplacementEvidence → Bool
+retainsCuts new old =
+    retainsCut (new .learner) (old .learner)
+    && (retainsCut (new .continuation) (old .continuation)
+    && (retainsCut (new .fence) (old .fence) && (retainsCut (new .joint) (old .joint) && retainsCut (new .uniform) (old .uniform))))
+
+-- `VoterReplacementEvidence::retains`
+unfoldable pub retains : VoterReplacementEvidence → VoterReplacementEvidence → ℕ → Bool
+retains new old oldPhase =
+    sameVoterSlotLogId (new .prepare) (old .prepare)
+    && ((not (old .«has_snapshot») || (new .«has_snapshot» && sameVoterSnapshotEvidence (new .snapshot) (old .snapshot)))
+    && (retainsMarker (new .«caught_up») (old .«caught_up») oldPhase && retainsCuts new old))
+
+-- `VoterReplacementEvidence::latest`: of two cuts of one index the earlier in the order of the evidence
+unfoldable pub laterOf : VoterSlotLogId → OptionalLogId → VoterSlotLogId
+laterOf latest stage = cond (stage .«is_some» && ltb (latest .index) (stage .cut .index)) (stage .cut) latest
+
+unfoldable pub latest : VoterReplacementEvidence → VoterSlotLogId
+latest e =
+    laterOf (laterOf (laterOf (laterOf (laterOf (laterOf (laterOf (e .prepare) (snapshotCut e)) (e .learner)) (e .«caught_up»)) (e .continuation)) (e .fence)) (e .joint))
+    (e .uniform)

@@ -1,0 +1,14 @@
+pub mod Blank
+pub mod Equality
+pub mod EqualityLaws
+pub mod Evidence
+pub mod EvidenceLaws
+pub mod Held
+pub mod Records
+pub mod RecordsLaws
+pub mod Representable
+pub mod RepresentableLaws
+pub mod Successor
+pub mod SuccessorLaws
+pub mod Validation
+pub mod ValidationLaws

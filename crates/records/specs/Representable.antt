@@ -1,0 +1,102 @@
+-- The values that the Rust types can hold: what else is handed to a call gets 30 (document 01, "Refusals from the input").
+-- "one that the Rust types cannot hold, count above 9, text length above its field, nonzero filler behind a count or in an absent part"
+-- Assumes nothing.
+use Prim.Native.Nat.{ℕ}
+use mathlib.Core.Bool.{Bool, true, cond, _&&_}
+use mathlib.Core.List.{List}
+use lib.ListN.{take, drop}
+use lib.Dec.{eqb, leb}
+use Rattle.identity.specs.Identity.{isSlotId, isVoterIncarnation, isConfigurationEpoch}
+use Rattle.identity.specs.Text.{all, isUtf8, maxSpiffeIdBytes, maxSnapshotIdBytes}
+use Rattle.records.specs.Blank.{blankVoterSlotLogId, blankVoterSlotMember, blankVoterReplacementResult, blankVoterSlotRecord, blankVoterSnapshotEvidence, blankVoterReplacementRecord}
+use Rattle.records.specs.Equality.{sameVoterSlotLogId, sameVoterSlotMember, sameVoterReplacementResult, sameVoterSlotRecord, sameVoterSnapshotEvidence, sameVoterReplacementRecord}
+use Rattle.records.specs.Records.{maxFixedVoterSlots, voting, uniform, superseded, storageLost, timeBoundLoss, allBelow, slotAt, memberAt}
+use Rattle.records.specs.declared.records.SpiffeId.{SpiffeId}
+use Rattle.records.specs.declared.records.SnapshotId.{SnapshotId}
+use Rattle.records.specs.declared.records.OptionalLogId.{OptionalLogId}
+use Rattle.records.specs.declared.records.VoterSlotMember.{VoterSlotMember}
+use Rattle.records.specs.declared.records.VoterReplacementResult.{VoterReplacementResult}
+use Rattle.records.specs.declared.records.VoterSlotRecord.{VoterSlotRecord}
+use Rattle.records.specs.declared.records.VoterConfiguration.{VoterConfiguration}
+use Rattle.records.specs.declared.records.LostVoterAttestationV1.{LostVoterAttestationV1}
+use Rattle.records.specs.declared.records.VoterReplacementEvidence.{VoterReplacementEvidence}
+use Rattle.records.specs.declared.records.VoterReplacementRecord.{VoterReplacementRecord}
+use Rattle.records.specs.declared.records.VoterSlotTable.{VoterSlotTable}
+
+-- "2,048 or 256 bytes and a length, zero behind it"; a Rust String is UTF-8
+abbrev pub isZero : ℕ → Bool
+isZero b = eqb b 0
+
+unfoldable pub isText : ℕ → ℕ → List ℕ → Bool
+isText most len bytes = leb len most && (isUtf8 (take len bytes) && all isZero (drop len bytes))
+
+abbrev pub representableSpiffeId : SpiffeId → Bool
+representableSpiffeId s = isText maxSpiffeIdBytes (s .len) (s .bytes)
+
+abbrev pub representableSnapshotId : SnapshotId → Bool
+representableSnapshotId s = isText maxSnapshotIdBytes (s .len) (s .bytes)
+
+-- "a yes or no beside the record": absent, it is blank
+unfoldable pub representableOptionalLogId : OptionalLogId → Bool
+representableOptionalLogId o = cond (o .«is_some») true (sameVoterSlotLogId (o .cut) blankVoterSlotLogId)
+
+unfoldable pub representableMember : VoterSlotMember → Bool
+representableMember m = isSlotId (m .identity .slot) && isVoterIncarnation (m .identity .incarnation)
+
+unfoldable pub representableResult : VoterReplacementResult → Bool
+representableResult r =
+    isVoterIncarnation (r .incarnation) && (isConfigurationEpoch (r .«configuration_epoch») && leb (r .kind) superseded)
+
+unfoldable pub representableSlotRecord : VoterSlotRecord → Bool
+representableSlotRecord s =
+    representableMember (s .member)
+    && (leb (s .phase) voting
+    && cond (s .«has_last_result») (representableResult (s .«last_result»)) (sameVoterReplacementResult (s .«last_result») blankVoterReplacementResult))
+
+-- "nine places always, the first so many in use": one behind the count is blank
+abbrev pub memberPlace : Bool → VoterSlotMember → Bool
+memberPlace behind m = cond behind (sameVoterSlotMember m blankVoterSlotMember) (representableMember m)
+
+abbrev pub slotPlace : Bool → VoterSlotRecord → Bool
+slotPlace behind s = cond behind (sameVoterSlotRecord s blankVoterSlotRecord) (representableSlotRecord s)
+
+unfoldable pub representableConfiguration : VoterConfiguration → Bool
+representableConfiguration c =
+    isConfigurationEpoch (c .epoch)
+    && (leb (c .count) maxFixedVoterSlots
+    && allBelow (λ i. memberPlace (leb (c .count) i) (memberAt c i)) maxFixedVoterSlots)
+
+unfoldable pub representableAttestation : LostVoterAttestationV1 → Bool
+representableAttestation a =
+    isSlotId (a .slot)
+    && (isVoterIncarnation (a .«expected_incarnation»)
+    && (representableSpiffeId (a .«candidate_spiffe_id»)
+    && (representableSpiffeId (a .«controller_spiffe_id»)
+    && (leb storageLost (a .reason) && leb (a .reason) timeBoundLoss))))
+
+abbrev pub snapshotPart : VoterReplacementEvidence → Bool
+snapshotPart e = cond (e .«has_snapshot») (representableSnapshotId (e .snapshot .«snapshot_id»)) (sameVoterSnapshotEvidence (e .snapshot) blankVoterSnapshotEvidence)
+
+unfoldable pub representableEvidence : VoterReplacementEvidence → Bool
+representableEvidence e =
+    snapshotPart e
+    && (representableOptionalLogId (e .learner)
+    && (representableOptionalLogId (e .«caught_up»)
+    && (representableOptionalLogId (e .continuation)
+    && (representableOptionalLogId (e .fence)
+    && (representableOptionalLogId (e .joint)
+    && representableOptionalLogId (e .uniform))))))
+
+unfoldable pub representableReplacement : VoterReplacementRecord → Bool
+representableReplacement r =
+    representableAttestation (r .attestation)
+    && (representableConfiguration (r .predecessor)
+    && (representableConfiguration (r .successor)
+    && (leb (r .phase) uniform && representableEvidence (r .evidence))))
+
+unfoldable pub representable : VoterSlotTable → Bool
+representable t =
+    isConfigurationEpoch (t .«configuration_epoch»)
+    && (leb (t .count) maxFixedVoterSlots
+    && (allBelow (λ i. slotPlace (leb (t .count) i) (slotAt t i)) maxFixedVoterSlots
+    && cond (t .«has_replacement») (representableReplacement (t .replacement)) (sameVoterReplacementRecord (t .replacement) blankVoterReplacementRecord)))

@@ -1,0 +1,188 @@
+-- Validity of a table: document 01, section "Validity", and exactly validation.rs, in its order. Numbers 6 and 3, after 30.
+-- Of a value that the Rust types can hold no text is too long, so that 5 is never given here.
+-- Assumes nothing.
+use Prim.Native.Nat.{ℕ, zero, suc, _+_, _-_, _%_}
+use mathlib.Core.Bool.{Bool, cond, not, _&&_, _||_}
+use mathlib.Core.List.{List}
+use lib.ListN.{take}
+use lib.Dec.{eqb, leb, ltb}
+use Rattle.identity.specs.Answer.{isAccepted}
+use Rattle.identity.specs.Identity.{maxVoterIncarnation}
+use Rattle.identity.specs.Text.{isName}
+use Rattle.identity.specs.declared.answer.Answer.{Answer}
+use Rattle.identity.specs.declared.answer.Answer.the-variants.{Accepted, IncarnationExhausted, InvalidRecord, Unrepresentable}
+use Rattle.records.specs.Equality.{eqBytes, sameVoterSlotLogId, sameVoterSlotMember}
+use Rattle.records.specs.Records.{maxFixedVoterSlots, pending, catchingUp, voting, snapshotInstalled, fenced, uniform, completed, superseded, allBelow, slotAt, memberAt}
+use Rattle.records.specs.Evidence.{validLogId, validEvidence}
+use Rattle.records.specs.Representable.{representable}
+use Rattle.records.specs.declared.records.SpiffeId.{SpiffeId}
+use Rattle.records.specs.declared.records.VoterSlotMember.{VoterSlotMember}
+use Rattle.records.specs.declared.records.VoterSlotRecord.{VoterSlotRecord}
+use Rattle.records.specs.declared.records.VoterConfiguration.{VoterConfiguration}
+use Rattle.records.specs.declared.records.LostVoterAttestationV1.{LostVoterAttestationV1}
+use Rattle.records.specs.declared.records.VoterReplacementRecord.{VoterReplacementRecord}
+use Rattle.records.specs.declared.records.VoterSlotTable.{VoterSlotTable}
+
+-- `require`: what follows, or 6
+abbrev pub requireOf : Bool → Answer → Answer
+requireOf valid next = cond valid next InvalidRecord
+
+-- `validate_count`: "odd count, 1 to 9"
+abbrev pub validCount : ℕ → Bool
+validCount count = ltb 0 count && (leb count maxFixedVoterSlots && eqb (count % 2) 1)
+
+-- `VoterConfiguration::validate`
+unfoldable pub validConfiguration : VoterConfiguration → Bool
+validConfiguration c =
+    validCount (c .count)
+    && (allBelow (λ i. ltb 0 (memberAt c i .«admission_generation»)) (c .count)
+    && allBelow (λ i. ltb (memberAt c i .identity .slot) (memberAt c (i + 1) .identity .slot)) (c .count - 1))
+
+-- `LostVoterAttestationV1::validate`
+abbrev pub textOf : SpiffeId → List ℕ
+textOf s = take (s .len) (s .bytes)
+
+unfoldable pub validAttestation : LostVoterAttestationV1 → Bool
+validAttestation a =
+    isName (textOf (a .«candidate_spiffe_id»))
+    && (isName (textOf (a .«controller_spiffe_id»))
+    && (ltb 0 (a .«admission_generation»)
+    && (leb (a .«observation_start_ms») (a .«decision_ms»)
+    && (leb (a .«decision_ms») (a .«issued_ms») && ltb (a .«issued_ms») (a .«expires_ms»)))))
+
+-- ---- `VoterSlotTable::validate`
+
+-- The open request is about this slot.
+abbrev pub isActive : VoterSlotTable → VoterSlotRecord → Bool
+isActive t s = t .«has_replacement» && eqb (t .replacement .attestation .slot) (s .member .identity .slot)
+
+-- A slot's receipt, in a table of that revision and epoch.
+unfoldable pub validResult : ℕ → ℕ → Bool → VoterSlotRecord → Bool
+validResult revision epoch active s =
+    let r = s .«last_result» in
+    let own = s .member .identity .incarnation in
+    validLogId (r .terminal)
+    && ((ltb 0 (r .revision)
+    && (leb (r .revision) revision
+    && (leb (r .«configuration_epoch») epoch && (ltb 1 (r .incarnation) && leb (r .incarnation) own))))
+    && ((not active || ltb (r .incarnation) own)
+    && (not (eqb (r .incarnation) own) || (eqb (s .phase) voting && eqb (r .kind) completed))))
+
+-- One slot: "retired-through is incarnation − 1"; past its first incarnation it is being replaced or has its completed receipt.
+unfoldable pub validSlot : ℕ → ℕ → Bool → VoterSlotRecord → Bool
+validSlot revision epoch active s =
+    let r = s .«last_result» in
+    let own = s .member .identity .incarnation in
+    (ltb 0 (s .member .«admission_generation») && eqb (s .«retired_through» + 1) own)
+    && (((active || leb own 1) || (s .«has_last_result» && (eqb (r .incarnation) own && eqb (r .kind) completed)))
+    && (not (s .«has_last_result») || validResult revision epoch active s))
+
+-- Two slots have no receipt of one request.
+abbrev pub distinctResults : VoterSlotRecord → VoterSlotRecord → Bool
+distinctResults a b =
+    not (a .«has_last_result» && (b .«has_last_result» && eqBytes (a .«last_result» .«request_id») (b .«last_result» .«request_id»)))
+
+unfoldable pub validSlots : VoterSlotTable → Bool
+validSlots t =
+    validCount (t .count)
+    && (ltb 0 (t .revision)
+    && (allBelow (λ i. ltb (slotAt t i .member .identity .slot) (slotAt t (i + 1) .member .identity .slot)) (t .count - 1)
+    && (allBelow (λ i. validSlot (t .revision) (t .«configuration_epoch») (isActive t (slotAt t i)) (slotAt t i)) (t .count)
+    && allBelow (λ i. allBelow (λ j. distinctResults (slotAt t j) (slotAt t i)) i) (t .count))))
+
+-- ---- `VoterSlotTable::validate_operation`
+
+-- "Slot phase of the slot being replaced: Pending up to SnapshotInstalled, CatchingUp to Fenced, then Voting."
+abbrev pub targetPhase : ℕ → ℕ
+targetPhase phase = cond (leb phase snapshotInstalled) pending (cond (leb phase fenced) catchingUp voting)
+
+-- The open request beside the table's head.
+unfoldable pub validOperationHead : VoterSlotTable → VoterReplacementRecord → Bool
+validOperationHead t op =
+    ltb 0 (op .«expected_revision»)
+    && (ltb (op .«expected_revision») (t .revision)
+    && (eqBytes (op .attestation .«cluster_instance») (t .«cluster_instance»)
+    && (leb 3 (t .count)
+    && (eqb (op .predecessor .count) (t .count)
+    && (eqb (op .successor .count) (t .count) && eqb (op .predecessor .epoch + 1) (op .successor .epoch))))))
+
+unfoldable pub isCurrentEpoch : VoterSlotTable → VoterReplacementRecord → Bool
+isCurrentEpoch t op = eqb (t .«configuration_epoch») (cond (eqb (op .phase) uniform) (op .successor .epoch) (op .predecessor .epoch))
+
+unfoldable pub validOperation : VoterSlotTable → VoterReplacementRecord → Bool
+validOperation t op =
+    validAttestation (op .attestation)
+    && (validConfiguration (op .predecessor)
+    && (validConfiguration (op .successor)
+    && (validEvidence (op .evidence) (op .phase) && (validOperationHead t op && isCurrentEpoch t op))))
+
+-- The receipt that a supersession leaves: of the incarnation that the new request replaces, at its prepare.
+abbrev pub supersededReceipt : VoterSlotRecord → VoterReplacementRecord → Bool
+supersededReceipt s op =
+    s .«has_last_result»
+    && (eqb (s .«last_result» .incarnation) (op .attestation .«expected_incarnation»)
+    && (eqb (s .«last_result» .kind) superseded && sameVoterSlotLogId (s .«last_result» .terminal) (op .evidence .prepare)))
+
+-- The member that is being replaced: the attested one, or, where the attested one was a candidate, the one before it.
+unfoldable pub retiredMember : VoterReplacementRecord → VoterSlotRecord → VoterSlotMember → Bool
+retiredMember op s predecessor =
+    cond (eqb (predecessor .identity .incarnation) (op .attestation .«expected_incarnation»))
+    (eqBytes (predecessor .«descriptor_digest») (op .attestation .«old_descriptor_digest»))
+    (supersededReceipt s op)
+
+-- The slot being replaced, past the test for an incarnation behind the attested one.
+unfoldable pub validTarget : VoterReplacementRecord → VoterSlotRecord → VoterSlotMember → VoterSlotMember → Bool
+validTarget op s predecessor successor =
+    let a = op .attestation in
+    (eqb (a .«expected_incarnation» + 1) (successor .identity .incarnation)
+    && (leb (predecessor .identity .incarnation) (a .«expected_incarnation»)
+    && (ltb (predecessor .«admission_generation») (successor .«admission_generation»)
+    && (eqb (successor .«admission_generation») (a .«admission_generation»)
+    && eqBytes (successor .«key_digest») (a .«candidate_key_digest»)))))
+    && (eqb (s .phase) (targetPhase (op .phase)) && retiredMember op s predecessor)
+
+-- No receipt of the open request.
+abbrev pub otherRequest : VoterReplacementRecord → VoterSlotRecord → Bool
+otherRequest op s =
+    not (s .«has_last_result») || not (eqBytes (s .«last_result» .«request_id») (op .attestation .«request_id»))
+
+-- A slot that is not being replaced.
+abbrev pub otherMember : VoterSlotRecord → VoterSlotMember → VoterSlotMember → Bool
+otherMember s predecessor successor = sameVoterSlotMember predecessor successor && eqb (s .phase) voting
+
+-- One slot beside its two members; 3 where the slot is the target and no incarnation is behind the attested one.
+unfoldable pub validateMember : VoterReplacementRecord → VoterSlotRecord → VoterSlotMember → VoterSlotMember → Answer
+validateMember op s predecessor successor =
+    requireOf (sameVoterSlotMember (s .member) successor && eqb (predecessor .identity .slot) (successor .identity .slot))
+    (cond (eqb (s .member .identity .slot) (op .attestation .slot))
+    (cond (eqb (op .attestation .«expected_incarnation») maxVoterIncarnation) IncarnationExhausted
+    (requireOf (validTarget op s predecessor successor && otherRequest op s) Accepted))
+    (requireOf (otherMember s predecessor successor && otherRequest op s) Accepted))
+
+-- The first refusal of the slots below n.
+unfoldable pub validateMembers : VoterSlotTable → ℕ → Answer
+validateMembers t zero = Accepted
+validateMembers t (suc n) =
+    cond (isAccepted (validateMembers t n))
+    (validateMember (t .replacement) (slotAt t n) (memberAt (t .replacement .predecessor) n) (memberAt (t .replacement .successor) n))
+    (validateMembers t n)
+
+-- A slot is the target.
+abbrev pub hasTarget : VoterSlotTable → Bool
+hasTarget t = not (allBelow (λ i. not (eqb (slotAt t i .member .identity .slot) (t .replacement .attestation .slot))) (t .count))
+
+unfoldable pub validateOperation : VoterSlotTable → Answer
+validateOperation t =
+    requireOf (validOperation t (t .replacement))
+    (cond (isAccepted (validateMembers t (t .count))) (requireOf (hasTarget t) Accepted) (validateMembers t (t .count)))
+
+-- Validity of a table that the Rust types can hold.
+unfoldable pub validity : VoterSlotTable → Answer
+validity t =
+    requireOf (validSlots t)
+    (cond (t .«has_replacement») (validateOperation t)
+    (requireOf (allBelow (λ i. eqb (slotAt t i .phase) voting) (t .count)) Accepted))
+
+-- `VoterSlotTable::validate`, after 30
+unfoldable pub validate : VoterSlotTable → Answer
+validate t = cond (representable t) (validity t) Unrepresentable

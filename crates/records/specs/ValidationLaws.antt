@@ -1,0 +1,68 @@
+-- Laws of Validation: what a test tells, the bound of a valid count, and the first refusal of the slots.
+-- Each name here is a step of a proof; what is right is said in Validation.
+-- Assumes nothing.
+use Prim.Native.Nat.{ℕ, zero, suc, _+_, _-_, _%_, _<_, _≤_}
+use mathlib.Core.Path.{_≡_, sym, ap, _∙_}
+use mathlib.Core.Bool.{Bool, true, false, not, _&&_, and-eq-true-iff}
+use native.Mathlib.Numerals.{add-one}
+use native.Mathlib.Omega.{arith}
+use lib.Dec.{eqb, leb, ltb}
+use borrow.Author.Tests.{eqb-true, leb-true, not-true, not-false}
+use Rattle.identity.specs.Answer.{numberOf, isAccepted}
+use Rattle.identity.specs.AnswerLaws.{number-injective}
+use Rattle.identity.specs.declared.answer.Answer.{Answer}
+use Rattle.identity.specs.declared.answer.Answer.the-variants.{Accepted}
+use Rattle.records.specs.Records.{slotAt, memberAt}
+use Rattle.records.specs.Validation.{validCount, validateMember, validateMembers}
+use Rattle.records.specs.declared.records.VoterSlotTable.{VoterSlotTable}
+
+-- ---- `if !test(..) { .. }`: what is known of the test's definition in each arm
+
+module _ {t definition : Bool} (met : t ≡ definition) where
+  pub failed : not t ≡ true → definition ≡ false
+  failed h = sym met ∙ not-true t h
+
+  pub held : not t ≡ false → definition ≡ true
+  held h = sym met ∙ not-false t h
+
+-- ---- a count that is valid
+
+pub count-small : (n : ℕ) → validCount n ≡ true → n ≤ 9
+count-small n h =
+    let e = and-eq-true-iff (ltb 0 n) (leb n 9 && eqb (n % 2) 1) .0 h in
+    leb-true n 9 (and-eq-true-iff (leb n 9) (eqb (n % 2) 1) .0 (e .1) .0)
+
+-- ---- the slots one by one
+
+-- an answer that counts as accepted is that one
+pub is-accepted : (a : Answer) → isAccepted a ≡ true → a ≡ Accepted
+is-accepted a h = number-injective a Accepted (eqb-true (numberOf a) 0 h)
+
+-- the answer of one slot
+abbrev pub memberAnswer : VoterSlotTable → ℕ → Answer
+memberAnswer t i =
+    validateMember (t .replacement) (slotAt t i) (memberAt (t .replacement .predecessor) i) (memberAt (t .replacement .successor) i)
+
+module _ (t : VoterSlotTable) where
+  -- every slot below i is accepted: the answer is that of slot i
+  members-more : (i : ℕ) → isAccepted (validateMembers t i) ≡ true → validateMembers t (i + 1) ≡ memberAnswer t i
+  unfolding validateMembers
+  members-more i h = rw (add-one, h)
+
+  -- a refusal stays the answer
+  members-on : (n d : ℕ) → isAccepted (validateMembers t n) ≡ false → validateMembers t (n + d) ≡ validateMembers t n
+  unfolding validateMembers
+  members-on n zero h = let e : n + 0 ≡ n = omega arith in rw e
+  members-on n (suc d) h =
+      let e : n + suc d ≡ suc (n + d) = omega arith in
+      rw (e, members-on n d h, h)
+
+  -- one slot, after slots that are all accepted
+  pub members-accepted : (i : ℕ) → validateMembers t i ≡ Accepted → isAccepted (memberAnswer t i) ≡ true → validateMembers t (i + 1) ≡ Accepted
+  members-accepted i h a = members-more i (ap isAccepted h) ∙ is-accepted (memberAnswer t i) a
+
+  pub members-refused : (i n : ℕ) → i < n → validateMembers t i ≡ Accepted → isAccepted (memberAnswer t i) ≡ false → validateMembers t n ≡ memberAnswer t i
+  members-refused i n l h r =
+      let m : validateMembers t (i + 1) ≡ memberAnswer t i = members-more i (ap isAccepted h) in
+      let e : n ≡ i + 1 + (n - (i + 1)) = omega arith in
+      ap (validateMembers t) e ∙ (members-on (i + 1) (n - (i + 1)) (ap isAccepted m ∙ r) ∙ m)

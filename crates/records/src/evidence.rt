@@ -1,0 +1,250 @@
+// Cuts and the evidence of a replacement.
+//
+// Ported from crates/opc-consensus/src/voter_slots/validation.rs (`VoterSlotLogId` and
+// `VoterReplacementEvidence`: `validate`, `follows`, `retains`, `latest`) of openpacketcore-sdk, commit
+// 717de332e7, Apache-2.0 (see NOTICE). Changed: each check answers yes or no.
+ghost use mathlib.Core.Path.{_≡_};
+ghost use lib.ListN.{take};
+ghost use Rattle.identity.specs.Text.{isSnapshotId};
+ghost use Rattle.records.specs.Evidence.{validLogId, follows, validStage, stageOr, snapshotCut, validStages, validBeside, validContinuation, validEvidence, retainsCut, retainsMarker, retainsCuts, retains, laterOf, latest};
+use crate::equality::same_voter_slot_log_id;
+use crate::equality::same_voter_snapshot_evidence;
+use crate::records::CAUGHT_UP;
+use crate::records::FENCED;
+use crate::records::JOINT;
+use crate::records::LEARNER_ADDED;
+use crate::records::OptionalLogId;
+use crate::records::SNAPSHOT_INSTALLED;
+use crate::records::SnapshotId;
+use crate::records::UNIFORM;
+use crate::records::VoterReplacementEvidence;
+use crate::records::VoterSlotLogId;
+use identity::text::is_snapshot_id;
+
+// `VoterSlotLogId::validate`.
+pub fn is_valid_log_id(cut: VoterSlotLogId) -> bool
+    ensures { λ r. ⌜ r ≡ validLogId cut ⌝ }
+{
+    (0 < cut.term) & (0 < cut.index)
+}
+
+// `VoterSlotLogId::follows`.
+pub fn log_id_follows(cut: VoterSlotLogId, older: VoterSlotLogId, allow_equal: bool) -> bool
+    ensures { λ r. ⌜ r ≡ follows cut older «allow_equal» ⌝ }
+{
+    if cut.index == older.index {
+        return allow_equal & same_voter_slot_log_id(cut, older);
+    }
+    (older.index < cut.index) & (older.term <= cut.term)
+}
+
+// `VoterReplacementEvidence::validate`.
+pub fn is_valid_evidence(evidence: VoterReplacementEvidence, phase: u8) -> bool
+    ensures { λ r. ⌜ r ≡ validEvidence evidence phase ⌝ }
+{
+    let prepare = evidence.prepare;
+    if !is_valid_log_id(prepare) {
+        return false;
+    }
+    let snapshot = evidence.snapshot;
+    let snapshot_id = snapshot.snapshot_id;
+    if evidence.has_snapshot && !is_valid_snapshot_id(snapshot_id) {
+        return false;
+    }
+    are_valid_stages(evidence, phase) & is_valid_continuation(evidence)
+}
+
+// Each stage follows the one before it.
+fn are_valid_stages(evidence: VoterReplacementEvidence, phase: u8) -> bool
+    ensures { λ r. ⌜ r ≡ validStages evidence phase ⌝ }
+{
+    let prepare = evidence.prepare;
+    let snapshot = snapshot_cut(evidence);
+    let t1 = is_valid_stage(snapshot, SNAPSHOT_INSTALLED <= phase, prepare, true);
+    let first = stage_or(snapshot, prepare);
+    let learner = evidence.learner;
+    let t2 = is_valid_stage(learner, LEARNER_ADDED <= phase, first, false);
+    let second = stage_or(learner, first);
+    let caught_up = evidence.caught_up;
+    let t3 = is_valid_stage(caught_up, CAUGHT_UP <= phase, second, false);
+    let third = stage_or(caught_up, second);
+    let fence = evidence.fence;
+    let t4 = is_valid_stage(fence, FENCED <= phase, third, false);
+    let fourth = stage_or(fence, third);
+    let joint = evidence.joint;
+    let t5 = is_valid_stage(joint, JOINT <= phase, fourth, false);
+    let fifth = stage_or(joint, fourth);
+    let uniform = evidence.uniform;
+    let t6 = is_valid_stage(uniform, UNIFORM <= phase, fifth, false);
+    t1 & (t2 & (t3 & (t4 & (t5 & t6))))
+}
+
+// The snapshot's cut, or none.
+pub fn snapshot_cut(evidence: VoterReplacementEvidence) -> OptionalLogId
+    ensures { λ r. ⌜ r ≡ snapshotCut evidence ⌝ }
+{
+    let snapshot = evidence.snapshot;
+    let cut = snapshot.cut;
+    OptionalLogId {
+        is_some: evidence.has_snapshot,
+        cut,
+    }
+}
+
+fn is_valid_stage(
+    stage: OptionalLogId,
+    due: bool,
+    previous: VoterSlotLogId,
+    allow_equal: bool,
+) -> bool
+    ensures { λ r. ⌜ r ≡ validStage stage due previous «allow_equal» ⌝ }
+{
+    let cut = stage.cut;
+    let valid = is_valid_log_id(cut);
+    let later = log_id_follows(cut, previous, allow_equal);
+    (stage.is_some == due) & (!stage.is_some | (valid & later))
+}
+
+fn stage_or(stage: OptionalLogId, previous: VoterSlotLogId) -> VoterSlotLogId
+    ensures { λ r. ⌜ r ≡ stageOr stage previous ⌝ }
+{
+    if stage.is_some { stage.cut } else { previous }
+}
+
+// The continuation lies between prepare and fence, in order with the other cuts.
+fn is_valid_continuation(evidence: VoterReplacementEvidence) -> bool
+    ensures { λ r. ⌜ r ≡ validContinuation evidence ⌝ }
+{
+    let continuation = evidence.continuation;
+    if !continuation.is_some {
+        return true;
+    }
+    let cut = continuation.cut;
+    let prepare = evidence.prepare;
+    let valid = is_valid_log_id(cut);
+    let after_prepare = log_id_follows(cut, prepare, false);
+    let fence = evidence.fence;
+    let fence_cut = fence.cut;
+    let before_fence = !fence.is_some | log_id_follows(fence_cut, cut, false);
+    let beside_snapshot = is_valid_beside(cut, snapshot_cut(evidence), true);
+    let learner = evidence.learner;
+    let beside_learner = is_valid_beside(cut, learner, false);
+    let caught_up = evidence.caught_up;
+    let beside_caught_up = is_valid_beside(cut, caught_up, false);
+    valid
+        & (after_prepare & (before_fence & (beside_snapshot & (beside_learner & beside_caught_up))))
+}
+
+fn is_valid_beside(continuation: VoterSlotLogId, other: OptionalLogId, is_snapshot: bool) -> bool
+    ensures { λ r. ⌜ r ≡ validBeside continuation other «is_snapshot» ⌝ }
+{
+    if !other.is_some {
+        return true;
+    }
+    let cut = other.cut;
+    if cut.index <= continuation.index {
+        return log_id_follows(continuation, cut, is_snapshot);
+    }
+    log_id_follows(cut, continuation, false)
+}
+
+fn is_valid_snapshot_id(id: SnapshotId) -> bool
+    ensures { λ r. ⌜ r ≡ isSnapshotId (take (id .len) (id .bytes)) ⌝ }
+{
+    let len = id.len;
+    if 256 < len {
+        return is_snapshot_id(&id.bytes);
+    }
+    let bytes = &id.bytes[..];
+    is_snapshot_id(&bytes[..len])
+}
+
+// `VoterReplacementEvidence::retains`.
+pub fn evidence_retains(
+    new: VoterReplacementEvidence,
+    old: VoterReplacementEvidence,
+    old_phase: u8,
+) -> bool
+    ensures { λ r. ⌜ r ≡ retains new old «old_phase» ⌝ }
+{
+    let prepare = new.prepare;
+    let old_prepare = old.prepare;
+    let t0 = same_voter_slot_log_id(prepare, old_prepare);
+    let snapshot = new.snapshot;
+    let old_snapshot = old.snapshot;
+    let same_snapshot = same_voter_snapshot_evidence(snapshot, old_snapshot);
+    let caught_up = new.caught_up;
+    let old_caught_up = old.caught_up;
+    let t2 = retains_marker(caught_up, old_caught_up, old_phase);
+    let t3 = retains_cuts(new, old);
+    t0 & ((!old.has_snapshot | (new.has_snapshot & same_snapshot)) & (t2 & t3))
+}
+
+fn retains_cuts(new: VoterReplacementEvidence, old: VoterReplacementEvidence) -> bool
+    ensures { λ r. ⌜ r ≡ retainsCuts new old ⌝ }
+{
+    let learner = new.learner;
+    let old_learner = old.learner;
+    let t1 = retains_cut(learner, old_learner);
+    let continuation = new.continuation;
+    let old_continuation = old.continuation;
+    let t2 = retains_cut(continuation, old_continuation);
+    let fence = new.fence;
+    let old_fence = old.fence;
+    let t3 = retains_cut(fence, old_fence);
+    let joint = new.joint;
+    let old_joint = old.joint;
+    let t4 = retains_cut(joint, old_joint);
+    let uniform = new.uniform;
+    let old_uniform = old.uniform;
+    let t5 = retains_cut(uniform, old_uniform);
+    t1 & (t2 & (t3 & (t4 & t5)))
+}
+
+fn retains_cut(new: OptionalLogId, old: OptionalLogId) -> bool
+    ensures { λ r. ⌜ r ≡ retainsCut new old ⌝ }
+{
+    let cut = new.cut;
+    let old_cut = old.cut;
+    let same = same_voter_slot_log_id(cut, old_cut);
+    !old.is_some | (new.is_some & same)
+}
+
+fn retains_marker(new: OptionalLogId, old: OptionalLogId, old_phase: u8) -> bool
+    ensures { λ r. ⌜ r ≡ retainsMarker new old «old_phase» ⌝ }
+{
+    let cut = new.cut;
+    let old_cut = old.cut;
+    let same = same_voter_slot_log_id(cut, old_cut);
+    let later = log_id_follows(cut, old_cut, false);
+    !old.is_some | (new.is_some & (same | ((old_phase < FENCED) & later)))
+}
+
+// `VoterReplacementEvidence::latest`.
+pub fn latest_cut(evidence: VoterReplacementEvidence) -> VoterSlotLogId
+    ensures { λ r. ⌜ r ≡ latest evidence ⌝ }
+{
+    let prepare = evidence.prepare;
+    let a = later_of(prepare, snapshot_cut(evidence));
+    let learner = evidence.learner;
+    let b = later_of(a, learner);
+    let caught_up = evidence.caught_up;
+    let c = later_of(b, caught_up);
+    let continuation = evidence.continuation;
+    let d = later_of(c, continuation);
+    let fence = evidence.fence;
+    let e = later_of(d, fence);
+    let joint = evidence.joint;
+    let f = later_of(e, joint);
+    let uniform = evidence.uniform;
+    later_of(f, uniform)
+}
+
+fn later_of(latest: VoterSlotLogId, stage: OptionalLogId) -> VoterSlotLogId
+    ensures { λ r. ⌜ r ≡ laterOf latest stage ⌝ }
+{
+    if stage.is_some & (latest.index < stage.cut.index) {
+        return stage.cut;
+    }
+    latest
+}

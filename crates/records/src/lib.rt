@@ -1,0 +1,9 @@
+// Layer two: the records, the test for 30, validity and the successor check.
+pub mod blank;
+pub mod equality;
+pub mod evidence;
+pub mod number;
+pub mod records;
+pub mod representable;
+pub mod successor;
+pub mod validation;

@@ -1,0 +1,284 @@
+// The test for 30: whether the Rust types can hold a value, and whether all that is not in use is
+// zero. The original needs none, since its types rule such values out.
+ghost use mathlib.Core.Path.{_≡_};
+ghost use mathlib.Core.Bool.{_&&_};
+ghost use Prim.Native.Nat.{_≤_};
+ghost use lib.ListN.{length, take, drop};
+ghost use lib.Dec.{leb};
+ghost use Rattle.identity.specs.Identity.{isVoterIncarnation};
+ghost use Rattle.identity.specs.Text.{all, isUtf8};
+ghost use Rattle.records.specs.Records.{allBelow, slotAt, memberAt};
+ghost use Rattle.records.specs.Representable.{isZero, representableSpiffeId, representableSnapshotId, representableOptionalLogId, representableMember, representableResult, memberPlace, slotPlace, snapshotPart, representableSlotRecord, representableConfiguration, representableAttestation, representableEvidence, representableReplacement, representable};
+use crate::blank::blank_voter_replacement_record;
+use crate::blank::blank_voter_replacement_result;
+use crate::blank::blank_voter_slot_log_id;
+use crate::blank::blank_voter_slot_member;
+use crate::blank::blank_voter_slot_record;
+use crate::blank::blank_voter_snapshot_evidence;
+use crate::equality::same_voter_replacement_record;
+use crate::equality::same_voter_replacement_result;
+use crate::equality::same_voter_slot_log_id;
+use crate::equality::same_voter_slot_member;
+use crate::equality::same_voter_slot_record;
+use crate::equality::same_voter_snapshot_evidence;
+use crate::records::LostVoterAttestationV1;
+use crate::records::MAX_FIXED_VOTER_SLOTS;
+use crate::records::OptionalLogId;
+use crate::records::STORAGE_LOST;
+use crate::records::SUPERSEDED;
+use crate::records::SnapshotId;
+use crate::records::SpiffeId;
+use crate::records::TIME_BOUND_LOSS;
+use crate::records::UNIFORM;
+use crate::records::VOTING;
+use crate::records::VoterConfiguration;
+use crate::records::VoterReplacementEvidence;
+use crate::records::VoterReplacementRecord;
+use crate::records::VoterReplacementResult;
+use crate::records::VoterSlotMember;
+use crate::records::VoterSlotRecord;
+use crate::records::VoterSlotTable;
+use identity::identity::MAX_VOTER_INCARNATION;
+use identity::text::is_utf8;
+
+// Whether the Rust types can hold the table.
+pub fn is_representable(table: VoterSlotTable) -> bool
+    ensures { λ r. ⌜ r ≡ representable table ⌝ }
+{
+    if table.configuration_epoch < 1 {
+        return false;
+    }
+    if MAX_FIXED_VOTER_SLOTS < table.count {
+        return false;
+    }
+    if !slot_places(table) {
+        return false;
+    }
+    let replacement = table.replacement;
+    if table.has_replacement {
+        return is_representable_replacement(replacement);
+    }
+    same_voter_replacement_record(replacement, blank_voter_replacement_record())
+}
+
+// The nine places: a slot in each below the count, and a blank behind it.
+fn slot_places(table: VoterSlotTable) -> bool
+    ensures { λ r. ⌜ r ≡ allBelow (λ i. slotPlace (leb (table .count) i) (slotAt table i)) 9 ⌝ }
+{
+    let mut all = true;
+    let mut i = 0;
+    while i < 9 {
+        let slot = table.slots[i];
+        all = all & is_slot_place(table.count <= i, slot);
+        i += 1;
+    }
+    all
+}
+
+fn is_slot_place(behind: bool, slot: VoterSlotRecord) -> bool
+    ensures { λ r. ⌜ r ≡ slotPlace behind slot ⌝ }
+{
+    if behind {
+        return same_voter_slot_record(slot, blank_voter_slot_record());
+    }
+    is_representable_slot_record(slot)
+}
+
+// Whether the Rust types can hold the slot's record.
+pub fn is_representable_slot_record(slot: VoterSlotRecord) -> bool
+    ensures { λ r. ⌜ r ≡ representableSlotRecord slot ⌝ }
+{
+    let member = slot.member;
+    if !is_representable_member(member) {
+        return false;
+    }
+    if VOTING < slot.phase {
+        return false;
+    }
+    let last_result = slot.last_result;
+    if slot.has_last_result {
+        return is_representable_result(last_result);
+    }
+    same_voter_replacement_result(last_result, blank_voter_replacement_result())
+}
+
+// Whether the Rust types can hold the member.
+pub fn is_representable_member(member: VoterSlotMember) -> bool
+    ensures { λ r. ⌜ r ≡ representableMember member ⌝ }
+{
+    (1 <= member.identity.slot) & is_incarnation(member.identity.incarnation)
+}
+
+fn is_incarnation(value: u64) -> bool
+    ensures { λ r. ⌜ r ≡ isVoterIncarnation value ⌝ }
+{
+    (1 <= value) & (value <= MAX_VOTER_INCARNATION)
+}
+
+// Whether the Rust types can hold the receipt.
+pub fn is_representable_result(result: VoterReplacementResult) -> bool
+    ensures { λ r. ⌜ r ≡ representableResult result ⌝ }
+{
+    is_incarnation(result.incarnation)
+        & ((1 <= result.configuration_epoch) & (result.kind <= SUPERSEDED))
+}
+
+// Whether the Rust types can hold the replacement.
+pub fn is_representable_replacement(replacement: VoterReplacementRecord) -> bool
+    ensures { λ r. ⌜ r ≡ representableReplacement replacement ⌝ }
+{
+    let attestation = replacement.attestation;
+    if !is_representable_attestation(attestation) {
+        return false;
+    }
+    let predecessor = replacement.predecessor;
+    if !is_representable_configuration(predecessor) {
+        return false;
+    }
+    let successor = replacement.successor;
+    if !is_representable_configuration(successor) {
+        return false;
+    }
+    if UNIFORM < replacement.phase {
+        return false;
+    }
+    let evidence = replacement.evidence;
+    is_representable_evidence(evidence)
+}
+
+// Whether the Rust types can hold the attestation.
+pub fn is_representable_attestation(attestation: LostVoterAttestationV1) -> bool
+    ensures { λ r. ⌜ r ≡ representableAttestation attestation ⌝ }
+{
+    let candidate = attestation.candidate_spiffe_id;
+    let candidate_held = is_representable_spiffe_id(candidate);
+    let controller = attestation.controller_spiffe_id;
+    let controller_held = is_representable_spiffe_id(controller);
+    let reason = attestation.reason;
+    (1 <= attestation.slot)
+        & (is_incarnation(attestation.expected_incarnation)
+            & (candidate_held
+                & (controller_held & ((STORAGE_LOST <= reason) & (reason <= TIME_BOUND_LOSS)))))
+}
+
+// Whether the name is UTF-8 with zeros behind it.
+pub fn is_representable_spiffe_id(id: SpiffeId) -> bool
+    ensures { λ r. ⌜ r ≡ representableSpiffeId id ⌝ }
+{
+    let len = id.len;
+    if 2048 < len {
+        return false;
+    }
+    is_text(&id.bytes, len)
+}
+
+// Whether the snapshot id is UTF-8 with zeros behind it.
+pub fn is_representable_snapshot_id(id: SnapshotId) -> bool
+    ensures { λ r. ⌜ r ≡ representableSnapshotId id ⌝ }
+{
+    let len = id.len;
+    if 256 < len {
+        return false;
+    }
+    is_text(&id.bytes, len)
+}
+
+fn is_text(bytes: &[u8], len: usize) -> bool
+    requires { ⌜ len ≤ length (now bytes) ⌝ }
+    ensures { λ r. ⌜ r ≡ (isUtf8 (take len (now (bytes .entry))) && all isZero (drop len (now (bytes .entry)))) ⌝ }
+{
+    let utf8 = is_utf8(&bytes[..len]);
+    let filler = zeros(&bytes[len..]);
+    utf8 & filler
+}
+
+// Whether every byte is zero. No early exit, so that sixteen are compared at once.
+fn zeros(bytes: &[u8]) -> bool
+    ensures { λ r. ⌜ r ≡ all isZero (now (bytes .entry)) ⌝ }
+{
+    let mut all = true;
+    let mut i = 0;
+    while i < bytes.len() {
+        all = all & (bytes[i] == 0);
+        i += 1;
+    }
+    all
+}
+
+// Whether the Rust types can hold the configuration.
+pub fn is_representable_configuration(configuration: VoterConfiguration) -> bool
+    ensures { λ r. ⌜ r ≡ representableConfiguration configuration ⌝ }
+{
+    if configuration.epoch < 1 {
+        return false;
+    }
+    if MAX_FIXED_VOTER_SLOTS < configuration.count {
+        return false;
+    }
+    member_places(configuration)
+}
+
+// The nine places: a member in each below the count, and a blank behind it.
+fn member_places(configuration: VoterConfiguration) -> bool
+    ensures { λ r. ⌜ r ≡ allBelow (λ i. memberPlace (leb (configuration .count) i) (memberAt configuration i)) 9 ⌝ }
+{
+    let mut all = true;
+    let mut i = 0;
+    while i < 9 {
+        let member = configuration.members[i];
+        all = all & is_member_place(configuration.count <= i, member);
+        i += 1;
+    }
+    all
+}
+
+fn is_member_place(behind: bool, member: VoterSlotMember) -> bool
+    ensures { λ r. ⌜ r ≡ memberPlace behind member ⌝ }
+{
+    if behind {
+        return same_voter_slot_member(member, blank_voter_slot_member());
+    }
+    is_representable_member(member)
+}
+
+// Whether the Rust types can hold the evidence.
+pub fn is_representable_evidence(evidence: VoterReplacementEvidence) -> bool
+    ensures { λ r. ⌜ r ≡ representableEvidence evidence ⌝ }
+{
+    let snapshot = is_snapshot_part(evidence);
+    let learner = evidence.learner;
+    let t1 = is_representable_optional_log_id(learner);
+    let caught_up = evidence.caught_up;
+    let t2 = is_representable_optional_log_id(caught_up);
+    let continuation = evidence.continuation;
+    let t3 = is_representable_optional_log_id(continuation);
+    let fence = evidence.fence;
+    let t4 = is_representable_optional_log_id(fence);
+    let joint = evidence.joint;
+    let t5 = is_representable_optional_log_id(joint);
+    let uniform = evidence.uniform;
+    let t6 = is_representable_optional_log_id(uniform);
+    snapshot & (t1 & (t2 & (t3 & (t4 & (t5 & t6)))))
+}
+
+fn is_snapshot_part(evidence: VoterReplacementEvidence) -> bool
+    ensures { λ r. ⌜ r ≡ snapshotPart evidence ⌝ }
+{
+    let snapshot = evidence.snapshot;
+    if evidence.has_snapshot {
+        let snapshot_id = snapshot.snapshot_id;
+        return is_representable_snapshot_id(snapshot_id);
+    }
+    same_voter_snapshot_evidence(snapshot, blank_voter_snapshot_evidence())
+}
+
+// Whether the cut is there, or blank.
+pub fn is_representable_optional_log_id(optional: OptionalLogId) -> bool
+    ensures { λ r. ⌜ r ≡ representableOptionalLogId optional ⌝ }
+{
+    if optional.is_some {
+        return true;
+    }
+    let cut = optional.cut;
+    same_voter_slot_log_id(cut, blank_voter_slot_log_id())
+}

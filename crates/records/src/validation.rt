@@ -1,0 +1,497 @@
+// Validity of a table.
+//
+// Ported from crates/opc-consensus/src/voter_slots/validation.rs of openpacketcore-sdk, commit
+// 717de332e7, Apache-2.0 (see NOTICE). Changed: a check that can only give `InvalidRecord` answers
+// yes or no; the test for 30 stands in front; `validate_successor_of` is in successor.rt.
+ghost use mathlib.Core.Path.{_≡_};
+ghost use Prim.Native.Nat.{_+_, _-_, _<_, _≤_};
+ghost use lib.Dec.{eqb, ltb};
+ghost use lib.ListN.{getD, take};
+ghost use Rattle.identity.specs.Text.{isName};
+ghost use Rattle.identity.specs.declared.answer.Answer.the-variants.{Accepted};
+ghost use Rattle.records.specs.Records.{allBelow, slotAt, memberAt, noSlotRecord, voting};
+ghost use Rattle.records.specs.Validation.{requireOf, validCount, validConfiguration, validAttestation, isActive, validResult, validSlot, distinctResults, validSlots, targetPhase, validOperationHead, isCurrentEpoch, validOperation, supersededReceipt, retiredMember, validTarget, otherMember, otherRequest, validateMember, validateMembers, hasTarget, validateOperation, validity, validate};
+use crate::equality::same_voter_slot_log_id;
+use crate::equality::same_voter_slot_member;
+use crate::equality::same16;
+use crate::equality::same32;
+use crate::evidence::is_valid_evidence;
+use crate::evidence::is_valid_log_id;
+use crate::number::is_next;
+use crate::records::CATCHING_UP;
+use crate::records::COMPLETED;
+use crate::records::FENCED;
+use crate::records::LostVoterAttestationV1;
+use crate::records::MAX_FIXED_VOTER_SLOTS;
+use crate::records::PENDING;
+use crate::records::SNAPSHOT_INSTALLED;
+use crate::records::SUPERSEDED;
+use crate::records::SpiffeId;
+use crate::records::UNIFORM;
+use crate::records::VOTING;
+use crate::records::VoterConfiguration;
+use crate::records::VoterReplacementRecord;
+use crate::records::VoterSlotMember;
+use crate::records::VoterSlotRecord;
+use crate::records::VoterSlotTable;
+use crate::representable::is_representable;
+use identity::answer::Answer;
+use identity::answer::accepted;
+use identity::identity::MAX_VOTER_INCARNATION;
+use identity::text::is_name;
+
+fn is_valid_count(count: usize) -> bool
+    ensures { λ r. ⌜ r ≡ validCount count ⌝ }
+{
+    (0 < count) & ((count <= MAX_FIXED_VOTER_SLOTS) & (count % 2 == 1))
+}
+
+// `VoterConfiguration::validate`.
+pub fn is_valid_configuration(configuration: VoterConfiguration) -> bool
+    ensures { λ r. ⌜ r ≡ validConfiguration configuration ⌝ }
+{
+    if !is_valid_count(configuration.count) {
+        return false;
+    }
+    members_have_generations(configuration) & members_rise(configuration)
+}
+
+fn members_have_generations(configuration: VoterConfiguration) -> bool
+    requires { ⌜ configuration .count ≤ 9 ⌝ }
+    ensures { λ r. ⌜ r ≡ allBelow (λ i. ltb 0 (memberAt configuration i .«admission_generation»)) (configuration .count) ⌝ }
+{
+    let mut all = true;
+    let mut i = 0;
+    while i < 9 {
+        all = all
+            & ((configuration.count <= i) | (0 < configuration.members[i].admission_generation));
+        i += 1;
+    }
+    all
+}
+
+fn members_rise(configuration: VoterConfiguration) -> bool
+    requires { ⌜ configuration .count ≤ 9 ⌝ }
+    ensures { λ r. ⌜ r ≡ allBelow (λ i. ltb (memberAt configuration i .identity .slot) (memberAt configuration (i + 1) .identity .slot)) (configuration .count - 1) ⌝ }
+{
+    let mut all = true;
+    let mut i = 0;
+    while i < 8 {
+        all = all
+            & ((configuration.count <= i + 1)
+                | (configuration.members[i].identity.slot
+                    < configuration.members[i + 1].identity.slot));
+        i += 1;
+    }
+    all
+}
+
+// `LostVoterAttestationV1::validate`.
+pub fn is_valid_attestation(attestation: LostVoterAttestationV1) -> bool
+    ensures { λ r. ⌜ r ≡ validAttestation attestation ⌝ }
+{
+    let candidate = attestation.candidate_spiffe_id;
+    if !is_valid_spiffe_id(candidate) {
+        return false;
+    }
+    let controller = attestation.controller_spiffe_id;
+    if !is_valid_spiffe_id(controller) {
+        return false;
+    }
+    (0 < attestation.admission_generation)
+        & ((attestation.observation_start_ms <= attestation.decision_ms)
+            & ((attestation.decision_ms <= attestation.issued_ms)
+                & (attestation.issued_ms < attestation.expires_ms)))
+}
+
+// A length that its field cannot hold gives no; the test for 30 has ruled it out before.
+fn is_valid_spiffe_id(id: SpiffeId) -> bool
+    ensures { λ r. ⌜ r ≡ isName (take (id .len) (id .bytes)) ⌝ }
+{
+    let len = id.len;
+    if 2048 < len {
+        return is_name(&id.bytes);
+    }
+    let bytes = &id.bytes[..];
+    is_name(&bytes[..len])
+}
+
+// `VoterSlotTable::validate`, after 30.
+pub fn validate_table(table: VoterSlotTable) -> Answer
+    ensures { λ r. ⌜ r ≡ validate table ⌝ }
+{
+    if !is_representable(table) {
+        return Answer::Unrepresentable;
+    }
+    validate_representable(table)
+}
+
+// Validity of a table that the Rust types can hold.
+pub fn validate_representable(table: VoterSlotTable) -> Answer
+    requires { ⌜ table .count ≤ 9 ⌝ }
+    ensures { λ r. ⌜ r ≡ validity table ⌝ }
+{
+    if !are_valid_slots(table) {
+        return Answer::InvalidRecord;
+    }
+    if table.has_replacement {
+        return validate_operation(table);
+    }
+    if !all_voting(table) {
+        return Answer::InvalidRecord;
+    }
+    Answer::Accepted
+}
+
+fn all_voting(table: VoterSlotTable) -> bool
+    requires { ⌜ table .count ≤ 9 ⌝ }
+    ensures { λ r. ⌜ r ≡ allBelow (λ i. eqb (slotAt table i .phase) voting) (table .count) ⌝ }
+{
+    let mut all = true;
+    let mut i = 0;
+    while i < 9 {
+        all = all & ((table.count <= i) | (table.slots[i].phase == VOTING));
+        i += 1;
+    }
+    all
+}
+
+fn are_valid_slots(table: VoterSlotTable) -> bool
+    requires { ⌜ table .count ≤ 9 ⌝ }
+    ensures { λ r. ⌜ r ≡ validSlots table ⌝ }
+{
+    if !is_valid_count(table.count) {
+        return false;
+    }
+    if table.revision == 0 {
+        return false;
+    }
+    slots_rise(table) & (each_slot_valid(table) & results_distinct(table))
+}
+
+fn slots_rise(table: VoterSlotTable) -> bool
+    requires { ⌜ table .count ≤ 9 ⌝ }
+    ensures { λ r. ⌜ r ≡ allBelow (λ i. ltb (slotAt table i .member .identity .slot) (slotAt table (i + 1) .member .identity .slot)) (table .count - 1) ⌝ }
+{
+    let mut all = true;
+    let mut i = 0;
+    while i < 8 {
+        all = all
+            & ((table.count <= i + 1)
+                | (table.slots[i].member.identity.slot < table.slots[i + 1].member.identity.slot));
+        i += 1;
+    }
+    all
+}
+
+fn each_slot_valid(table: VoterSlotTable) -> bool
+    requires { ⌜ table .count ≤ 9 ⌝ }
+    ensures { λ r. ⌜ r ≡ allBelow (λ i. validSlot (table .revision) (table .«configuration_epoch») (isActive table (slotAt table i)) (slotAt table i)) (table .count) ⌝ }
+{
+    let mut all = true;
+    let mut i = 0;
+    while i < 9 {
+        let slot = table.slots[i];
+        let active = table.has_replacement
+            & (table.replacement.attestation.slot == slot.member.identity.slot);
+        all = all
+            & ((table.count <= i)
+                | is_valid_slot(table.revision, table.configuration_epoch, active, slot));
+        i += 1;
+    }
+    all
+}
+
+// One slot, in a table of that revision and epoch; active where it is being replaced.
+fn is_valid_slot(revision: u64, epoch: u64, active: bool, slot: VoterSlotRecord) -> bool
+    ensures { λ r. ⌜ r ≡ validSlot revision epoch active slot ⌝ }
+{
+    let own = slot.member.identity.incarnation;
+    let floor = is_next(slot.retired_through, own);
+    let completed = slot.has_last_result
+        & ((slot.last_result.incarnation == own) & (slot.last_result.kind == COMPLETED));
+    let result = is_valid_result(revision, epoch, active, slot);
+    ((0 < slot.member.admission_generation) & floor)
+        & (((active | (own <= 1)) | completed) & (!slot.has_last_result | result))
+}
+
+// The receipt of one slot.
+fn is_valid_result(revision: u64, epoch: u64, active: bool, slot: VoterSlotRecord) -> bool
+    ensures { λ r. ⌜ r ≡ validResult revision epoch active slot ⌝ }
+{
+    let result = slot.last_result;
+    let own = slot.member.identity.incarnation;
+    let terminal = result.terminal;
+    let valid = is_valid_log_id(terminal);
+    valid
+        & (((0 < result.revision)
+            & ((result.revision <= revision)
+                & ((result.configuration_epoch <= epoch)
+                    & ((1 < result.incarnation) & (result.incarnation <= own)))))
+            & ((!active | (result.incarnation < own))
+                & (!(result.incarnation == own)
+                    | ((slot.phase == VOTING) & (result.kind == COMPLETED)))))
+}
+
+// No request has a receipt in two slots.
+fn results_distinct(table: VoterSlotTable) -> bool
+    requires { ⌜ table .count ≤ 9 ⌝ }
+    ensures { λ r. ⌜ r ≡ allBelow (λ i. allBelow (λ j. distinctResults (slotAt table j) (slotAt table i)) i) (table .count) ⌝ }
+{
+    let slots = table.slots;
+    let mut all = true;
+    let mut i = 0;
+    while i < 9 {
+        all = all & ((table.count <= i) | distinct_below(slots, i));
+        i += 1;
+    }
+    all
+}
+
+fn distinct_below(slots: [VoterSlotRecord; 9], i: usize) -> bool
+    requires { ⌜ i < 9 ⌝ }
+    ensures { λ r. ⌜ r ≡ allBelow (λ j. distinctResults (getD slots j noSlotRecord) (getD slots i noSlotRecord)) i ⌝ }
+{
+    let slot = slots[i];
+    let mut all = true;
+    let mut j = 0;
+    while j < i {
+        let other = slots[j];
+        all = all & are_distinct_results(other, slot);
+        j += 1;
+    }
+    all
+}
+
+fn are_distinct_results(a: VoterSlotRecord, b: VoterSlotRecord) -> bool
+    ensures { λ r. ⌜ r ≡ distinctResults a b ⌝ }
+{
+    let first = a.last_result.request_id;
+    let second = b.last_result.request_id;
+    let same = same16(first, second);
+    !(a.has_last_result & (b.has_last_result & same))
+}
+
+// `VoterSlotTable::validate_operation`.
+fn validate_operation(table: VoterSlotTable) -> Answer
+    requires { ⌜ table .count ≤ 9 ⌝ }
+    ensures { λ r. ⌜ r ≡ validateOperation table ⌝ }
+{
+    if !is_valid_operation(table) {
+        return Answer::InvalidRecord;
+    }
+    let answer = validate_members(table);
+    if !accepted(answer) {
+        return answer;
+    }
+    if !has_target(table) {
+        return Answer::InvalidRecord;
+    }
+    Answer::Accepted
+}
+
+// The open request itself, and beside the table's head.
+fn is_valid_operation(table: VoterSlotTable) -> bool
+    ensures { λ r. ⌜ r ≡ validOperation table (table .replacement) ⌝ }
+{
+    let attestation = table.replacement.attestation;
+    if !is_valid_attestation(attestation) {
+        return false;
+    }
+    let predecessor = table.replacement.predecessor;
+    if !is_valid_configuration(predecessor) {
+        return false;
+    }
+    let successor = table.replacement.successor;
+    if !is_valid_configuration(successor) {
+        return false;
+    }
+    let evidence = table.replacement.evidence;
+    if !is_valid_evidence(evidence, table.replacement.phase) {
+        return false;
+    }
+    is_valid_operation_head(table) & is_current_epoch(table)
+}
+
+fn is_valid_operation_head(table: VoterSlotTable) -> bool
+    ensures { λ r. ⌜ r ≡ validOperationHead table (table .replacement) ⌝ }
+{
+    let cluster = table.cluster_instance;
+    let attested = table.replacement.attestation.cluster_instance;
+    let same_cluster = same32(attested, cluster);
+    let next_epoch = is_next(
+        table.replacement.predecessor.epoch,
+        table.replacement.successor.epoch,
+    );
+    (0 < table.replacement.expected_revision)
+        & ((table.replacement.expected_revision < table.revision)
+            & (same_cluster
+                & ((3 <= table.count)
+                    & ((table.replacement.predecessor.count == table.count)
+                        & ((table.replacement.successor.count == table.count) & next_epoch)))))
+}
+
+fn is_current_epoch(table: VoterSlotTable) -> bool
+    ensures { λ r. ⌜ r ≡ isCurrentEpoch table (table .replacement) ⌝ }
+{
+    if table.replacement.phase == UNIFORM {
+        return table.configuration_epoch == table.replacement.successor.epoch;
+    }
+    table.configuration_epoch == table.replacement.predecessor.epoch
+}
+
+// The first refusal, slot by slot: 3 in an earlier slot comes before 6 in a later one.
+fn validate_members(table: VoterSlotTable) -> Answer
+    requires { ⌜ table .count ≤ 9 ⌝ }
+    ensures { λ r. ⌜ r ≡ validateMembers table (table .count) ⌝ }
+{
+    let operation = table.replacement;
+    let predecessor = table.replacement.predecessor;
+    let successor = table.replacement.successor;
+    let count = table.count;
+    let mut i = 0;
+    while i < count {
+        let slot = table.slots[i];
+        let old = predecessor.members[i];
+        let new = successor.members[i];
+        let answer = validate_member(operation, slot, old, new);
+        if !accepted(answer) {
+            return answer;
+        }
+        i += 1;
+    }
+    Answer::Accepted
+}
+
+fn has_target(table: VoterSlotTable) -> bool
+    requires { ⌜ table .count ≤ 9 ⌝ }
+    ensures { λ r. ⌜ r ≡ hasTarget table ⌝ }
+{
+    let mut none = true;
+    let mut i = 0;
+    while i < 9 {
+        none = none
+            & ((table.count <= i)
+                | !(table.slots[i].member.identity.slot == table.replacement.attestation.slot));
+        i += 1;
+    }
+    !none
+}
+
+// One slot beside its two members.
+fn validate_member(
+    operation: VoterReplacementRecord,
+    slot: VoterSlotRecord,
+    predecessor: VoterSlotMember,
+    successor: VoterSlotMember,
+) -> Answer
+    ensures { λ r. ⌜ r ≡ validateMember operation slot predecessor successor ⌝ }
+{
+    let member = slot.member;
+    if !(same_voter_slot_member(member, successor)
+        & (predecessor.identity.slot == successor.identity.slot)) {
+        return Answer::InvalidRecord;
+    }
+    if slot.member.identity.slot == operation.attestation.slot {
+        if operation.attestation.expected_incarnation == MAX_VOTER_INCARNATION {
+            return Answer::IncarnationExhausted;
+        }
+        return require(
+            is_valid_target(operation, slot, predecessor, successor)
+                & is_other_request(operation, slot),
+        );
+    }
+    require(is_other_member(slot, predecessor, successor) & is_other_request(operation, slot))
+}
+
+fn require(valid: bool) -> Answer
+    ensures { λ r. ⌜ r ≡ requireOf valid Accepted ⌝ }
+{
+    if valid {
+        return Answer::Accepted;
+    }
+    Answer::InvalidRecord
+}
+
+fn is_other_member(
+    slot: VoterSlotRecord,
+    predecessor: VoterSlotMember,
+    successor: VoterSlotMember,
+) -> bool
+    ensures { λ r. ⌜ r ≡ otherMember slot predecessor successor ⌝ }
+{
+    same_voter_slot_member(predecessor, successor) & (slot.phase == VOTING)
+}
+
+fn is_other_request(operation: VoterReplacementRecord, slot: VoterSlotRecord) -> bool
+    ensures { λ r. ⌜ r ≡ otherRequest operation slot ⌝ }
+{
+    let receipt = slot.last_result.request_id;
+    let request = operation.attestation.request_id;
+    let same = same16(receipt, request);
+    !slot.has_last_result | !same
+}
+
+// The slot that is being replaced.
+fn is_valid_target(
+    operation: VoterReplacementRecord,
+    slot: VoterSlotRecord,
+    predecessor: VoterSlotMember,
+    successor: VoterSlotMember,
+) -> bool
+    ensures { λ r. ⌜ r ≡ validTarget operation slot predecessor successor ⌝ }
+{
+    let expected = operation.attestation.expected_incarnation;
+    let next = is_next(expected, successor.identity.incarnation);
+    let key = successor.key_digest;
+    let candidate_key = operation.attestation.candidate_key_digest;
+    let same_key = same32(key, candidate_key);
+    let phase = target_phase(operation.phase);
+    let retired = is_retired_member(operation, slot, predecessor);
+    (next
+        & ((predecessor.identity.incarnation <= expected)
+            & ((predecessor.admission_generation < successor.admission_generation)
+                & ((successor.admission_generation == operation.attestation.admission_generation)
+                    & same_key))))
+        & ((slot.phase == phase) & retired)
+}
+
+// The member that is being replaced: the attested one, or one whose candidate was superseded.
+fn is_retired_member(
+    operation: VoterReplacementRecord,
+    slot: VoterSlotRecord,
+    predecessor: VoterSlotMember,
+) -> bool
+    ensures { λ r. ⌜ r ≡ retiredMember operation slot predecessor ⌝ }
+{
+    if predecessor.identity.incarnation == operation.attestation.expected_incarnation {
+        let descriptor = predecessor.descriptor_digest;
+        let attested = operation.attestation.old_descriptor_digest;
+        return same32(descriptor, attested);
+    }
+    is_superseded_receipt(operation, slot)
+}
+
+fn is_superseded_receipt(operation: VoterReplacementRecord, slot: VoterSlotRecord) -> bool
+    ensures { λ r. ⌜ r ≡ supersededReceipt slot operation ⌝ }
+{
+    let terminal = slot.last_result.terminal;
+    let prepare = operation.evidence.prepare;
+    let same = same_voter_slot_log_id(terminal, prepare);
+    slot.has_last_result
+        & ((slot.last_result.incarnation == operation.attestation.expected_incarnation)
+            & ((slot.last_result.kind == SUPERSEDED) & same))
+}
+
+// The phase of the slot that is being replaced.
+pub fn target_phase(phase: u8) -> u8
+    ensures { λ r. ⌜ r ≡ targetPhase phase ⌝ }
+{
+    if phase <= SNAPSHOT_INSTALLED {
+        return PENDING;
+    }
+    if phase <= FENCED {
+        return CATCHING_UP;
+    }
+    VOTING
+}

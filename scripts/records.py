@@ -1,0 +1,749 @@
+#!/usr/bin/env python3
+"""Writes what each struct of crates/records/src/records.rt has beside it: equality, a blank, and what its values hold.
+
+Run it from the root of the repository, after a change to a struct:
+
+    python3 scripts/records.py
+
+It writes, in crates/records:
+
+    specs/Equality.antt, specs/EqualityLaws.antt, src/equality.rt, proofs/equality/
+    specs/Blank.antt, src/blank.rt, proofs/blank/
+    specs/Held.antt, proofs/Held.antt
+
+The files src/lib.rt, specs/Lib.antt and proofs/Lib.antt are written by hand.
+"""
+import os
+import re
+import shutil
+import subprocess
+
+CRATE = 'crates/records'
+BY = 'Written by scripts/records.py.'
+# how many places an array of structs has
+PLACES = 9
+WIDTHS = {'u8': 8, 'u16': 16, 'u32': 32, 'u64': 64, 'usize': 64}
+
+
+# ---- what is read
+
+
+def read(path):
+    with open(path, encoding='utf-8') as file:
+        return file.read()
+
+
+def structs_of(text):
+    """Name and fields (name, type as written) of each struct, in the order of the file."""
+    found = []
+    for name, body in re.findall(r'^pub struct (\w+) \{\n(.*?)^\}', text, re.M | re.S):
+        found.append((name, re.findall(r'^    pub (\w+): (.+),$', body, re.M)))
+    return found
+
+
+below = read('crates/identity/src/identity.rt')
+here = read(CRATE + '/src/records.rt')
+ALIASES = dict(re.findall(r'^pub type (\w+) = (.+);$', below, re.M))
+USED = re.findall(r'^use identity::identity::(\w+);$', here, re.M)
+FROM_BELOW = [s for s in structs_of(below) if s[0] in USED]
+FROM_HERE = structs_of(here)
+HOME = {name: 'identity' for name, _ in FROM_BELOW}
+HOME.update({name: 'records' for name, _ in FROM_HERE})
+
+
+class Field:
+    """A field: its name, and its kind: number (of so many bits), bool, bytes (so many), nine (of a struct) or struct."""
+
+    def __init__(self, name, written, declared):
+        written = ALIASES.get(written, written)
+        self.name = name
+        array = re.fullmatch(r'\[(\w+); (\d+)\]', written)
+        if written in WIDTHS:
+            self.kind, self.bits = 'number', WIDTHS[written]
+        elif written == 'bool':
+            self.kind = 'bool'
+        elif array and array.group(1) == 'u8':
+            self.kind, self.size = 'bytes', int(array.group(2))
+        elif array and array.group(1) in declared and int(array.group(2)) == PLACES:
+            self.kind, self.struct = 'nine', array.group(1)
+        elif written in declared:
+            self.kind, self.struct = 'struct', written
+        else:
+            raise SystemExit('records.py: field %s has the type %s, which is not known here' % (name, written))
+
+    def quoted(self):
+        return '«%s»' % self.name if '_' in self.name else self.name
+
+    def of(self, value):
+        return '(%s .%s)' % (value, self.quoted())
+
+
+RECORDS = {}
+for struct, fields in FROM_BELOW + FROM_HERE:
+    RECORDS[struct] = [Field(name, written, RECORDS) for name, written in fields]
+NAMES = list(RECORDS)
+NINES = []
+SIZES = []
+for fields in RECORDS.values():
+    for field in fields:
+        if field.kind == 'nine' and field.struct not in NINES:
+            NINES.append(field.struct)
+        if field.kind == 'bytes' and field.size not in SIZES:
+            SIZES.append(field.size)
+SIZES.sort()
+
+
+# ---- names
+
+
+def snake(name):
+    return re.sub(r'(?<!^)([A-Z])', r'_\1', name).lower()
+
+
+def kebab(name):
+    return snake(name).replace('_', '-')
+
+
+def all_of(prefix, names=NAMES):
+    return ', '.join(prefix + name for name in names)
+
+
+def use_declared(name):
+    crate = 'identity' if HOME[name] == 'identity' else 'records·specs'
+    return 'use Rattle.%s.specs.declared.%s.%s.{%s}\n' % (crate, HOME[name], name, name)
+
+
+def use_rattle(names):
+    return ''.join('use %s::%s;\n' % ('identity::identity' if HOME[n] == 'identity' else 'crate::records', n) for n in names)
+
+
+DECLARED = ''.join(use_declared(name) for name in NAMES)
+
+
+def write(path, *parts):
+    path = '%s/%s' % (CRATE, path)
+    os.makedirs(os.path.dirname(path), exist_ok=True)
+    with open(path, 'w', encoding='utf-8') as file:
+        file.write('\n'.join(part.strip('\n') + '\n' for part in parts))
+
+
+# the longest line, where there is a choice
+MOST = 110
+
+
+def clause(left, right):
+    """A clause, on one line where it is short enough."""
+    line = '%s = %s' % (left, right.strip())
+    return line if '\n' not in right and len(line) <= MOST else '%s =\n%s' % (left, right)
+
+
+def record(entries, before=''):
+    """A record with these entries, on its own lines where it is too long for one; `before` stands before it."""
+    line = '    %srecord { %s }' % (before, '; '.join(entries))
+    if len(line) <= MOST:
+        return line
+    return '    %srecord {\n%s    }' % (before, ''.join('      %s;\n' % entry for entry in entries))
+
+
+def listed(before, entries):
+    """What stands before, and the entries in brackets, on their own lines where they are too long for one."""
+    line = '    %s (%s)' % (before, ', '.join(entries))
+    if len(line) <= MOST:
+        return line
+    return '    %s (\n%s    )' % (before, ''.join('      %s,\n' % entry for entry in entries))
+
+
+# ---- equality: definitions
+
+
+def test(field):
+    a, b = field.of('a'), field.of('b')
+    return {
+        'number': lambda: 'eqb %s %s' % (a, b),
+        'bool': lambda: 'Bool·beq %s %s' % (a, b),
+        'bytes': lambda: 'eqBytes %s %s' % (a, b),
+        'nine': lambda: 'eqList same%s %s %s' % (field.struct, a, b),
+        'struct': lambda: 'same%s %s %s' % (field.struct, a, b),
+    }[field.kind]()
+
+
+def equality():
+    parts = ['''
+-- When two records are the same: each field is, in the order of declaration; arrays element by element. %s
+-- From voter_slots/records.rs and identity.rs: the `PartialEq` that the Rust derives.
+-- Assumes nothing.
+use Prim.Native.Nat.{ℕ}
+use mathlib.Core.Bool.{Bool, true, false, Bool·beq, _&&_}
+use mathlib.Core.List.{List, [], _∷_}
+use lib.Dec.{eqb}
+%s''' % (BY, DECLARED), '''
+-- every test of a list holds
+unfoldable pub all : List Bool → Bool
+all [] = true
+all (p ∷ []) = p
+all (p ∷ (q ∷ ps)) = p && all (q ∷ ps)
+''', '''
+-- two lists of one length, element by element
+unfoldable pub eqList : {A : Type 0} → (A → A → Bool) → List A → List A → Bool
+eqList f [] [] = true
+eqList f [] (y ∷ b) = false
+eqList f (x ∷ a) [] = false
+eqList f (x ∷ a) (y ∷ b) = f x y && eqList f a b
+''', '''
+abbrev pub eqBytes : List ℕ → List ℕ → Bool
+eqBytes a b = eqList eqb a b
+''']
+    for name, fields in RECORDS.items():
+        tests = ''.join('%s\n    ∷ ' % test(field) for field in fields)
+        parts.append('''
+unfoldable pub same{0} : {0} → {0} → Bool
+same{0} a b =
+    all
+    ({1}[])
+'''.format(name, tests))
+    write('specs/Equality.antt', *parts)
+
+
+# ---- equality: laws
+
+
+def from_true(field):
+    return {
+        'number': lambda: 'eqb-true _ _',
+        'bool': lambda: 'beq-true _ _',
+        'bytes': lambda: 'eqBytes-true _ _',
+        'nine': lambda: 'eqList-true same{0} same{0}-true _ _'.format(field.struct),
+        'struct': lambda: 'same%s-true _ _' % field.struct,
+    }[field.kind]()
+
+
+def of_itself(field):
+    a = field.of('a')
+    return {
+        'number': lambda: 'eqb-refl %s' % a,
+        'bool': lambda: 'beq-refl %s' % a,
+        'bytes': lambda: 'eqBytes-refl %s' % a,
+        'nine': lambda: 'eqList-refl same{0} same{0}-refl {1}'.format(field.struct, a),
+        'struct': lambda: 'same%s-refl %s' % (field.struct, a),
+    }[field.kind]()
+
+
+def equality_laws():
+    parts = ['''
+-- Laws of equality: a test that holds is a path, each value is the same as itself, and the steps of the loops over lists. %s
+-- Each name here is a step of a proof; what is right is said in Equality.
+-- Assumes nothing.
+use Prim.Native.Nat.{ℕ, zero, suc, _+_, _<_, _≤_}
+use mathlib.Core.Path.{_≡_, refl, sym, ap, _∙_}
+use mathlib.Core.Bool.{Bool, true, false, Bool·beq, _&&_, true≢false, false≢true, and-true, and-false, and-assoc, and-eq-true-iff}
+use mathlib.Core.List.{List, [], _∷_}
+use native.Mathlib.Numerals.{add-one}
+use native.Mathlib.Omega.{arith}
+use lib.ListN.{length, getD, take}
+use lib.Seq.{take-all}
+use lib.Dec.{eqb}
+use borrow.Author.Tests.{eqb-true, eq-eqb}
+use Rattle.records.specs.Equality.{all, eqList, eqBytes, %s}
+%s''' % (BY, all_of('same'), DECLARED), '''
+-- ---- any test with the laws `-true` and `-refl`
+
+module _ {A : Type 0} (f : A → A → Bool) where
+  pub eq-same : ((x : A) → f x x ≡ true) → (a b : A) → a ≡ b → f a b ≡ true
+  eq-same f-refl a b e = sym (ap (f a) e) ∙ f-refl a
+
+  pub same-false : ((x : A) → f x x ≡ true) → (a b : A) → f a b ≡ false → a ≡ b → ⊥
+  same-false f-refl a b h e = true≢false (sym (eq-same f-refl a b e) ∙ h)
+
+  pub ne-same : ((x y : A) → f x y ≡ true → x ≡ y) → (a b : A) → (a ≡ b → ⊥) → f a b ≡ false
+  ne-same f-true a b n = not-true (f a b) (λ t. n (f-true a b t))
+    where
+      not-true : (t : Bool) → (t ≡ true → ⊥) → t ≡ false
+      not-true true h = absurd (h refl)
+      not-true false h = refl
+''', '''
+-- ---- numbers, bools and lists of tests
+
+eqb-refl : (n : ℕ) → eqb n n ≡ true
+eqb-refl n = eq-eqb n n refl
+
+beq-true : (a b : Bool) → Bool·beq a b ≡ true → a ≡ b
+beq-true true true h = refl
+beq-true true false h = absurd (false≢true h)
+beq-true false true h = absurd (false≢true h)
+beq-true false false h = refl
+
+beq-refl : (a : Bool) → Bool·beq a a ≡ true
+beq-refl true = refl
+beq-refl false = refl
+
+abbrev Each : List Bool → Type 0
+Each [] = Unit {0}
+Each (p ∷ ps) = (p ≡ true) × Each ps
+
+all-each : (ps : List Bool) → all ps ≡ true → Each ps
+unfolding all
+all-each [] h = tt
+all-each (p ∷ []) h = (h, tt)
+all-each (p ∷ (q ∷ ps)) h = let k = and-eq-true-iff p (all (q ∷ ps)) .0 h in (k .0, all-each (q ∷ ps) (k .1))
+''', '''
+-- ---- lists
+
+module _ {A : Type 0} (f : A → A → Bool) where
+  pub eqList-true : ((x y : A) → f x y ≡ true → x ≡ y) → (a b : List A) → eqList f a b ≡ true → a ≡ b
+  unfolding eqList
+  eqList-true d [] [] h = refl
+  eqList-true d [] (y ∷ b) h = absurd (false≢true h)
+  eqList-true d (x ∷ a) [] h = absurd (false≢true h)
+  eqList-true d (x ∷ a) (y ∷ b) h =
+      let k = and-eq-true-iff (f x y) (eqList f a b) .0 h in
+      let p = d x y (k .0) in
+      let q = eqList-true d a b (k .1) in
+      λ i. p i ∷ q i
+
+  pub eqList-refl : ((x : A) → f x x ≡ true) → (a : List A) → eqList f a a ≡ true
+  unfolding eqList
+  eqList-refl d [] = refl
+  eqList-refl d (x ∷ a) = rw (d x) (eqList-refl d a)
+
+  -- lists of two lengths differ
+  pub eqList-lengths : (a b : List A) → (length a ≡ length b → ⊥) → eqList f a b ≡ false
+  unfolding eqList
+  eqList-lengths [] [] n = absurd (n refl)
+  eqList-lengths [] (y ∷ b) n = refl
+  eqList-lengths (x ∷ a) [] n = refl
+  eqList-lengths (x ∷ a) (y ∷ b) n = rw (eqList-lengths a b (λ e. n (ap suc e))) (and-false (f x y))
+
+  eqList-suc : (d : A) (a b : List A) (i : ℕ) → i < length a → i < length b
+      → eqList f (take (suc i) a) (take (suc i) b) ≡ (eqList f (take i a) (take i b) && f (getD a i d) (getD b i d))
+  unfolding eqList
+  eqList-suc d [] b i h k = absurd (omega arith)
+  eqList-suc d (x ∷ a) [] i h k = absurd (omega arith)
+  eqList-suc d (x ∷ a) (y ∷ b) zero h k = and-true (f x y)
+  eqList-suc d (x ∷ a) (y ∷ b) (suc i) h k =
+      rw (eqList-suc d a b i (omega arith) (omega arith))
+      (sym (and-assoc (f x y) (eqList f (take i a) (take i b)) (f (getD a i d) (getD b i d))))
+
+  -- a loop without early exit, whose answer so far is `same`: one more element, whose test is t, and the end
+  pub eqList-more : (d : A) (a b : List A) (i : ℕ) (same t : Bool) → i < length a → i < length b
+      → same ≡ eqList f (take i a) (take i b) → t ≡ f (getD a i d) (getD b i d) → (same && t) ≡ eqList f (take (i + 1) a) (take (i + 1) b)
+  eqList-more d a b i same t h k p q = rw (add-one, eqList-suc d a b i h k, p, q)
+
+  pub eqList-end : (a b : List A) (i : ℕ) (same : Bool) → length a ≤ i → length b ≤ i
+      → same ≡ eqList f (take i a) (take i b) → same ≡ eqList f a b
+  eqList-end a b i same h k p = p ∙ (λ j. eqList f (take-all i a h j) (take-all i b k j))
+''', '''
+pub eqBytes-true : (a b : List ℕ) → eqBytes a b ≡ true → a ≡ b
+eqBytes-true a b h = eqList-true eqb eqb-true a b h
+
+pub eqBytes-refl : (a : List ℕ) → eqBytes a a ≡ true
+eqBytes-refl a = eqList-refl eqb eqb-refl a
+''', '-- ---- the records']
+    for name, fields in RECORDS.items():
+        lets, path = '', 'e'
+        for i, field in enumerate(fields):
+            lets += '    let e%d : a .%s ≡ b .%s = %s (%s .0) in\n' % (i, field.quoted(), field.quoted(), from_true(field), path)
+            path += ' .1'
+        paths = record(['%s = e%d i' % (field.quoted(), i) for i, field in enumerate(fields)], 'λ i. ')
+        selves = listed('rw', [of_itself(field) for field in fields])
+        parts.append('''
+pub same{0}-true : (a b : {0}) → same{0} a b ≡ true → a ≡ b
+unfolding same{0}
+same{0}-true a b h =
+    let e = all-each _ h in
+{1}{2}
+
+pub same{0}-refl : (a : {0}) → same{0} a a ≡ true
+unfolding all same{0}
+{3}
+'''.format(name, lets, paths, clause('same%s-refl a' % name, selves)))
+    write('specs/EqualityLaws.antt', *parts)
+
+
+# ---- equality: code
+
+
+def equality_code():
+    parts = ['''
+// Whether two records are the same, field by field. %s
+//
+// Stands for the `PartialEq` that openpacketcore-sdk derives in
+// crates/opc-consensus/src/voter_slots/records.rs and identity.rs, commit 717de332e7, Apache-2.0
+// (see NOTICE). No loop is left early, so that many bytes are compared at once.
+ghost use mathlib.Core.Path.{_≡_};
+ghost use Rattle.records.specs.Equality.{eqBytes, eqList, %s};
+%s''' % (BY, all_of('same'), use_rattle(NAMES)), '''
+// Whether two slices hold the same bytes.
+pub fn same_bytes(a: &[u8], b: &[u8]) -> bool
+    ensures { λ r. ⌜ r ≡ eqBytes (now (a .entry)) (now (b .entry)) ⌝ }
+{
+    if a.len() != b.len() {
+        return false;
+    }
+    let mut same = true;
+    let mut i = 0;
+    while i < a.len() {
+        same = same & (a[i] == b[i]);
+        i += 1;
+    }
+    same
+}
+''']
+    for size in SIZES:
+        parts.append('''
+pub fn same{0}(a: [u8; {0}], b: [u8; {0}]) -> bool
+    ensures {{ λ r. ⌜ r ≡ eqBytes a b ⌝ }}
+{{
+    same_bytes(&a, &b)
+}}
+'''.format(size))
+    for name, fields in RECORDS.items():
+        lets, tests = '', []
+        for field in fields:
+            if field.kind in ('number', 'bool'):
+                tests.append('(a.{0} == b.{0})'.format(field.name))
+            else:
+                lets += '    let a_{0} = a.{0};\n    let b_{0} = b.{0};\n    let {0} = {1}(a_{0}, b_{0});\n'.format(field.name, same_of(field))
+                tests.append(field.name)
+        answer = tests[-1]
+        for one in reversed(tests[:-1]):
+            answer = '%s & (%s)' % (one, answer) if ' & ' in answer else '%s & %s' % (one, answer)
+        parts.append('''
+pub fn same_{0}(a: {1}, b: {1}) -> bool
+    ensures {{ λ r. ⌜ r ≡ same{1} a b ⌝ }}
+{{
+{2}    {3}
+}}
+'''.format(snake(name), name, lets, answer))
+        if name in NINES:
+            parts.append('''
+// The nine places of a table or a configuration, whatever its count.
+pub fn same_{0}s(a: [{1}; {2}], b: [{1}; {2}]) -> bool
+    ensures {{ λ r. ⌜ r ≡ eqList same{1} a b ⌝ }}
+{{
+    let mut same = true;
+    let mut i: usize = 0;
+    while i < {2} {{
+        let x = a[i];
+        let y = b[i];
+        same = same & same_{0}(x, y);
+        i += 1;
+    }}
+    same
+}}
+'''.format(snake(name), name, PLACES))
+    write('src/equality.rt', *parts)
+
+
+def same_of(field):
+    return {
+        'bytes': lambda: 'same%d' % field.size,
+        'nine': lambda: 'same_%ss' % snake(field.struct),
+        'struct': lambda: 'same_%s' % snake(field.struct),
+    }[field.kind]()
+
+
+# ---- proofs
+
+
+def write_proof(module, function, how, uses, needs, loop=False):
+    """A proof file: the needs, each a name and the lines of its proof, and the theorem that takes them in order."""
+    head = '-- `records::%s::%s` meets its contract: %s. %s Assumes nothing.\n' % (module, function, how, BY)
+    head += ''.join('use %s\n' % use for use in uses)
+    head += 'use Rattle.records.proofs.{0}.{1}.Statement.{{statement}}\nuse Rattle.records.proofs.{0}.{1}.Tie as tie\n'.format(module, function)
+    over = ' Inv-loop μ-loop' if loop else ''
+    parts = [head]
+    for need, kind, lines in needs:
+        parts.append('%s : tie.%s%s\n%s' % (need, kind, over, lines) if kind else lines)
+    given = ' '.join(need for need, _, _ in needs)
+    spec = function.replace('_', '-') + '-spec'
+    theorem = '%s =\n    tie.close (tie.spec %s)' % (spec, given)
+    if len(spec + given) + 24 <= MOST:
+        theorem = '%s = tie.close (tie.spec %s)' % (spec, given)
+    elif len(given) + 25 > MOST:
+        theorem = '%s =\n    tie.close\n    (tie.spec\n    %s)' % (spec, given.replace(' ', '\n    '))
+    parts.append('pub %s : {M : Type 1} → statement M\n%s' % (spec, theorem))
+    write('proofs/%s/%s/Proof.antt' % (module, function), *parts)
+
+
+NEEDS = 'borrow.Author.Needs.{needs}'
+
+
+def need(name, lines):
+    return (name, 'Need-' + name, lines)
+
+
+def requires(calls):
+    """The need of each call, and the name under which the later code knows the call."""
+    count, needs, known = {}, [], []
+    for call in calls:
+        call = call.replace('_', '-')
+        count[call] = count.get(call, 0) + 1
+        name = call + '-requires' + ('-%d' % count[call] if count[call] > 1 else '')
+        needs.append(need(name, '%s c κs = search needs' % name))
+        known.append(call + (str(count[call]) if count[call] > 1 else ''))
+    return needs, known
+
+
+def equality_proofs():
+    for name, fields in RECORDS.items():
+        function = 'same_' + snake(name)
+        calls = [same_of(field) for field in fields if field.kind not in ('number', 'bool')]
+        needs, known = requires(calls)
+        head = 'unfolding all same%s\n' % name
+        uses = ['Rattle.records.specs.Equality.{all, same%s}' % name]
+        if calls:
+            # from the return back to each call: two steps for each comparison, then three for each call
+            lets, at, steps = '', 'c', 2 * (len(fields) - len(calls))
+            for i in range(len(calls) - 1, -1, -1):
+                lets += '    let c%d = %s%s in\n' % (i, at, ' .before' * steps)
+                at, steps = 'c%d' % i, 3
+            told = listed('simp', ['c%d .%s .ensures' % (i, known[i]) for i in range(len(calls))])
+            returns = head + 'returns c =\n%s%s' % (lets, told)
+        else:
+            returns = head + 'returns c = search needs'
+        write_proof('equality', function, 'field by field', [NEEDS] + uses, needs + [need('returns', returns)])
+        if name in NINES:
+            nine_proof(name)
+    bytes_proof()
+
+
+def nine_proof(name):
+    call = 'same-' + kebab(name)
+    write_proof('equality', 'same_%ss' % snake(name), 'the answer so far is that of the places passed', [
+        'mathlib.Core.Path.{_≡_, refl}',
+        'Prim.Native.Nat.{_≤_, _-_}',
+        'native.Mathlib.Omega.{arith}',
+        'lib.ListN.{take}',
+        NEEDS,
+        'Rattle.records.specs.Equality.{eqList, same%s}' % name,
+        'Rattle.records.specs.EqualityLaws.{eqList-more, eqList-end}',
+    ], [
+        ('Inv-loop', None, 'abbrev Inv-loop : tie.InvT-loop\nInv-loop a b same₀ i₀ same i = (i ≤ %d) × (same ≡ eqList same%s (take i a) (take i b))' % (PLACES, name)),
+        ('μ-loop', None, 'abbrev μ-loop : tie.MeasureT-loop\nμ-loop a b same₀ i₀ same i = %d - i' % PLACES),
+        need('loop-holds', 'unfolding eqList\nloop-holds c = (omega arith, refl)'),
+        need('mul-x', 'mul-x c = omega arith'),
+        need('array-copy-out-x', 'array-copy-out-x c = omega arith'),
+        need('mul-y', 'mul-y c = omega arith'),
+        need('array-copy-out-y', 'array-copy-out-y c = omega arith'),
+        need(call + '-requires', call + '-requires c κs = search needs'),
+        need('add-i', 'add-i c = omega arith'),
+        need('loop-less', 'loop-less c = omega arith'),
+        need('loop-again', '''loop-again c =
+    let l = c .before .before .before .before in
+    let good = l .before .good in
+    (
+      omega arith,
+      eqList-more same%s _ _ _ (l .loop .i) _ _ (omega (arith, good .0 .1 .0 .1)) (omega (arith, good .1 .0 .1 .0 .1))
+          (l .loop .inv .1) (c .%s .ensures),
+    )''' % (name, call)),
+        need('returns', '''returns c =
+    let l = c .before in
+    let good = l .before .good in
+    eqList-end same%s _ _ (l .loop .i) _ (omega (arith, good .0 .1 .0 .1)) (omega (arith, good .1 .0 .1 .0 .1)) (l .loop .inv .1)''' % name),
+    ], loop=True)
+
+
+def bytes_proof():
+    write_proof('equality', 'same_bytes', 'the answer so far is that of the bytes passed', [
+        'mathlib.Core.Path.{_≡_, refl, sym}',
+        'Prim.Native.Nat.{_≤_, _-_}',
+        'native.Mathlib.Omega.{arith}',
+        'lib.ListN.{length, take}',
+        'lib.Dec.{eqb}',
+        'Rattle.records.specs.Equality.{eqList, eqBytes}',
+        'Rattle.records.specs.EqualityLaws.{eqList-lengths, eqList-more, eqList-end}',
+    ], [
+        ('Inv-loop', None, 'abbrev Inv-loop : tie.InvT-loop\nInv-loop a b same₀ i₀ same i = ((i ≤ length a) × (length a ≡ length b)) × (same ≡ eqBytes (take i a) (take i b))'),
+        ('μ-loop', None, 'abbrev μ-loop : tie.MeasureT-loop\nμ-loop a b same₀ i₀ same i = length a - i'),
+        need('returns', 'returns c = sym (eqList-lengths eqb _ _ (c .if1 .taken))'),
+        need('loop-holds', 'unfolding eqList\nloop-holds c = ((omega arith, c .if1 .left), refl)'),
+        need('shared-slice-read-same', 'shared-slice-read-same c = omega arith'),
+        need('shared-slice-read-same-2', 'shared-slice-read-same-2 c = omega arith'),
+        need('add-i', 'add-i c = omega arith'),
+        need('loop-less', 'loop-less c = omega arith'),
+        need('loop-again', '''loop-again c =
+    let l = c .before .before .before in
+    (omega arith, eqList-more eqb 0 _ _ (l .loop .i) _ _ (omega arith) (omega arith) (l .loop .inv .1) refl)'''),
+        need('returns-2', 'returns-2 c = eqList-end eqb _ _ (c .before .loop .i) _ (omega arith) (omega arith) (c .before .loop .inv .1)'),
+    ], loop=True)
+
+
+# ---- blanks
+
+
+def blank_value(field):
+    return {
+        'number': lambda: '0',
+        'bool': lambda: 'false',
+        'bytes': lambda: 'replicate %d 0' % field.size,
+        'nine': lambda: 'replicate %d blank%s' % (PLACES, field.struct),
+        'struct': lambda: 'blank' + field.struct,
+    }[field.kind]()
+
+
+def blank_code_value(field):
+    return {
+        'number': lambda: '0',
+        'bool': lambda: 'false',
+        'bytes': lambda: '[0; %d]' % field.size,
+        'nine': lambda: '[%s; %d]' % (snake(field.struct), PLACES),
+        'struct': lambda: snake(field.struct),
+    }[field.kind]()
+
+
+def blanks():
+    spec = ['''
+-- The blank of each record: each number 0, each bool false, each byte 0. %s
+-- Document 01: "the blank table or blank attestation, all zero"; "2,048 or 256 bytes and a length, zero behind it".
+-- Assumes nothing.
+use mathlib.Core.Bool.{false}
+use lib.ListN.{replicate}
+%s''' % (BY, DECLARED)]
+    code = ['''
+// The blank of each record, all zero: what stands where a record is absent or was refused.
+// %s
+ghost use mathlib.Core.Path.{_≡_};
+ghost use Rattle.records.specs.Blank.{%s};
+%s''' % (BY, all_of('blank'), use_rattle(NAMES))]
+    for name, fields in RECORDS.items():
+        spec.append('unfoldable pub blank{0} : {0}\n{1}'.format(
+            name, clause('blank' + name, record(['%s = %s' % (field.quoted(), blank_value(field)) for field in fields]))))
+        parts = []
+        for field in fields:
+            if field.kind in ('nine', 'struct') and field.struct not in parts:
+                parts.append(field.struct)
+        lets = ''.join('    let {0} = blank_{0}();\n'.format(snake(part)) for part in parts)
+        values = ''.join('        %s: %s,\n' % (field.name, blank_code_value(field)) for field in fields)
+        code.append('''
+pub fn blank_{0}() -> {1}
+    ensures {{ λ r. ⌜ r ≡ blank{1} ⌝ }}
+{{
+{2}    {1} {{
+{3}    }}
+}}
+'''.format(snake(name), name, lets, values))
+        needs, _ = requires(['blank_' + snake(part) for part in parts])
+        uses = [NEEDS] if parts else ['mathlib.Core.Path.{refl}']
+        returns = 'unfolding blank%s\nreturns c = %s' % (name, 'cc' if parts else 'refl')
+        write_proof('blank', 'blank_' + snake(name), 'field by field', uses + ['Rattle.records.specs.Blank.{blank%s}' % name], needs + [need('returns', returns)])
+    write('specs/Blank.antt', *spec)
+    write('src/blank.rt', *code)
+
+
+# ---- what every value holds
+
+
+def held():
+    spec = ['''
+-- What every value that the program holds has: each number fits its type, each array has its length. %s
+-- From the types of voter_slots/records.rs and identity.rs: for theorems over all records.
+-- Assumes nothing.
+use Prim.Native.Nat.{ℕ, zero, suc, _<_, _^_}
+use mathlib.Core.Path.{_≡_}
+use mathlib.Core.List.{List, [], _∷_}
+use native.Mathlib.Omega.{arith}
+use lib.ListN.{length, getD, set, length-set}
+%s''' % (BY, DECLARED), '''
+-- P of every element
+abbrev pub AllOf : {A : Type 0} → (A → Type 0) → List A → Type 0
+AllOf P [] = Unit {0}
+AllOf P (x ∷ l) = P x × AllOf P l
+
+-- an array of n elements
+pub record HeldArray {A : Type 0} (P : A → Type 0) (n : ℕ) (l : List A) : Type 0 where
+  pub count : length l ≡ n
+  pub each : AllOf P l
+
+-- of the element at an index; of a list with one element replaced
+pub all-at : {A : Type 0} (P : A → Type 0) (d : A) (l : List A) (i : ℕ) → i < length l → AllOf P l → P (getD l i d)
+all-at P d [] i h a = absurd (omega arith)
+all-at P d (x ∷ l) zero h a = a .0
+all-at P d (x ∷ l) (suc i) h a = all-at P d l i (omega arith) (a .1)
+
+all-set : {A : Type 0} (P : A → Type 0) (l : List A) (i : ℕ) (x : A) → P x → AllOf P l → AllOf P (set l i x)
+all-set P [] i x p a = a
+all-set P (y ∷ l) zero x p a = (p, a .1)
+all-set P (y ∷ l) (suc i) x p a = (a .0, all-set P l i x p (a .1))
+
+pub held-set : {A : Type 0} (P : A → Type 0) (n : ℕ) (l : List A) (i : ℕ) (x : A) → P x → HeldArray P n l → HeldArray P n (set l i x)
+held-set P n l i x p h = record { count = rw length-set (h .count); each = all-set P l i x p (h .each) }
+
+abbrev pub Byte : ℕ → Type 0
+Byte x = x < 2 ^ 8
+
+abbrev pub HeldBytes : ℕ → List ℕ → Type 0
+HeldBytes n l = HeldArray Byte n l
+''']
+    proof = ['''
+-- What the program logic says of a value that a function owns, as the `Held` records of specs/Held.antt. %s
+-- Assumes nothing.
+use Prim.Native.Nat.{ℕ}
+use mathlib.Core.Path.{sym, _∙_}
+use mathlib.Core.List.{List, [], _∷_, map}
+use lib.ListN.{length-map}
+use mir.Syntax.{w8}
+use mir.Val.{Val}
+use base.Fml.{Fml}
+use denote.Array.{each, inArray}
+use denote.Plain.{UInt}
+use denote.Shadow.{shadow}
+use Rattle.records.specs.Held.{AllOf, HeldArray, Byte, HeldBytes, %s}
+%s%s''' % (BY, all_of('Held'), DECLARED, ''.join(use_generated(name) for name in NAMES)), '''
+module _ {D X : Type 0} (own : D → List Val → Fml) (into : X → D) (P : X → Type 0) (h : (x : X) (vs : List Val) → shadow (own (into x) vs) → P x) where
+  held-list : (xs : List X) (us : List Val) → shadow (each D own (map into xs) us) → AllOf P xs
+  held-list [] us g = tt
+  held-list (x ∷ xs) [] g = absurd g
+  held-list (x ∷ xs) (u ∷ us) g = (h x (u ∷ []) (g .0), held-list xs us (g .1))
+
+  pub held-array : (n : ℕ) (xs : List X) (vs : List Val) → shadow (inArray D own n (map into xs) vs) → HeldArray P n xs
+  held-array n xs vs g = record { count = sym (length-map xs into) ∙ g .1 .0 .1; each = held-list xs (g .0) (g .1 .1) }
+
+pub held-bytes : (n : ℕ) (l : List ℕ) (vs : List Val) → shadow (inArray ℕ (UInt w8 .own) n (map (λ (x : ℕ). x) l) vs) → HeldBytes n l
+held-bytes n l vs g = held-array (UInt w8 .own) (λ (x : ℕ). x) Byte (λ x us h. h .1) n l vs g
+''']
+    for name, fields in RECORDS.items():
+        holds, values, path = '', '', 'f'
+        for field in fields:
+            at, path = path + ' .0', path + ' .1'
+            r = field.of('r')
+            if field.kind == 'bool':
+                continue
+            if field.kind == 'number':
+                what, value = 'r .%s < 2 ^ %d' % (field.quoted(), field.bits), at + ' .1'
+            elif field.kind == 'bytes':
+                what, value = 'HeldBytes %d %s' % (field.size, r), 'held-bytes %d %s _ (%s)' % (field.size, r, at)
+            elif field.kind == 'nine':
+                what = 'HeldArray Held%s %d %s' % (field.struct, PLACES, r)
+                value = 'held-array (the{0}.the-field .row .own) (the{0}.the-field .into)\n          Held{0} held-{1} {2} {3} _ ({4})'.format(
+                    field.struct, kebab(field.struct), PLACES, r, at)
+            else:
+                what, value = 'Held%s %s' % (field.struct, r), 'held-%s %s _ (%s)' % (kebab(field.struct), r, at)
+            holds += '  pub %s : %s\n' % (field.quoted(), what)
+            values += '      %s = %s;\n' % (field.quoted(), value)
+        spec.append('pub record Held{0} (r : {0}) : Type 0 where\n{1}'.format(name, holds))
+        proof.append('''
+pub held-{0} : (r : {1}) (vs : List Val)
+    → shadow (the{1}.the-field .row .own (the{1}.the-field .into r) vs) → Held{1} r
+held-{0} r vs g =
+    let f = g .1 .1 in
+    record {{
+{2}    }}
+'''.format(kebab(name), name, values))
+    write('specs/Held.antt', *spec)
+    write('proofs/Held.antt', *proof)
+
+
+def use_generated(name):
+    crate = 'identity' if HOME[name] == 'identity' else 'records·proofs'
+    return 'use Rattle.{0}.proofs.{1}.{2} as the{2}\n'.format(crate, HOME[name], name)
+
+
+for module in ('equality', 'blank'):
+    shutil.rmtree('%s/proofs/%s' % (CRATE, module), ignore_errors=True)
+equality()
+equality_laws()
+equality_code()
+equality_proofs()
+blanks()
+held()
+subprocess.run(['rt', 'fmt'], check=True)
