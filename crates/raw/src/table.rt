@@ -187,6 +187,10 @@ fn slots_of(raw: &[u8; 8062]) -> [VoterSlotRecord; 9] {
     slots
 }
 
+// A record of each kind begins at at. Its fields lie one behind the other; their sizes, which give
+// the offsets, stand above each function.
+
+// member 82, retired_through 8, phase 1, has_last_result 1, last_result 89: 181 bytes.
 fn slot_at(raw: &[u8; 8062], at: usize) -> VoterSlotRecord
     requires { ⌜ at + 181 ≤ 8062 ⌝ }
 {
@@ -201,6 +205,7 @@ fn slot_at(raw: &[u8; 8062], at: usize) -> VoterSlotRecord
     }
 }
 
+// slot 2, incarnation 8, key_digest 32, descriptor_digest 32, admission_generation 8: 82 bytes.
 fn member_at(raw: &[u8; 8062], at: usize) -> VoterSlotMember
     requires { ⌜ at + 82 ≤ 8062 ⌝ }
 {
@@ -218,6 +223,8 @@ fn member_at(raw: &[u8; 8062], at: usize) -> VoterSlotMember
     }
 }
 
+// request_id 16, request_digest 32, incarnation 8, revision 8, configuration_epoch 8, kind 1,
+// terminal 16: 89 bytes.
 fn result_at(raw: &[u8; 8062], at: usize) -> VoterReplacementResult
     requires { ⌜ at + 89 ≤ 8062 ⌝ }
 {
@@ -235,6 +242,8 @@ fn result_at(raw: &[u8; 8062], at: usize) -> VoterReplacementResult
     }
 }
 
+// expected_revision 8, attestation 4,423, predecessor 747, successor 747, phase 1, evidence 425:
+// 6,351 bytes.
 fn replacement_at(raw: &[u8; 8062], at: usize) -> VoterReplacementRecord
     requires { ⌜ at + 6351 ≤ 8062 ⌝ }
 {
@@ -252,6 +261,9 @@ fn replacement_at(raw: &[u8; 8062], at: usize) -> VoterReplacementRecord
     }
 }
 
+// request_id 16, request_digest 32, cluster_instance 32, slot 2, expected_incarnation 8,
+// old_descriptor_digest 32, candidate_key_digest 32, admission_generation 8, two names of 2,050,
+// signing_key_digest 32, reason 1, policy_digest 32, four times of 8, signature 64: 4,423 bytes.
 fn attestation_at(raw: &[u8; 8062], at: usize) -> LostVoterAttestationV1
     requires { ⌜ at + 4423 ≤ 8062 ⌝ }
 {
@@ -316,6 +328,7 @@ fn attestation_numbers_at(raw: &[u8; 8062], at: usize) -> AttestationNumbers
     }
 }
 
+// epoch 8, nine members 738, count 1: 747 bytes.
 fn configuration_at(raw: &[u8; 8062], at: usize) -> VoterConfiguration
     requires { ⌜ at + 747 ≤ 8062 ⌝ }
 {
@@ -342,6 +355,7 @@ fn members_at(raw: &[u8; 8062], at: usize) -> [VoterSlotMember; 9]
     members
 }
 
+// prepare 16, has_snapshot 1, snapshot 306, six cuts of 17 that may be absent: 425 bytes.
 fn evidence_at(raw: &[u8; 8062], at: usize) -> VoterReplacementEvidence
     requires { ⌜ at + 425 ≤ 8062 ⌝ }
 {
@@ -366,6 +380,7 @@ fn evidence_at(raw: &[u8; 8062], at: usize) -> VoterReplacementEvidence
     }
 }
 
+// cut 16, id 258, digest 32: 306 bytes.
 fn snapshot_at(raw: &[u8; 8062], at: usize) -> VoterSnapshotEvidence
     requires { ⌜ at + 306 ≤ 8062 ⌝ }
 {
@@ -379,7 +394,7 @@ fn snapshot_at(raw: &[u8; 8062], at: usize) -> VoterSnapshotEvidence
     }
 }
 
-// A length of two bytes, which may be more than the field holds, and the field.
+// A length of two bytes, which may be more than the field holds, and the field: 258 bytes.
 fn snapshot_id_at(raw: &[u8; 8062], at: usize) -> SnapshotId
     requires { ⌜ at + 258 ≤ 8062 ⌝ }
 {
@@ -391,6 +406,7 @@ fn snapshot_id_at(raw: &[u8; 8062], at: usize) -> SnapshotId
     }
 }
 
+// The same for a name: 2,050 bytes.
 fn spiffe_id_at(raw: &[u8; 8062], at: usize) -> SpiffeId
     requires { ⌜ at + 2050 ≤ 8062 ⌝ }
 {
@@ -402,6 +418,7 @@ fn spiffe_id_at(raw: &[u8; 8062], at: usize) -> SpiffeId
     }
 }
 
+// flag 1, cut 16.
 fn optional_log_id_at(raw: &[u8; 8062], at: usize) -> OptionalLogId
     requires { ⌜ at + 17 ≤ 8062 ⌝ }
 {
@@ -412,6 +429,7 @@ fn optional_log_id_at(raw: &[u8; 8062], at: usize) -> OptionalLogId
     }
 }
 
+// term 8, index 8.
 fn log_id_at(raw: &[u8; 8062], at: usize) -> VoterSlotLogId
     requires { ⌜ at + 16 ≤ 8062 ⌝ }
 {
@@ -421,6 +439,7 @@ fn log_id_at(raw: &[u8; 8062], at: usize) -> VoterSlotLogId
     }
 }
 
+// A flag that is neither 0 nor 1 was refused before.
 fn flag_at(raw: &[u8; 8062], at: usize) -> bool {
     byte(raw, at) == 1
 }
