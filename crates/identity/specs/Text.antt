@@ -82,6 +82,9 @@ isTrustDomain d = (leb 1 (length d) && leb (length d) 255) && all isDomainByte d
 abbrev pub isSegment : List ℕ → Bool
 isSegment g = leb 1 (length g) && all isSegmentByte g
 
+abbrev pub slash : ℕ
+slash = 47
+
 -- What stands between the slashes of s: with k slashes, k + 1 parts.
 abbrev pub prepend : ℕ → List (List ℕ) → List (List ℕ)
 prepend b [] = (b ∷ []) ∷ []
@@ -89,7 +92,7 @@ prepend b (part ∷ parts) = (b ∷ part) ∷ parts
 
 unfoldable pub split : List ℕ → List (List ℕ)
 split [] = [] ∷ []
-split (b ∷ s) = cond (eqb b 47) ([] ∷ split s) (prepend b (split s))
+split (b ∷ s) = cond (eqb b slash) ([] ∷ split s) (prepend b (split s))
 
 unfoldable pub allSegments : List (List ℕ) → Bool
 allSegments [] = true
@@ -102,4 +105,4 @@ areStrictParts (domain ∷ segments) = isTrustDomain domain && allSegments segme
 
 -- "At most 2,048 bytes in all: `spiffe://`, then a trust domain .., then no or more segments"
 unfoldable pub isStrictName : List ℕ → Bool
-isStrictName s = leb (length s) maxSpiffeIdBytes && (startsWith s scheme && areStrictParts (split (drop 9 s)))
+isStrictName s = leb (length s) maxSpiffeIdBytes && (startsWith s scheme && areStrictParts (split (drop (length scheme) s)))
