@@ -22,6 +22,7 @@ use Rattle.records.specs.declared.records.VoterConfiguration.{VoterConfi
 use Rattle.records.specs.declared.records.LostVoterAttestationV1.{LostVoterAttestationV1}
 use Rattle.records.specs.declared.records.VoterReplacementRecord.{VoterReplacementRecord}
 use Rattle.records.specs.declared.records.VoterSlotTable.{VoterSlotTable}
+use Rattle.records.specs.declared.validation.Claims.{Claims}
 
 -- `require`: what follows, or 6
 abbrev pub requireOf : Bool → Answer → Answer
@@ -116,55 +117,68 @@ validOperation t op =
     && (validConfiguration (op .successor)
     && (validEvidence (op .evidence) (op .phase) && (validOperationHead t op && isCurrentEpoch t op))))
 
+-- What the open request claims of the slots.
+abbrev pub claimsOf : VoterReplacementRecord → Claims
+claimsOf op =
+    record {
+      «request_id» = op .attestation .«request_id»;
+      slot = op .attestation .slot;
+      «expected_incarnation» = op .attestation .«expected_incarnation»;
+      «old_descriptor_digest» = op .attestation .«old_descriptor_digest»;
+      «candidate_key_digest» = op .attestation .«candidate_key_digest»;
+      «admission_generation» = op .attestation .«admission_generation»;
+      phase = op .phase;
+      prepare = op .evidence .prepare;
+    }
+
 -- The receipt that a supersession leaves: of the incarnation that the new request replaces, at its prepare.
-abbrev pub supersededReceipt : VoterSlotRecord → VoterReplacementRecord → Bool
-supersededReceipt s op =
+abbrev pub supersededReceipt : VoterSlotRecord → Claims → Bool
+supersededReceipt s c =
     s .«has_last_result»
-    && (eqb (s .«last_result» .incarnation) (op .attestation .«expected_incarnation»)
-    && (eqb (s .«last_result» .kind) superseded && sameVoterSlotLogId (s .«last_result» .terminal) (op .evidence .prepare)))
+    && (eqb (s .«last_result» .incarnation) (c .«expected_incarnation»)
+    && (eqb (s .«last_result» .kind) superseded && sameVoterSlotLogId (s .«last_result» .terminal) (c .prepare)))
 
 -- The member that is being replaced: the attested one, or, where the attested one was a candidate, the one before it.
-unfoldable pub retiredMember : VoterReplacementRecord → VoterSlotRecord → VoterSlotMember → Bool
-retiredMember op s predecessor =
-    cond (eqb (predecessor .identity .incarnation) (op .attestation .«expected_incarnation»))
-    (eqBytes (predecessor .«descriptor_digest») (op .attestation .«old_descriptor_digest»))
-    (supersededReceipt s op)
+unfoldable pub retiredMember : Claims → VoterSlotRecord → VoterSlotMember → Bool
+retiredMember c s predecessor =
+    cond (eqb (predecessor .identity .incarnation) (c .«expected_incarnation»))
+    (eqBytes (predecessor .«descriptor_digest») (c .«old_descriptor_digest»))
+    (supersededReceipt s c)
 
 -- The slot being replaced, past the test for an incarnation behind the attested one.
-unfoldable pub validTarget : VoterReplacementRecord → VoterSlotRecord → VoterSlotMember → VoterSlotMember → Bool
-validTarget op s predecessor successor =
-    let a = op .attestation in
-    (eqb (a .«expected_incarnation» + 1) (successor .identity .incarnation)
-    && (leb (predecessor .identity .incarnation) (a .«expected_incarnation»)
+unfoldable pub validTarget : Claims → VoterSlotRecord → VoterSlotMember → VoterSlotMember → Bool
+validTarget c s predecessor successor =
+    (eqb (c .«expected_incarnation» + 1) (successor .identity .incarnation)
+    && (leb (predecessor .identity .incarnation) (c .«expected_incarnation»)
     && (ltb (predecessor .«admission_generation») (successor .«admission_generation»)
-    && (eqb (successor .«admission_generation») (a .«admission_generation»)
-    && eqBytes (successor .«key_digest») (a .«candidate_key_digest»)))))
-    && (eqb (s .phase) (targetPhase (op .phase)) && retiredMember op s predecessor)
+    && (eqb (successor .«admission_generation») (c .«admission_generation»)
+    && eqBytes (successor .«key_digest») (c .«candidate_key_digest»)))))
+    && (eqb (s .phase) (targetPhase (c .phase)) && retiredMember c s predecessor)
 
 -- No receipt of the open request.
-abbrev pub otherRequest : VoterReplacementRecord → VoterSlotRecord → Bool
-otherRequest op s =
-    not (s .«has_last_result») || not (eqBytes (s .«last_result» .«request_id») (op .attestation .«request_id»))
+abbrev pub otherRequest : Claims → VoterSlotRecord → Bool
+otherRequest c s =
+    not (s .«has_last_result») || not (eqBytes (s .«last_result» .«request_id») (c .«request_id»))
 
 -- A slot that is not being replaced.
 abbrev pub otherMember : VoterSlotRecord → VoterSlotMember → VoterSlotMember → Bool
 otherMember s predecessor successor = sameVoterSlotMember predecessor successor && eqb (s .phase) voting
 
 -- One slot beside its two members; 3 where the slot is the target and no incarnation is behind the attested one.
-unfoldable pub validateMember : VoterReplacementRecord → VoterSlotRecord → VoterSlotMember → VoterSlotMember → Answer
-validateMember op s predecessor successor =
+unfoldable pub validateMember : Claims → VoterSlotRecord → VoterSlotMember → VoterSlotMember → Answer
+validateMember c s predecessor successor =
     requireOf (sameVoterSlotMember (s .member) successor && eqb (predecessor .identity .slot) (successor .identity .slot))
-    (cond (eqb (s .member .identity .slot) (op .attestation .slot))
-    (cond (eqb (op .attestation .«expected_incarnation») maxVoterIncarnation) IncarnationExhausted
-    (requireOf (validTarget op s predecessor successor && otherRequest op s) Accepted))
-    (requireOf (otherMember s predecessor successor && otherRequest op s) Accepted))
+    (cond (eqb (s .member .identity .slot) (c .slot))
+    (cond (eqb (c .«expected_incarnation») maxVoterIncarnation) IncarnationExhausted
+    (requireOf (validTarget c s predecessor successor && otherRequest c s) Accepted))
+    (requireOf (otherMember s predecessor successor && otherRequest c s) Accepted))
 
 -- The first refusal of the slots below n.
 unfoldable pub validateMembers : VoterSlotTable → ℕ → Answer
 validateMembers t zero = Accepted
 validateMembers t (suc n) =
     cond (isAccepted (validateMembers t n))
-    (validateMember (t .replacement) (slotAt t n) (memberAt (t .replacement .predecessor) n) (memberAt (t .replacement .successor) n))
+    (validateMember (claimsOf (t .replacement)) (slotAt t n) (memberAt (t .replacement .predecessor) n) (memberAt (t .replacement .successor) n))
     (validateMembers t n)
 
 -- A slot is the target.

@@ -1,9 +1,9 @@
--- Laws of Validation: what a test tells, the bound of a valid count, and the first refusal of the slots.
+-- Laws of Validation: what a test tells, the bound of a valid count, a slot without a receipt, and the first refusal of the slots.
 -- Each name here is a step of a proof; what is right is said in Validation.
 -- Assumes nothing.
 use Prim.Native.Nat.{ℕ, zero, suc, _+_, _-_, _%_, _<_, _≤_}
 use mathlib.Core.Path.{_≡_, sym, ap, _∙_}
-use mathlib.Core.Bool.{Bool, true, false, not, _&&_, and-eq-true-iff}
+use mathlib.Core.Bool.{Bool, true, false, not, _&&_, and-eq-true-iff, and-false}
 use native.Mathlib.Numerals.{add-one}
 use native.Mathlib.Omega.{arith}
 use lib.Dec.{eqb, leb, ltb}
@@ -12,9 +12,11 @@ use Rattle.identity.specs.Answer.{numberOf, isAccepted}
 use Rattle.identity.specs.AnswerLaws.{number-injective}
 use Rattle.identity.specs.declared.answer.Answer.{Answer}
 use Rattle.identity.specs.declared.answer.Answer.the-variants.{Accepted}
-use Rattle.records.specs.Records.{slotAt, memberAt}
-use Rattle.records.specs.Validation.{validCount, validateMember, validateMembers}
+use Rattle.records.specs.Records.{allBelow, slotAt, memberAt}
+use Rattle.records.specs.RecordsLaws.{allBelow-true}
+use Rattle.records.specs.Validation.{validCount, distinctResults, claimsOf, validateMember, validateMembers}
 use Rattle.records.specs.declared.records.VoterSlotTable.{VoterSlotTable}
+use Rattle.records.specs.declared.validation.Claims.{Claims}
 
 -- ---- `if !test(..) { .. }`: what is known of the test's definition in each arm
 
@@ -32,6 +34,13 @@ count-small n h =
     let e = and-eq-true-iff (ltb 0 n) (leb n 9 && eqb (n % 2) 1) .0 h in
     leb-true n 9 (and-eq-true-iff (leb n 9) (eqb (n % 2) 1) .0 (e .1) .0)
 
+-- ---- the receipts
+
+-- a slot without a receipt is distinct from all others
+pub distinct-without : (t : VoterSlotTable) (i : ℕ) → slotAt t i .«has_last_result» ≡ false
+    → allBelow (λ j. distinctResults (slotAt t j) (slotAt t i)) i ≡ true
+distinct-without t i h = allBelow-true (λ j. distinctResults (slotAt t j) (slotAt t i)) i (λ j. rw (h, and-false (slotAt t j .«has_last_result»)))
+
 -- ---- the slots one by one
 
 -- an answer that counts as accepted is that one
@@ -41,9 +50,15 @@ is-accepted a h = number-injective a Accepted (eqb-true (numberOf a) 0 h)
 -- the answer of one slot
 abbrev pub memberAnswer : VoterSlotTable → ℕ → Answer
 memberAnswer t i =
-    validateMember (t .replacement) (slotAt t i) (memberAt (t .replacement .predecessor) i) (memberAt (t .replacement .successor) i)
+    validateMember (claimsOf (t .replacement)) (slotAt t i) (memberAt (t .replacement .predecessor) i) (memberAt (t .replacement .successor) i)
 
 module _ (t : VoterSlotTable) where
+  -- the claims are those of the open request
+  pub member-claims : (c : Claims) (i : ℕ) → c ≡ claimsOf (t .replacement)
+      → validateMember c (slotAt t i) (memberAt (t .replacement .predecessor) i) (memberAt (t .replacement .successor) i) ≡ memberAnswer t i
+  member-claims c i h =
+      ap (λ (k : Claims). validateMember k (slotAt t i) (memberAt (t .replacement .predecessor) i) (memberAt (t .replacement .successor) i)) h
+
   -- every slot below i is accepted: the answer is that of slot i
   members-more : (i : ℕ) → isAccepted (validateMembers t i) ≡ true → validateMembers t (i + 1) ≡ memberAnswer t i
   unfolding validateMembers

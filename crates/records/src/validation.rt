@@ -10,7 +10,7 @@ ghost use lib.ListN.{getD, take};
 ghost use Rattle.identity.specs.Text.{isName};
 ghost use Rattle.identity.specs.declared.answer.Answer.the-variants.{Accepted};
 ghost use Rattle.records.specs.Records.{allBelow, slotAt, memberAt, noSlotRecord, voting};
-ghost use Rattle.records.specs.Validation.{requireOf, validCount, validConfiguration, validAttestation, isActive, validResult, validSlot, distinctResults, validSlots, targetPhase, validOperationHead, isCurrentEpoch, validOperation, supersededReceipt, retiredMember, validTarget, otherMember, otherRequest, validateMember, validateMembers, hasTarget, validateOperation, validity, validate};
+ghost use Rattle.records.specs.Validation.{requireOf, validCount, validConfiguration, validAttestation, isActive, validResult, validSlot, distinctResults, validSlots, targetPhase, validOperationHead, isCurrentEpoch, validOperation, claimsOf, supersededReceipt, retiredMember, validTarget, otherMember, otherRequest, validateMember, validateMembers, hasTarget, validateOperation, validity, validate};
 use crate::equality::same_voter_slot_log_id;
 use crate::equality::same_voter_slot_member;
 use crate::equality::same16;
@@ -30,15 +30,30 @@ use crate::records::SpiffeId;
 use crate::records::UNIFORM;
 use crate::records::VOTING;
 use crate::records::VoterConfiguration;
-use crate::records::VoterReplacementRecord;
+use crate::records::VoterSlotLogId;
 use crate::records::VoterSlotMember;
 use crate::records::VoterSlotRecord;
 use crate::records::VoterSlotTable;
 use crate::representable::is_representable;
 use identity::answer::Answer;
 use identity::answer::accepted;
+use identity::identity::ConsensusRequestId;
 use identity::identity::MAX_VOTER_INCARNATION;
+use identity::identity::SlotId;
+use identity::identity::VoterIncarnation;
 use identity::text::is_name;
+
+// What the open request claims of the slots. The record has 6.3 KB, so the tests of a slot are handed these alone.
+pub struct Claims {
+    pub request_id: ConsensusRequestId,
+    pub slot: SlotId,
+    pub expected_incarnation: VoterIncarnation,
+    pub old_descriptor_digest: [u8; 32],
+    pub candidate_key_digest: [u8; 32],
+    pub admission_generation: u64,
+    pub phase: u8,
+    pub prepare: VoterSlotLogId,
+}
 
 fn is_valid_count(count: usize) -> bool
     ensures { λ r. ⌜ r ≡ validCount count ⌝ }
@@ -233,7 +248,7 @@ fn is_valid_result(revision: u64, epoch: u64, active: bool, slot: VoterSlotRecor
                     | ((slot.phase == VOTING) & (result.kind == COMPLETED)))))
 }
 
-// No request has a receipt in two slots.
+// No request has a receipt in two slots; a slot without one is not compared.
 fn results_distinct(table: VoterSlotTable) -> bool
     requires { ⌜ table .count ≤ 9 ⌝ }
     ensures { λ r. ⌜ r ≡ allBelow (λ i. allBelow (λ j. distinctResults (slotAt table j) (slotAt table i)) i) (table .count) ⌝ }
@@ -242,7 +257,9 @@ fn results_distinct(table: VoterSlotTable) -> bool
     let mut all = true;
     let mut i = 0;
     while i < 9 {
-        all = all & ((table.count <= i) | distinct_below(slots, i));
+        if table.slots[i].has_last_result {
+            all = all & ((table.count <= i) | distinct_below(slots, i));
+        }
         i += 1;
     }
     all
@@ -340,12 +357,31 @@ fn is_current_epoch(table: VoterSlotTable) -> bool
     table.configuration_epoch == table.replacement.predecessor.epoch
 }
 
+fn claims_of(table: VoterSlotTable) -> Claims
+    ensures { λ r. ⌜ r ≡ claimsOf (table .replacement) ⌝ }
+{
+    let request_id = table.replacement.attestation.request_id;
+    let old_descriptor_digest = table.replacement.attestation.old_descriptor_digest;
+    let candidate_key_digest = table.replacement.attestation.candidate_key_digest;
+    let prepare = table.replacement.evidence.prepare;
+    Claims {
+        request_id: request_id,
+        slot: table.replacement.attestation.slot,
+        expected_incarnation: table.replacement.attestation.expected_incarnation,
+        old_descriptor_digest: old_descriptor_digest,
+        candidate_key_digest: candidate_key_digest,
+        admission_generation: table.replacement.attestation.admission_generation,
+        phase: table.replacement.phase,
+        prepare: prepare,
+    }
+}
+
 // The first refusal, slot by slot: 3 in an earlier slot comes before 6 in a later one.
 fn validate_members(table: VoterSlotTable) -> Answer
     requires { ⌜ table .count ≤ 9 ⌝ }
     ensures { λ r. ⌜ r ≡ validateMembers table (table .count) ⌝ }
 {
-    let operation = table.replacement;
+    let claims = claims_of(table);
     let predecessor = table.replacement.predecessor;
     let successor = table.replacement.successor;
     let count = table.count;
@@ -354,7 +390,7 @@ fn validate_members(table: VoterSlotTable) -> Answer
         let slot = table.slots[i];
         let old = predecessor.members[i];
         let new = successor.members[i];
-        let answer = validate_member(operation, slot, old, new);
+        let answer = validate_member(claims, slot, old, new);
         if !accepted(answer) {
             return answer;
         }
@@ -380,28 +416,27 @@ fn has_target(table: VoterSlotTable) -> bool
 
 // One slot beside its two members.
 fn validate_member(
-    operation: VoterReplacementRecord,
+    claims: Claims,
     slot: VoterSlotRecord,
     predecessor: VoterSlotMember,
     successor: VoterSlotMember,
 ) -> Answer
-    ensures { λ r. ⌜ r ≡ validateMember operation slot predecessor successor ⌝ }
+    ensures { λ r. ⌜ r ≡ validateMember claims slot predecessor successor ⌝ }
 {
     let member = slot.member;
     if !(same_voter_slot_member(member, successor)
         & (predecessor.identity.slot == successor.identity.slot)) {
         return Answer::InvalidRecord;
     }
-    if slot.member.identity.slot == operation.attestation.slot {
-        if operation.attestation.expected_incarnation == MAX_VOTER_INCARNATION {
+    if slot.member.identity.slot == claims.slot {
+        if claims.expected_incarnation == MAX_VOTER_INCARNATION {
             return Answer::IncarnationExhausted;
         }
         return require(
-            is_valid_target(operation, slot, predecessor, successor)
-                & is_other_request(operation, slot),
+            is_valid_target(claims, slot, predecessor, successor) & is_other_request(claims, slot),
         );
     }
-    require(is_other_member(slot, predecessor, successor) & is_other_request(operation, slot))
+    require(is_other_member(slot, predecessor, successor) & is_other_request(claims, slot))
 }
 
 fn require(valid: bool) -> Answer
@@ -423,63 +458,58 @@ fn is_other_member(
     same_voter_slot_member(predecessor, successor) & (slot.phase == VOTING)
 }
 
-fn is_other_request(operation: VoterReplacementRecord, slot: VoterSlotRecord) -> bool
-    ensures { λ r. ⌜ r ≡ otherRequest operation slot ⌝ }
+fn is_other_request(claims: Claims, slot: VoterSlotRecord) -> bool
+    ensures { λ r. ⌜ r ≡ otherRequest claims slot ⌝ }
 {
     let receipt = slot.last_result.request_id;
-    let request = operation.attestation.request_id;
+    let request = claims.request_id;
     let same = same16(receipt, request);
     !slot.has_last_result | !same
 }
 
 // The slot that is being replaced.
 fn is_valid_target(
-    operation: VoterReplacementRecord,
+    claims: Claims,
     slot: VoterSlotRecord,
     predecessor: VoterSlotMember,
     successor: VoterSlotMember,
 ) -> bool
-    ensures { λ r. ⌜ r ≡ validTarget operation slot predecessor successor ⌝ }
+    ensures { λ r. ⌜ r ≡ validTarget claims slot predecessor successor ⌝ }
 {
-    let expected = operation.attestation.expected_incarnation;
+    let expected = claims.expected_incarnation;
     let next = is_next(expected, successor.identity.incarnation);
     let key = successor.key_digest;
-    let candidate_key = operation.attestation.candidate_key_digest;
+    let candidate_key = claims.candidate_key_digest;
     let same_key = same32(key, candidate_key);
-    let phase = target_phase(operation.phase);
-    let retired = is_retired_member(operation, slot, predecessor);
+    let phase = target_phase(claims.phase);
+    let retired = is_retired_member(claims, slot, predecessor);
     (next
         & ((predecessor.identity.incarnation <= expected)
             & ((predecessor.admission_generation < successor.admission_generation)
-                & ((successor.admission_generation == operation.attestation.admission_generation)
-                    & same_key))))
+                & ((successor.admission_generation == claims.admission_generation) & same_key))))
         & ((slot.phase == phase) & retired)
 }
 
 // The member that is being replaced: the attested one, or one whose candidate was superseded.
-fn is_retired_member(
-    operation: VoterReplacementRecord,
-    slot: VoterSlotRecord,
-    predecessor: VoterSlotMember,
-) -> bool
-    ensures { λ r. ⌜ r ≡ retiredMember operation slot predecessor ⌝ }
+fn is_retired_member(claims: Claims, slot: VoterSlotRecord, predecessor: VoterSlotMember) -> bool
+    ensures { λ r. ⌜ r ≡ retiredMember claims slot predecessor ⌝ }
 {
-    if predecessor.identity.incarnation == operation.attestation.expected_incarnation {
+    if predecessor.identity.incarnation == claims.expected_incarnation {
         let descriptor = predecessor.descriptor_digest;
-        let attested = operation.attestation.old_descriptor_digest;
+        let attested = claims.old_descriptor_digest;
         return same32(descriptor, attested);
     }
-    is_superseded_receipt(operation, slot)
+    is_superseded_receipt(claims, slot)
 }
 
-fn is_superseded_receipt(operation: VoterReplacementRecord, slot: VoterSlotRecord) -> bool
-    ensures { λ r. ⌜ r ≡ supersededReceipt slot operation ⌝ }
+fn is_superseded_receipt(claims: Claims, slot: VoterSlotRecord) -> bool
+    ensures { λ r. ⌜ r ≡ supersededReceipt slot claims ⌝ }
 {
     let terminal = slot.last_result.terminal;
-    let prepare = operation.evidence.prepare;
+    let prepare = claims.prepare;
     let same = same_voter_slot_log_id(terminal, prepare);
     slot.has_last_result
-        & ((slot.last_result.incarnation == operation.attestation.expected_incarnation)
+        & ((slot.last_result.incarnation == claims.expected_incarnation)
             & ((slot.last_result.kind == SUPERSEDED) & same))
 }
 

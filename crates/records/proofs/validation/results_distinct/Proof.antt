@@ -1,6 +1,7 @@
--- `records::validation::results_distinct` meets its contract: the answer so far is that of the places passed. Assumes nothing.
-use mathlib.Core.Path.{_≡_, refl, ap, _∙_}
-use mathlib.Core.Bool.{Bool, _||_}
+-- `records::validation::results_distinct` meets its contract: the answer so far is that of the places passed, of which one without a receipt changes nothing. Assumes nothing.
+use mathlib.Core.Path.{_≡_, refl, sym, ap, _∙_}
+use mathlib.Core.Bool.{Bool, true, _||_, and-true, or-true}
+use mathlib.Core.Logic.{⊎-elim}
 use Prim.Native.Nat.{ℕ, _≤_, _-_}
 use native.Mathlib.Omega.{arith}
 use lib.Dec.{leb}
@@ -8,6 +9,7 @@ use borrow.Author.Needs.{needs}
 use Rattle.records.specs.Records.{allBelow, slotAt}
 use Rattle.records.specs.RecordsLaws.{allBelow-turn, allBelow-nine}
 use Rattle.records.specs.Validation.{distinctResults}
+use Rattle.records.specs.ValidationLaws.{distinct-without}
 use Rattle.records.specs.declared.records.VoterSlotTable.{VoterSlotTable}
 use Rattle.records.proofs.validation.results_distinct.Statement.{statement}
 use Rattle.records.proofs.validation.results_distinct.Tie as tie
@@ -26,6 +28,12 @@ loop-holds : tie.Need-loop-holds Inv-loop μ-loop
 unfolding allBelow
 loop-holds c = (omega arith, refl)
 
+mul-if1 : tie.Need-mul-if1 Inv-loop μ-loop
+mul-if1 c = omega arith
+
+element-copy-out-if1 : tie.Need-element-copy-out-if1 Inv-loop μ-loop
+element-copy-out-if1 c = omega arith
+
 distinct-below-requires : tie.Need-distinct-below-requires Inv-loop μ-loop
 distinct-below-requires c κs = search needs
 
@@ -37,14 +45,20 @@ loop-less c = omega arith
 
 loop-again : tie.Need-loop-again Inv-loop μ-loop
 loop-again c =
-    let l = c .before .before .before in
-    let t = l .before .before .args .table in
-    (omega arith, allBelow-turn _ (l .loop .i) _ _ (l .loop .inv .1) (ap (λ (b : Bool). leb (t .count) (l .loop .i) || b) (c .distinct-below .ensures)))
+    let l = c .before .before in
+    let t = l .before .before .args .t1 in
+    let i = l .loop .i in (
+      omega arith,
+      ⊎-elim
+          (λ w. w .2 ∙ allBelow-turn _ i _ _ (l .loop .inv .1) (ap (λ (b : Bool). leb (t .count) i || b) (w .1 .ensures)))
+          (λ w. w .1 ∙ (sym (and-true _) ∙ allBelow-turn _ i _ true (l .loop .inv .1) (sym (rw (distinct-without t i (w .0 .left)) (or-true (leb (t .count) i))))))
+          (c .if1 .came),
+    )
 
 returns : tie.Need-returns Inv-loop μ-loop
 returns c =
     let l = c .before in
-    let t = l .before .before .args .table in
+    let t = l .before .before .args .t1 in
     let e : l .loop .i ≡ 9 = omega arith in
     l .loop .inv .1 ∙ rw e (allBelow-nine (testAt t) (t .count) 9 (omega arith))
 
@@ -55,6 +69,8 @@ results-distinct-spec =
     Inv-loop
     μ-loop
     loop-holds
+    mul-if1
+    element-copy-out-if1
     distinct-below-requires
     add-i
     loop-less

@@ -6,15 +6,18 @@ use borrow.Author.Needs.{needs}
 use Rattle.identity.specs.AnswerLaws.{refused, passed}
 use Rattle.identity.specs.declared.answer.Answer.the-variants.{Accepted}
 use Rattle.records.specs.Validation.{validateMembers}
-use Rattle.records.specs.ValidationLaws.{members-accepted, members-refused}
+use Rattle.records.specs.ValidationLaws.{member-claims, members-accepted, members-refused}
 use Rattle.records.proofs.validation.validate_members.Statement.{statement}
 use Rattle.records.proofs.validation.validate_members.Tie as tie
 
 abbrev Inv-loop : tie.InvT-loop
-Inv-loop table operation predecessor successor count i₀ i = (i ≤ table .count) × (validateMembers table i ≡ Accepted)
+Inv-loop table claims predecessor successor count i₀ i = (i ≤ table .count) × (validateMembers table i ≡ Accepted)
 
 abbrev μ-loop : tie.MeasureT-loop
-μ-loop table operation predecessor successor count i₀ i = table .count - i
+μ-loop table claims predecessor successor count i₀ i = table .count - i
+
+claims-of-requires : tie.Need-claims-of-requires Inv-loop μ-loop
+claims-of-requires c κs = search needs
 
 loop-holds : tie.Need-loop-holds Inv-loop μ-loop
 unfolding validateMembers
@@ -48,7 +51,7 @@ returns : tie.Need-returns Inv-loop μ-loop
 returns c =
     let l = c .before .before .before .before .before .before .before in
     let t = l .before .before .before .before .args .t1 in
-    let v = c .before .before .validate-member .ensures in
+    let v = c .before .before .validate-member .ensures ∙ member-claims t _ (l .loop .i) (l .before .before .before .claims-of .ensures) in
     v ∙ sym (members-refused t (l .loop .i) (t .count) (omega arith) (l .loop .inv .1) (refused _ _ _ v (c .before .accepted .ensures) (c .if1 .taken)))
 
 add-i : tie.Need-add-i Inv-loop μ-loop
@@ -61,7 +64,7 @@ loop-again : tie.Need-loop-again Inv-loop μ-loop
 loop-again c =
     let l = c .before .before .before .before .before .before .before in
     let t = l .before .before .before .before .args .t1 in
-    let v = c .before .before .validate-member .ensures in
+    let v = c .before .before .validate-member .ensures ∙ member-claims t _ (l .loop .i) (l .before .before .before .claims-of .ensures) in
     (omega arith, members-accepted t (l .loop .i) (l .loop .inv .1) (passed _ _ _ v (c .before .accepted .ensures) (c .if1 .left)))
 
 returns-2 : tie.Need-returns-2 Inv-loop μ-loop
@@ -76,6 +79,7 @@ validate-members-spec =
     (tie.spec
     Inv-loop
     μ-loop
+    claims-of-requires
     loop-holds
     mul-slot
     element-copy-out-slot
