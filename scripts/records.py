@@ -1,5 +1,5 @@
 #!/usr/bin/env python3
-"""Writes what each struct of crates/records/src/records.rt has beside it: equality, a blank, and what its values hold.
+"""Writes what each struct of crates/records/src/records.rt has beside it: equality, a blank, a test for it, and what its values hold.
 
 Run it from the root of the repository, after a change to a struct:
 
@@ -9,6 +9,7 @@ It writes, in crates/records:
 
     specs/Equality.antt, specs/EqualityLaws.antt, src/equality.rt, proofs/equality/
     specs/Blank.antt, src/blank.rt, proofs/blank/
+    src/zero.rt, proofs/zero/
     specs/Held.antt, proofs/Held.antt
 
 The files src/lib.rt, specs/Lib.antt and proofs/Lib.antt are written by hand.
@@ -630,6 +631,229 @@ pub fn blank_{0}() -> {1}
     write('src/blank.rt', *code)
 
 
+# ---- tests for a blank
+
+# the table is no part of another record
+PARTS = [name for name in NAMES if any(field.kind in ('nine', 'struct') and field.struct == name for fields in RECORDS.values() for field in fields)]
+PART_NINES = [field.struct for name in PARTS for field in RECORDS[name] if field.kind == 'nine']
+
+
+def zero_of(field):
+    return {
+        'bytes': lambda: 'zeros',
+        'nine': lambda: 'is_blank_%ss' % snake(field.struct),
+        'struct': lambda: 'is_blank_%s' % snake(field.struct),
+    }[field.kind]()
+
+
+def zero_test(field):
+    """The test of a field, and the lines before it."""
+    if field.kind == 'number':
+        return '(x.%s == 0)' % field.name, ''
+    if field.kind == 'bool':
+        return '!x.%s' % field.name, ''
+    if field.kind == 'bytes':
+        return field.name, '    let {0} = zeros(&x.{0});\n'.format(field.name)
+    return field.name, '    let x_{0} = x.{0};\n    let {0} = {1}(x_{0});\n'.format(field.name, zero_of(field))
+
+
+def zero_code():
+    parts = ['''
+// Whether a record is blank, field by field, with no blank made. %s
+// No loop is left early, so that many bytes are compared at once.
+ghost use mathlib.Core.Path.{_≡_};
+ghost use lib.ListN.{replicate};
+ghost use Rattle.identity.specs.Text.{all};
+ghost use Rattle.records.specs.Blank.{%s};
+ghost use Rattle.records.specs.Equality.{eqList, %s};
+ghost use Rattle.records.specs.Representable.{isZero};
+%s''' % (BY, all_of('blank', PARTS), all_of('same', PARTS), use_rattle(PARTS)), '''
+// Whether every byte is zero.
+pub fn zeros(bytes: &[u8]) -> bool
+    ensures { λ r. ⌜ r ≡ all isZero (now (bytes .entry)) ⌝ }
+{
+    let mut all = true;
+    let mut i = 0;
+    while i < bytes.len() {
+        all = all & (bytes[i] == 0);
+        i += 1;
+    }
+    all
+}
+''']
+    for name in PARTS:
+        tests, lets = zip(*(zero_test(field) for field in RECORDS[name]))
+        answer = tests[-1]
+        for one in reversed(tests[:-1]):
+            answer = '%s & (%s)' % (one, answer) if ' & ' in answer else '%s & %s' % (one, answer)
+        parts.append('''
+pub fn is_blank_{0}(x: {1}) -> bool
+    ensures {{ λ r. ⌜ r ≡ same{1} x blank{1} ⌝ }}
+{{
+{2}    {3}
+}}
+'''.format(snake(name), name, ''.join(lets), answer))
+        if name in PART_NINES:
+            parts.append('''
+// The nine places of a configuration, whatever its count.
+pub fn is_blank_{0}s(x: [{1}; {2}]) -> bool
+    ensures {{ λ r. ⌜ r ≡ eqList same{1} x (replicate {2} blank{1}) ⌝ }}
+{{
+    let mut all = true;
+    let mut i: usize = 0;
+    while i < {2} {{
+        let place = x[i];
+        all = all & is_blank_{0}(place);
+        i += 1;
+    }}
+    all
+}}
+'''.format(snake(name), name, PLACES))
+    write('src/zero.rt', *parts)
+
+
+def zero_path(field, call):
+    """The test of a field along the path from the code to the definition, and the lines that say why."""
+    x = field.of('x')
+    if field.kind == 'number':
+        return 'eqb %s 0' % x, ''
+    if field.kind == 'bool':
+        return 'beq-false %s i' % x, ''
+    name, place, known = call
+    if field.kind == 'bytes':
+        what = 'eqBytes %s (replicate %d 0)' % (x, field.size)
+        why = 'zeros-blank %s %d _ (search needs) (%s .%s .ensures)' % (x, field.size, place, known)
+    elif field.kind == 'nine':
+        what = 'eqList same{0} {1} (replicate {2} blank{0})'.format(field.struct, x, PLACES)
+        why = '%s .%s .ensures' % (place, known)
+    else:
+        what, why = 'same{0} {1} blank{0}'.format(field.struct, x), '%s .%s .ensures' % (place, known)
+    line = '    let %s : %s .%s .result ≡ %s = %s in\n' % (name, place, known, what, why)
+    if len(line) > MOST:
+        line = '    let %s : %s .%s .result ≡ %s =\n        %s in\n' % (name, place, known, what, why)
+    return name + ' i', line
+
+
+def zero_proofs():
+    for name in PARTS:
+        function = 'is_blank_' + snake(name)
+        fields = RECORDS[name]
+        asked = [field for field in fields if field.kind not in ('number', 'bool')]
+        kinds = [field.kind for field in fields]
+        needs, known = requires([zero_of(field) for field in asked])
+        head = 'unfolding all same%s blank%s\n' % (name, name)
+        blank, same = ['blank' + name], ['all', 'same' + name]
+        for field in asked:
+            if field.kind == 'bytes':
+                same.append('eqBytes')
+            else:
+                blank.append('blank' + field.struct)
+                same += ['same' + field.struct] + ['eqList'] * (field.kind == 'nine')
+        uses = ['mathlib.Core.Path.{%s}' % ('_≡_' if asked else 'refl')]
+        if asked:
+            uses += ['mathlib.Core.Bool.{_&&_}']
+            uses += ['lib.ListN.{replicate}'] * ('bytes' in kinds or 'nine' in kinds)
+            uses += ['lib.Dec.{eqb}'] * ('number' in kinds) + [NEEDS]
+        uses += ['Rattle.records.specs.Blank.{%s}' % ', '.join(dict.fromkeys(blank))]
+        uses += ['Rattle.records.specs.Equality.{%s}' % ', '.join(dict.fromkeys(same))]
+        laws = ['zeros-blank'] * ('bytes' in kinds) + ['beq-false'] * ('bool' in kinds)
+        uses += ['Rattle.records.specs.ZeroLaws.{%s}' % ', '.join(laws)] * bool(laws)
+        if asked:
+            # from the return back to each call: a step for each comparison, unless a field was lent; four for a lent field, two for a copied one
+            lets, at, steps, calls = '', 'c', 0 if 'bytes' in kinds else len(fields) - len(asked), []
+            for i in range(len(asked) - 1, -1, -1):
+                if steps:
+                    lets += '    let c%d = %s%s in\n' % (i, at, ' .before' * steps)
+                    at = 'c%d' % i
+                calls.append(('e%d' % i, at, known[i]))
+                steps = 4 if asked[i].kind == 'bytes' else 2
+            lets += '    let x = %s%s .args .%s in\n' % (at, ' .before' * steps, 't1' if 'bytes' in kinds else 'x')
+            tests = []
+            for field in fields:
+                value, line = zero_path(field, calls.pop() if field in asked else None)
+                tests.append(value)
+                lets += line
+            path = tests[-1]
+            for one in reversed(tests[:-1]):
+                path = '%s && (%s)' % (one, path) if ' && ' in path else '%s && %s' % (one, path)
+            if len(path) + 9 > MOST:
+                path = '\n    ' + path.replace(' && ', '\n    && ')
+            else:
+                path = ' ' + path
+            returns = head + 'returns c =\n%s    λ i.%s' % (lets, path)
+        else:
+            returns = head + 'returns c = refl'
+        write_proof('zero', function, 'field by field', uses, needs + [need('returns', returns)])
+        if name in PART_NINES:
+            zero_nine_proof(name)
+    zeros_proof()
+
+
+def zero_nine_proof(name):
+    call = 'is-blank-' + kebab(name)
+    write_proof('zero', 'is_blank_%ss' % snake(name), 'the answer so far is that of the places passed', [
+        'mathlib.Core.Path.{_≡_, refl}',
+        'Prim.Native.Nat.{_≤_, _-_}',
+        'native.Mathlib.Omega.{arith}',
+        'lib.ListN.{take, replicate, length-replicate}',
+        NEEDS,
+        'Rattle.records.specs.Blank.{blank%s}' % name,
+        'Rattle.records.specs.Equality.{eqList, same%s}' % name,
+        'Rattle.records.specs.EqualityLaws.{eqList-end}',
+        'Rattle.records.specs.ZeroLaws.{blank-more}',
+    ], [
+        ('Inv-loop', None, 'abbrev Inv-loop : tie.InvT-loop\nInv-loop x all₀ i₀ all i = (i ≤ {0}) × (all ≡ eqList same{1} (take i x) (take i (replicate {0} blank{1})))'.format(PLACES, name)),
+        ('μ-loop', None, 'abbrev μ-loop : tie.MeasureT-loop\nμ-loop x all₀ i₀ all i = %d - i' % PLACES),
+        need('loop-holds', 'unfolding eqList\nloop-holds c = (omega arith, refl)'),
+        need('mul-place', 'mul-place c = omega arith'),
+        need('array-copy-out-place', 'array-copy-out-place c = omega arith'),
+        need(call + '-requires', call + '-requires c κs = search needs'),
+        need('add-i', 'add-i c = omega arith'),
+        need('loop-less', 'loop-less c = omega arith'),
+        need('loop-again', '''loop-again c =
+    let l = c .before .before .before in
+    let good = l .before .good in
+    (
+      omega arith,
+      blank-more same{0} blank{0} _ _ {1} (l .loop .i) _ _ (good .0 .1 .0 .1) (omega arith) (l .loop .inv .1) (c .{2} .ensures),
+    )'''.format(name, PLACES, call)),
+        need('returns', '''returns c =
+    let l = c .before in
+    let good = l .before .good in
+    eqList-end same{0} _ _ (l .loop .i) _ (omega (arith, good .0 .1 .0 .1))
+    (omega (arith, length-replicate {1} blank{0})) (l .loop .inv .1)'''.format(name, PLACES)),
+    ], loop=True)
+
+
+def zeros_proof():
+    write_proof('zero', 'zeros', 'the answer so far is that of the bytes passed', [
+        'mathlib.Core.Path.{_≡_, refl, sym, ap, _∙_}',
+        'mathlib.Core.Bool.{Bool, _&&_}',
+        'Prim.Native.Nat.{_≤_, _<_, _-_}',
+        'native.Mathlib.Omega.{arith}',
+        'lib.ListN.{length, getD, take}',
+        'lib.Seq.{take-all}',
+        'Rattle.identity.specs.Text.{all as every}',
+        'Rattle.identity.specs.TextLaws.{all-more}',
+        'Rattle.records.specs.Representable.{isZero}',
+    ], [
+        ('Inv-loop', None, 'abbrev Inv-loop : tie.InvT-loop\nInv-loop bytes all₀ i₀ all i = (i ≤ length bytes) × (all ≡ every isZero (take i bytes))'),
+        ('μ-loop', None, 'abbrev μ-loop : tie.MeasureT-loop\nμ-loop bytes all₀ i₀ all i = length bytes - i'),
+        need('loop-holds', 'unfolding every\nloop-holds c = (omega arith, refl)'),
+        need('shared-slice-read-all', 'shared-slice-read-all c = omega arith'),
+        need('add-i', 'add-i c = omega arith'),
+        need('loop-less', 'loop-less c = omega arith'),
+        need('loop-again', '''loop-again c =
+    let l = c .before .before in
+    let i = l .loop .i in
+    let bytes = l .before .args .bytes .now in
+    let h : i < length bytes = omega arith in
+    (omega arith, ap (λ (t : Bool). t && isZero (getD bytes i 0)) (l .loop .inv .1) ∙ sym (all-more isZero bytes i h))'''),
+        need('returns', '''returns c =
+    c .before .loop .inv .1 ∙ ap (every isZero) (take-all (c .before .loop .i) (c .before .before .args .bytes .now) (omega arith))'''),
+    ], loop=True)
+
+
 # ---- what every value holds
 
 
@@ -738,12 +962,14 @@ def use_generated(name):
     return 'use Rattle.{0}.proofs.{1}.{2} as the{2}\n'.format(crate, HOME[name], name)
 
 
-for module in ('equality', 'blank'):
+for module in ('equality', 'blank', 'zero'):
     shutil.rmtree('%s/proofs/%s' % (CRATE, module), ignore_errors=True)
 equality()
 equality_laws()
 equality_code()
 equality_proofs()
 blanks()
+zero_code()
+zero_proofs()
 held()
 subprocess.run(['rt', 'fmt'], check=True)

@@ -12,3 +12,4 @@ pub mod Successor
 pub mod SuccessorLaws
 pub mod Validation
 pub mod ValidationLaws
+pub mod ZeroLaws

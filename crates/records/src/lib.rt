@@ -7,3 +7,4 @@ pub mod records;
 pub mod representable;
 pub mod successor;
 pub mod validation;
+pub mod zero;

@@ -9,18 +9,6 @@ ghost use Rattle.identity.specs.Identity.{isVoterIncarnation};
 ghost use Rattle.identity.specs.Text.{all, isUtf8};
 ghost use Rattle.records.specs.Records.{allBelow, slotAt, memberAt};
 ghost use Rattle.records.specs.Representable.{isZero, representableSpiffeId, representableSnapshotId, representableOptionalLogId, representableMember, representableResult, memberPlace, slotPlace, snapshotPart, representableSlotRecord, representableConfiguration, representableAttestation, representableEvidence, representableReplacement, representable};
-use crate::blank::blank_voter_replacement_record;
-use crate::blank::blank_voter_replacement_result;
-use crate::blank::blank_voter_slot_log_id;
-use crate::blank::blank_voter_slot_member;
-use crate::blank::blank_voter_slot_record;
-use crate::blank::blank_voter_snapshot_evidence;
-use crate::equality::same_voter_replacement_record;
-use crate::equality::same_voter_replacement_result;
-use crate::equality::same_voter_slot_log_id;
-use crate::equality::same_voter_slot_member;
-use crate::equality::same_voter_slot_record;
-use crate::equality::same_voter_snapshot_evidence;
 use crate::records::LostVoterAttestationV1;
 use crate::records::MAX_FIXED_VOTER_SLOTS;
 use crate::records::OptionalLogId;
@@ -38,6 +26,13 @@ use crate::records::VoterReplacementResult;
 use crate::records::VoterSlotMember;
 use crate::records::VoterSlotRecord;
 use crate::records::VoterSlotTable;
+use crate::zero::is_blank_voter_replacement_record;
+use crate::zero::is_blank_voter_replacement_result;
+use crate::zero::is_blank_voter_slot_log_id;
+use crate::zero::is_blank_voter_slot_member;
+use crate::zero::is_blank_voter_slot_record;
+use crate::zero::is_blank_voter_snapshot_evidence;
+use crate::zero::zeros;
 use identity::identity::MAX_VOTER_INCARNATION;
 use identity::text::is_utf8;
 
@@ -58,7 +53,7 @@ pub fn is_representable(table: VoterSlotTable) -> bool
     if table.has_replacement {
         return is_representable_replacement(replacement);
     }
-    same_voter_replacement_record(replacement, blank_voter_replacement_record())
+    is_blank_voter_replacement_record(replacement)
 }
 
 // The nine places: a slot in each below the count, and a blank behind it.
@@ -79,7 +74,7 @@ fn is_slot_place(behind: bool, slot: VoterSlotRecord) -> bool
     ensures { λ r. ⌜ r ≡ slotPlace behind slot ⌝ }
 {
     if behind {
-        return same_voter_slot_record(slot, blank_voter_slot_record());
+        return is_blank_voter_slot_record(slot);
     }
     is_representable_slot_record(slot)
 }
@@ -99,7 +94,7 @@ pub fn is_representable_slot_record(slot: VoterSlotRecord) -> bool
     if slot.has_last_result {
         return is_representable_result(last_result);
     }
-    same_voter_replacement_result(last_result, blank_voter_replacement_result())
+    is_blank_voter_replacement_result(last_result)
 }
 
 // Whether the Rust types can hold the member.
@@ -192,19 +187,6 @@ fn is_text(bytes: &[u8], len: usize) -> bool
     utf8 & filler
 }
 
-// Whether every byte is zero. No early exit, so that sixteen are compared at once.
-fn zeros(bytes: &[u8]) -> bool
-    ensures { λ r. ⌜ r ≡ all isZero (now (bytes .entry)) ⌝ }
-{
-    let mut all = true;
-    let mut i = 0;
-    while i < bytes.len() {
-        all = all & (bytes[i] == 0);
-        i += 1;
-    }
-    all
-}
-
 // Whether the Rust types can hold the configuration.
 pub fn is_representable_configuration(configuration: VoterConfiguration) -> bool
     ensures { λ r. ⌜ r ≡ representableConfiguration configuration ⌝ }
@@ -236,7 +218,7 @@ fn is_member_place(behind: bool, member: VoterSlotMember) -> bool
     ensures { λ r. ⌜ r ≡ memberPlace behind member ⌝ }
 {
     if behind {
-        return same_voter_slot_member(member, blank_voter_slot_member());
+        return is_blank_voter_slot_member(member);
     }
     is_representable_member(member)
 }
@@ -269,7 +251,7 @@ fn is_snapshot_part(evidence: VoterReplacementEvidence) -> bool
         let snapshot_id = snapshot.snapshot_id;
         return is_representable_snapshot_id(snapshot_id);
     }
-    same_voter_snapshot_evidence(snapshot, blank_voter_snapshot_evidence())
+    is_blank_voter_snapshot_evidence(snapshot)
 }
 
 // Whether the cut is there, or blank.
@@ -280,5 +262,5 @@ pub fn is_representable_optional_log_id(optional: OptionalLogId) -> bool
         return true;
     }
     let cut = optional.cut;
-    same_voter_slot_log_id(cut, blank_voter_slot_log_id())
+    is_blank_voter_slot_log_id(cut)
 }

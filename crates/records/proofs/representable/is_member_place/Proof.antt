@@ -3,14 +3,11 @@ use borrow.Author.Needs.{needs}
 use Rattle.records.proofs.representable.is_member_place.Statement.{statement}
 use Rattle.records.proofs.representable.is_member_place.Tie as tie
 
-blank-voter-slot-member-requires : tie.Need-blank-voter-slot-member-requires
-blank-voter-slot-member-requires c κs = search needs
-
-same-voter-slot-member-requires : tie.Need-same-voter-slot-member-requires
-same-voter-slot-member-requires c κs = search needs
+is-blank-voter-slot-member-requires : tie.Need-is-blank-voter-slot-member-requires
+is-blank-voter-slot-member-requires c κs = search needs
 
 returns : tie.Need-returns
-returns c = rw (c .before .before .if1 .taken, ← c .before .blank-voter-slot-member .ensures) (c .same-voter-slot-member .ensures)
+returns c = rw (c .before .if1 .taken) (c .is-blank-voter-slot-member .ensures)
 
 is-representable-member-requires : tie.Need-is-representable-member-requires
 is-representable-member-requires c κs = search needs
@@ -22,8 +19,7 @@ pub is-member-place-spec : {M : Type 1} → statement M
 is-member-place-spec =
     tie.close
     (tie.spec
-    blank-voter-slot-member-requires
-    same-voter-slot-member-requires
+    is-blank-voter-slot-member-requires
     returns
     is-representable-member-requires
     returns-2)

@@ -53,24 +53,20 @@ returns-4 c =
       c .before .if4 .taken,
     ) (c .is-representable-replacement .ensures)
 
-blank-voter-replacement-record-requires : tie.Need-blank-voter-replacement-record-requires
-blank-voter-replacement-record-requires c κs = search needs
-
-same-voter-replacement-record-requires : tie.Need-same-voter-replacement-record-requires
-same-voter-replacement-record-requires c κs = search needs
+is-blank-voter-replacement-record-requires : tie.Need-is-blank-voter-replacement-record-requires
+is-blank-voter-replacement-record-requires c κs = search needs
 
 returns-5 : tie.Need-returns-5
 unfolding representable
 returns-5 c =
-    let d = c .before .before .before .before in
+    let d = c .before .before .before in
     let e = d .before .before in
     rw (
       epoch-held (e .before .before),
       count-held e,
       sym (d .before .slot-places .ensures) ∙ not-false _ (d .if3 .left),
-      c .before .before .if4 .left,
-      ← c .before .blank-voter-replacement-record .ensures,
-    ) (c .same-voter-replacement-record .ensures)
+      c .before .if4 .left,
+    ) (c .is-blank-voter-replacement-record .ensures)
 
 pub is-representable-spec : {M : Type 1} → statement M
 is-representable-spec =
@@ -82,6 +78,5 @@ is-representable-spec =
     returns-3
     is-representable-replacement-requires
     returns-4
-    blank-voter-replacement-record-requires
-    same-voter-replacement-record-requires
+    is-blank-voter-replacement-record-requires
     returns-5)

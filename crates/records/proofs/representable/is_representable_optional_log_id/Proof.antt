@@ -8,17 +8,14 @@ returns : tie.Need-returns
 unfolding representableOptionalLogId
 returns c = rw (c .if1 .taken)
 
-blank-voter-slot-log-id-requires : tie.Need-blank-voter-slot-log-id-requires
-blank-voter-slot-log-id-requires c κs = search needs
-
-same-voter-slot-log-id-requires : tie.Need-same-voter-slot-log-id-requires
-same-voter-slot-log-id-requires c κs = search needs
+is-blank-voter-slot-log-id-requires : tie.Need-is-blank-voter-slot-log-id-requires
+is-blank-voter-slot-log-id-requires c κs = search needs
 
 returns-2 : tie.Need-returns-2
 unfolding representableOptionalLogId
-returns-2 c = rw (c .before .before .before .if1 .left, ← c .before .blank-voter-slot-log-id .ensures) (c .same-voter-slot-log-id .ensures)
+returns-2 c = rw (c .before .before .if1 .left) (c .is-blank-voter-slot-log-id .ensures)
 
 pub is-representable-optional-log-id-spec : {M : Type 1} → statement M
 is-representable-optional-log-id-spec =
     tie.close
-    (tie.spec returns blank-voter-slot-log-id-requires same-voter-slot-log-id-requires returns-2)
+    (tie.spec returns is-blank-voter-slot-log-id-requires returns-2)

@@ -41,22 +41,14 @@ returns-3 c =
     let d = c .before .before .before in
     rw (member-held (d .before .before), phase-held d, c .before .if3 .taken) (c .is-representable-result .ensures)
 
-blank-voter-replacement-result-requires : tie.Need-blank-voter-replacement-result-requires
-blank-voter-replacement-result-requires c κs = search needs
-
-same-voter-replacement-result-requires : tie.Need-same-voter-replacement-result-requires
-same-voter-replacement-result-requires c κs = search needs
+is-blank-voter-replacement-result-requires : tie.Need-is-blank-voter-replacement-result-requires
+is-blank-voter-replacement-result-requires c κs = search needs
 
 returns-4 : tie.Need-returns-4
 unfolding representableSlotRecord
 returns-4 c =
-    let d = c .before .before .before .before in
-    rw (
-      member-held (d .before .before),
-      phase-held d,
-      c .before .before .if3 .left,
-      ← c .before .blank-voter-replacement-result .ensures,
-    ) (c .same-voter-replacement-result .ensures)
+    let d = c .before .before .before in
+    rw (member-held (d .before .before), phase-held d, c .before .if3 .left) (c .is-blank-voter-replacement-result .ensures)
 
 pub is-representable-slot-record-spec : {M : Type 1} → statement M
 is-representable-slot-record-spec =
@@ -67,6 +59,5 @@ is-representable-slot-record-spec =
     returns-2
     is-representable-result-requires
     returns-3
-    blank-voter-replacement-result-requires
-    same-voter-replacement-result-requires
+    is-blank-voter-replacement-result-requires
     returns-4)

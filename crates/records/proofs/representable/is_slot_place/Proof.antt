@@ -3,14 +3,11 @@ use borrow.Author.Needs.{needs}
 use Rattle.records.proofs.representable.is_slot_place.Statement.{statement}
 use Rattle.records.proofs.representable.is_slot_place.Tie as tie
 
-blank-voter-slot-record-requires : tie.Need-blank-voter-slot-record-requires
-blank-voter-slot-record-requires c κs = search needs
-
-same-voter-slot-record-requires : tie.Need-same-voter-slot-record-requires
-same-voter-slot-record-requires c κs = search needs
+is-blank-voter-slot-record-requires : tie.Need-is-blank-voter-slot-record-requires
+is-blank-voter-slot-record-requires c κs = search needs
 
 returns : tie.Need-returns
-returns c = rw (c .before .before .if1 .taken, ← c .before .blank-voter-slot-record .ensures) (c .same-voter-slot-record .ensures)
+returns c = rw (c .before .if1 .taken) (c .is-blank-voter-slot-record .ensures)
 
 is-representable-slot-record-requires : tie.Need-is-representable-slot-record-requires
 is-representable-slot-record-requires c κs = search needs
@@ -22,8 +19,7 @@ pub is-slot-place-spec : {M : Type 1} → statement M
 is-slot-place-spec =
     tie.close
     (tie.spec
-    blank-voter-slot-record-requires
-    same-voter-slot-record-requires
+    is-blank-voter-slot-record-requires
     returns
     is-representable-slot-record-requires
     returns-2)

@@ -9,14 +9,11 @@ is-representable-snapshot-id-requires c κs = search needs
 returns : tie.Need-returns
 returns c = rw (c .before .before .if1 .taken) (c .is-representable-snapshot-id .ensures)
 
-blank-voter-snapshot-evidence-requires : tie.Need-blank-voter-snapshot-evidence-requires
-blank-voter-snapshot-evidence-requires c κs = search needs
-
-same-voter-snapshot-evidence-requires : tie.Need-same-voter-snapshot-evidence-requires
-same-voter-snapshot-evidence-requires c κs = search needs
+is-blank-voter-snapshot-evidence-requires : tie.Need-is-blank-voter-snapshot-evidence-requires
+is-blank-voter-snapshot-evidence-requires c κs = search needs
 
 returns-2 : tie.Need-returns-2
-returns-2 c = rw (c .before .before .if1 .left, ← c .before .blank-voter-snapshot-evidence .ensures) (c .same-voter-snapshot-evidence .ensures)
+returns-2 c = rw (c .before .if1 .left) (c .is-blank-voter-snapshot-evidence .ensures)
 
 pub is-snapshot-part-spec : {M : Type 1} → statement M
 is-snapshot-part-spec =
@@ -24,6 +21,5 @@ is-snapshot-part-spec =
     (tie.spec
     is-representable-snapshot-id-requires
     returns
-    blank-voter-snapshot-evidence-requires
-    same-voter-snapshot-evidence-requires
+    is-blank-voter-snapshot-evidence-requires
     returns-2)

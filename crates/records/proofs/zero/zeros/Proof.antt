@@ -1,4 +1,4 @@
--- `records::representable::zeros` meets its contract: the answer so far is that of the bytes passed. Assumes nothing.
+-- `records::zero::zeros` meets its contract: the answer so far is that of the bytes passed. Written by scripts/records.py. Assumes nothing.
 use mathlib.Core.Path.{_≡_, refl, sym, ap, _∙_}
 use mathlib.Core.Bool.{Bool, _&&_}
 use Prim.Native.Nat.{_≤_, _<_, _-_}
@@ -8,8 +8,8 @@ use lib.Seq.{take-all}
 use Rattle.identity.specs.Text.{all as every}
 use Rattle.identity.specs.TextLaws.{all-more}
 use Rattle.records.specs.Representable.{isZero}
-use Rattle.records.proofs.representable.zeros.Statement.{statement}
-use Rattle.records.proofs.representable.zeros.Tie as tie
+use Rattle.records.proofs.zero.zeros.Statement.{statement}
+use Rattle.records.proofs.zero.zeros.Tie as tie
 
 abbrev Inv-loop : tie.InvT-loop
 Inv-loop bytes all₀ i₀ all i = (i ≤ length bytes) × (all ≡ every isZero (take i bytes))
@@ -44,5 +44,4 @@ returns c =
 
 pub zeros-spec : {M : Type 1} → statement M
 zeros-spec =
-    tie.close
-    (tie.spec Inv-loop μ-loop loop-holds shared-slice-read-all add-i loop-less loop-again returns)
+    tie.close (tie.spec Inv-loop μ-loop loop-holds shared-slice-read-all add-i loop-less loop-again returns)
