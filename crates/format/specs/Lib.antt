@@ -1,0 +1,5 @@
+pub mod Res
+pub mod Codec
+pub mod Num
+pub mod List
+pub mod Through

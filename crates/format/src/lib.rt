@@ -1,0 +1,1 @@
+// The algebra of byte formats: all of it stands in specs/.
