@@ -7,14 +7,16 @@ use mathlib.Core.Bool.{Bool, true, false, not, _&&_, and-eq-true-iff, and-false}
 use native.Mathlib.Numerals.{add-one}
 use native.Mathlib.Omega.{arith}
 use lib.Dec.{eqb, leb, ltb}
-use borrow.Author.Tests.{eqb-true, leb-true, not-true, not-false}
+use borrow.Author.Tests.{eqb-true, leb-true, ltb-true, not-true, not-false}
 use Rattle.identity.specs.Answer.{numberOf, isAccepted}
 use Rattle.identity.specs.AnswerLaws.{number-injective}
+use Rattle.identity.specs.Text.{isName}
 use Rattle.identity.specs.declared.answer.Answer.{Answer}
-use Rattle.identity.specs.declared.answer.Answer.the-variants.{Accepted}
+use Rattle.identity.specs.declared.answer.Answer.the-variants.{Accepted, InvalidRecord}
 use Rattle.records.specs.Records.{allBelow, slotAt, memberAt}
 use Rattle.records.specs.RecordsLaws.{allBelow-true}
-use Rattle.records.specs.Validation.{validCount, distinctResults, claimsOf, validateMember, validateMembers}
+use Rattle.records.specs.Validation.{validCount, textOf, validAttestation, validOperation, distinctResults, claimsOf, validateMember, validateMembers, validateOperation}
+use Rattle.records.specs.declared.records.LostVoterAttestationV1.{LostVoterAttestationV1}
 use Rattle.records.specs.declared.records.VoterSlotTable.{VoterSlotTable}
 use Rattle.records.specs.declared.validation.Claims.{Claims}
 
@@ -33,6 +35,34 @@ pub count-small : (n : ℕ) → validCount n ≡ true → n ≤ 9
 count-small n h =
     let e = and-eq-true-iff (ltb 0 n) (leb n 9 && eqb (n % 2) 1) .0 h in
     leb-true n 9 (and-eq-true-iff (leb n 9) (eqb (n % 2) 1) .0 (e .1) .0)
+
+pub count-some : (n : ℕ) → validCount n ≡ true → 0 < n
+count-some n h = ltb-true 0 n (and-eq-true-iff (ltb 0 n) (leb n 9 && eqb (n % 2) 1) .0 h .0)
+
+-- ---- an attestation whose names are valid
+
+-- Both names are: what is looked at where the table lies, before the rest of the open request.
+pub record NamesHold (a : LostVoterAttestationV1) : Type 0 where
+  pub candidate : isName (textOf (a .«candidate_spiffe_id»)) ≡ true
+  pub controller : isName (textOf (a .«controller_spiffe_id»)) ≡ true
+
+-- the numbers decide then
+pub names-hold : (a : LostVoterAttestationV1) (t : Bool) → NamesHold a
+    → t ≡ (ltb 0 (a .«admission_generation»)
+    && (leb (a .«observation_start_ms») (a .«decision_ms»)
+    && (leb (a .«decision_ms») (a .«issued_ms») && ltb (a .«issued_ms») (a .«expires_ms»))))
+    → t ≡ validAttestation a
+unfolding validAttestation
+names-hold a t h e = rw (h .candidate, h .controller) e
+
+-- a name that is not valid refuses the open request
+pub candidate-fails : (t : VoterSlotTable) → isName (textOf (t .replacement .attestation .«candidate_spiffe_id»)) ≡ false → validateOperation t ≡ InvalidRecord
+unfolding validateOperation validOperation validAttestation
+candidate-fails t h = rw h
+
+pub controller-fails : (t : VoterSlotTable) → isName (textOf (t .replacement .attestation .«controller_spiffe_id»)) ≡ false → validateOperation t ≡ InvalidRecord
+unfolding validateOperation validOperation validAttestation
+controller-fails t h = rw (h, and-false (isName (textOf (t .replacement .attestation .«candidate_spiffe_id»))))
 
 -- ---- the receipts
 

@@ -56,27 +56,25 @@ pub fn is_representable(table: VoterSlotTable) -> bool
     is_blank_voter_replacement_record(replacement)
 }
 
-// The nine places: a slot in each below the count, and a blank behind it.
+// The nine places: a slot in each below the count, and a blank behind it. A place is copied out in
+// the arm that looks at it, so that no field is read for nothing.
 fn slot_places(table: VoterSlotTable) -> bool
     ensures { λ r. ⌜ r ≡ allBelow (λ i. slotPlace (leb (table .count) i) (slotAt table i)) 9 ⌝ }
 {
+    let slots = table.slots;
     let mut all = true;
     let mut i = 0;
     while i < 9 {
-        let slot = table.slots[i];
-        all = all & is_slot_place(table.count <= i, slot);
+        if table.count <= i {
+            let slot = slots[i];
+            all = all & is_blank_voter_slot_record(slot);
+        } else {
+            let slot = slots[i];
+            all = all & is_representable_slot_record(slot);
+        }
         i += 1;
     }
     all
-}
-
-fn is_slot_place(behind: bool, slot: VoterSlotRecord) -> bool
-    ensures { λ r. ⌜ r ≡ slotPlace behind slot ⌝ }
-{
-    if behind {
-        return is_blank_voter_slot_record(slot);
-    }
-    is_representable_slot_record(slot)
 }
 
 // Whether the Rust types can hold the slot's record.

@@ -98,12 +98,14 @@ fn slots_succeed(new: VoterSlotTable, old: VoterSlotTable) -> bool
     requires { ⌜ new .count ≤ 9 ⌝ }
     ensures { λ r. ⌜ r ≡ allBelow (λ i. slotSucceeds (slotAt new i) (slotAt old i)) (new .count) ⌝ }
 {
+    let slots = new.slots;
+    let old_slots = old.slots;
     let mut all = true;
     let mut i = 0;
-    while i < 9 {
-        let slot = new.slots[i];
-        let old_slot = old.slots[i];
-        all = all & ((new.count <= i) | slot_succeeds(slot, old_slot));
+    while i < new.count {
+        let slot = slots[i];
+        let old_slot = old_slots[i];
+        all = all & slot_succeeds(slot, old_slot);
         i += 1;
     }
     all
@@ -149,11 +151,12 @@ fn replacement_succeeds(new: VoterSlotTable, old: VoterSlotTable) -> Answer
     }
     let request = new.replacement.attestation.request_id;
     let old_request = old.replacement.attestation.request_id;
-    let operation = old.replacement;
     if new.has_replacement & same16(request, old_request) {
         let successor = new.replacement;
+        let operation = old.replacement;
         return kept(request_succeeds(successor, operation));
     }
+    let operation = old.replacement;
     ended_succeeds(new, operation)
 }
 
@@ -190,7 +193,8 @@ fn ended_succeeds(new: VoterSlotTable, old: VoterReplacementRecord) -> Answer
     if expected == MAX_VOTER_INCARNATION {
         return Answer::IncarnationExhausted;
     }
-    let slot = new.slots[i];
+    let slots = new.slots;
+    let slot = slots[i];
     let receipt = slot.last_result;
     kept(slot.has_last_result & request_ended(new.configuration_epoch, old, receipt))
 }
@@ -200,10 +204,11 @@ fn slot_index(table: VoterSlotTable, slot: u16) -> usize
     requires { ⌜ table .count ≤ 9 ⌝ }
     ensures { λ r. ⌜ r ≡ slotIndex table slot ⌝ }
 {
+    let slots = table.slots;
     let count = table.count;
     let mut i = 0;
     while i < count {
-        if table.slots[i].member.identity.slot == slot {
+        if slots[i].member.identity.slot == slot {
             return i;
         }
         i += 1;

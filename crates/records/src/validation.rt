@@ -3,14 +3,16 @@
 // Ported from crates/opc-consensus/src/voter_slots/validation.rs of openpacketcore-sdk, commit
 // 717de332e7, Apache-2.0 (see NOTICE). Changed: a check that can only give `InvalidRecord` answers
 // yes or no; the test for 30 stands in front; `validate_successor_of` is in successor.rt.
+ghost use mathlib.Core.Bool.{_&&_};
 ghost use mathlib.Core.Path.{_≡_};
 ghost use Prim.Native.Nat.{_+_, _-_, _<_, _≤_};
-ghost use lib.Dec.{eqb, ltb};
+ghost use lib.Dec.{eqb, leb, ltb};
 ghost use lib.ListN.{getD, take};
 ghost use Rattle.identity.specs.Text.{isName};
 ghost use Rattle.identity.specs.declared.answer.Answer.the-variants.{Accepted};
 ghost use Rattle.records.specs.Records.{allBelow, slotAt, memberAt, noSlotRecord, voting};
 ghost use Rattle.records.specs.Validation.{requireOf, validCount, validConfiguration, validAttestation, isActive, validResult, validSlot, distinctResults, validSlots, targetPhase, validOperationHead, isCurrentEpoch, validOperation, claimsOf, supersededReceipt, retiredMember, validTarget, otherMember, otherRequest, validateMember, validateMembers, hasTarget, validateOperation, validity, validate};
+ghost use Rattle.records.specs.ValidationLaws.{NamesHold};
 use crate::equality::same_voter_slot_log_id;
 use crate::equality::same_voter_slot_member;
 use crate::equality::same16;
@@ -26,7 +28,6 @@ use crate::records::MAX_FIXED_VOTER_SLOTS;
 use crate::records::PENDING;
 use crate::records::SNAPSHOT_INSTALLED;
 use crate::records::SUPERSEDED;
-use crate::records::SpiffeId;
 use crate::records::UNIFORM;
 use crate::records::VOTING;
 use crate::records::VoterConfiguration;
@@ -105,30 +106,48 @@ fn members_rise(configuration: VoterConfiguration) -> bool
 pub fn is_valid_attestation(attestation: LostVoterAttestationV1) -> bool
     ensures { λ r. ⌜ r ≡ validAttestation attestation ⌝ }
 {
-    let candidate = attestation.candidate_spiffe_id;
-    if !is_valid_spiffe_id(candidate) {
+    let candidate = attestation.candidate_spiffe_id.bytes;
+    if !is_valid_spiffe_id(attestation.candidate_spiffe_id.len, candidate) {
         return false;
     }
-    let controller = attestation.controller_spiffe_id;
-    if !is_valid_spiffe_id(controller) {
+    let controller = attestation.controller_spiffe_id.bytes;
+    if !is_valid_spiffe_id(attestation.controller_spiffe_id.len, controller) {
         return false;
     }
-    (0 < attestation.admission_generation)
-        & ((attestation.observation_start_ms <= attestation.decision_ms)
-            & ((attestation.decision_ms <= attestation.issued_ms)
-                & (attestation.issued_ms < attestation.expires_ms)))
+    are_valid_times(
+        attestation.admission_generation,
+        attestation.observation_start_ms,
+        attestation.decision_ms,
+        attestation.issued_ms,
+        attestation.expires_ms,
+    )
 }
 
-// A length that its field cannot hold gives no; the test for 30 has ruled it out before.
-fn is_valid_spiffe_id(id: SpiffeId) -> bool
-    ensures { λ r. ⌜ r ≡ isName (take (id .len) (id .bytes)) ⌝ }
+// A length that its field cannot hold gives no; the test for 30 has ruled it out before. The bytes
+// come by themselves: of a record the caller would make a copy first.
+fn is_valid_spiffe_id(len: usize, bytes: [u8; 2048]) -> bool
+    ensures { λ r. ⌜ r ≡ isName (take len bytes) ⌝ }
 {
-    let len = id.len;
     if 2048 < len {
-        return is_name(&id.bytes);
+        return is_name(&bytes);
     }
-    let bytes = &id.bytes[..];
-    is_name(&bytes[..len])
+    let text = &bytes[..];
+    is_name(&text[..len])
+}
+
+// The numbers of an attestation: what was observed, decided and issued came in that order.
+fn are_valid_times(
+    generation: u64,
+    observation_start_ms: u64,
+    decision_ms: u64,
+    issued_ms: u64,
+    expires_ms: u64,
+) -> bool
+    ensures { λ r. ⌜ r ≡ (ltb 0 generation && (leb «observation_start_ms» «decision_ms» && (leb «decision_ms» «issued_ms» && ltb «issued_ms» «expires_ms»))) ⌝ }
+{
+    (0 < generation)
+        & ((observation_start_ms <= decision_ms)
+            & ((decision_ms <= issued_ms) & (issued_ms < expires_ms)))
 }
 
 // `VoterSlotTable::validate`, after 30.
@@ -149,23 +168,38 @@ pub fn validate_representable(table: VoterSlotTable) -> Answer
     if !are_valid_slots(table) {
         return Answer::InvalidRecord;
     }
-    if table.has_replacement {
-        return validate_operation(table);
+    if !table.has_replacement {
+        return require(all_voting(table));
     }
-    if !all_voting(table) {
+    // The names are looked at here, where the table lies: a function below would copy it for them.
+    let candidate = table.replacement.attestation.candidate_spiffe_id.bytes;
+    if !is_valid_spiffe_id(
+        table.replacement.attestation.candidate_spiffe_id.len,
+        candidate,
+    ) {
         return Answer::InvalidRecord;
     }
-    Answer::Accepted
+    let controller = table.replacement.attestation.controller_spiffe_id.bytes;
+    if !is_valid_spiffe_id(
+        table.replacement.attestation.controller_spiffe_id.len,
+        controller,
+    ) {
+        return Answer::InvalidRecord;
+    }
+    validate_operation(table)
 }
 
+// Here and in each loop below the slots are taken out first: what an index that is no constant
+// points into is copied whole, and the table has 8.4 KB.
 fn all_voting(table: VoterSlotTable) -> bool
     requires { ⌜ table .count ≤ 9 ⌝ }
     ensures { λ r. ⌜ r ≡ allBelow (λ i. eqb (slotAt table i .phase) voting) (table .count) ⌝ }
 {
+    let slots = table.slots;
     let mut all = true;
     let mut i = 0;
-    while i < 9 {
-        all = all & ((table.count <= i) | (table.slots[i].phase == VOTING));
+    while i < table.count {
+        all = all & (slots[i].phase == VOTING);
         i += 1;
     }
     all
@@ -185,15 +219,14 @@ fn are_valid_slots(table: VoterSlotTable) -> bool
 }
 
 fn slots_rise(table: VoterSlotTable) -> bool
-    requires { ⌜ table .count ≤ 9 ⌝ }
+    requires { ⌜ (0 < table .count) × (table .count ≤ 9) ⌝ }
     ensures { λ r. ⌜ r ≡ allBelow (λ i. ltb (slotAt table i .member .identity .slot) (slotAt table (i + 1) .member .identity .slot)) (table .count - 1) ⌝ }
 {
+    let slots = table.slots;
     let mut all = true;
     let mut i = 0;
-    while i < 8 {
-        all = all
-            & ((table.count <= i + 1)
-                | (table.slots[i].member.identity.slot < table.slots[i + 1].member.identity.slot));
+    while i + 1 < table.count {
+        all = all & (slots[i].member.identity.slot < slots[i + 1].member.identity.slot);
         i += 1;
     }
     all
@@ -203,15 +236,14 @@ fn each_slot_valid(table: VoterSlotTable) -> bool
     requires { ⌜ table .count ≤ 9 ⌝ }
     ensures { λ r. ⌜ r ≡ allBelow (λ i. validSlot (table .revision) (table .«configuration_epoch») (isActive table (slotAt table i)) (slotAt table i)) (table .count) ⌝ }
 {
+    let slots = table.slots;
     let mut all = true;
     let mut i = 0;
-    while i < 9 {
-        let slot = table.slots[i];
+    while i < table.count {
+        let slot = slots[i];
         let active = table.has_replacement
             & (table.replacement.attestation.slot == slot.member.identity.slot);
-        all = all
-            & ((table.count <= i)
-                | is_valid_slot(table.revision, table.configuration_epoch, active, slot));
+        all = all & is_valid_slot(table.revision, table.configuration_epoch, active, slot);
         i += 1;
     }
     all
@@ -256,9 +288,9 @@ fn results_distinct(table: VoterSlotTable) -> bool
     let slots = table.slots;
     let mut all = true;
     let mut i = 0;
-    while i < 9 {
-        if table.slots[i].has_last_result {
-            all = all & ((table.count <= i) | distinct_below(slots, i));
+    while i < table.count {
+        if slots[i].has_last_result {
+            all = all & distinct_below(slots, i);
         }
         i += 1;
     }
@@ -289,9 +321,10 @@ fn are_distinct_results(a: VoterSlotRecord, b: VoterSlotRecord) -> bool
     !(a.has_last_result & (b.has_last_result & same))
 }
 
-// `VoterSlotTable::validate_operation`.
+// `VoterSlotTable::validate_operation`, past the names.
 fn validate_operation(table: VoterSlotTable) -> Answer
     requires { ⌜ table .count ≤ 9 ⌝ }
+    requires { ⌜ NamesHold (table .replacement .attestation) ⌝ }
     ensures { λ r. ⌜ r ≡ validateOperation table ⌝ }
 {
     if !is_valid_operation(table) {
@@ -301,18 +334,21 @@ fn validate_operation(table: VoterSlotTable) -> Answer
     if !accepted(answer) {
         return answer;
     }
-    if !has_target(table) {
-        return Answer::InvalidRecord;
-    }
-    Answer::Accepted
+    require(has_target(table))
 }
 
-// The open request itself, and beside the table's head.
+// The open request itself, past the names, and beside the table's head.
 fn is_valid_operation(table: VoterSlotTable) -> bool
+    requires { ⌜ NamesHold (table .replacement .attestation) ⌝ }
     ensures { λ r. ⌜ r ≡ validOperation table (table .replacement) ⌝ }
 {
-    let attestation = table.replacement.attestation;
-    if !is_valid_attestation(attestation) {
+    if !are_valid_times(
+        table.replacement.attestation.admission_generation,
+        table.replacement.attestation.observation_start_ms,
+        table.replacement.attestation.decision_ms,
+        table.replacement.attestation.issued_ms,
+        table.replacement.attestation.expires_ms,
+    ) {
         return false;
     }
     let predecessor = table.replacement.predecessor;
@@ -382,14 +418,14 @@ fn validate_members(table: VoterSlotTable) -> Answer
     ensures { λ r. ⌜ r ≡ validateMembers table (table .count) ⌝ }
 {
     let claims = claims_of(table);
-    let predecessor = table.replacement.predecessor;
-    let successor = table.replacement.successor;
-    let count = table.count;
+    let predecessor = table.replacement.predecessor.members;
+    let successor = table.replacement.successor.members;
+    let slots = table.slots;
     let mut i = 0;
-    while i < count {
-        let slot = table.slots[i];
-        let old = predecessor.members[i];
-        let new = successor.members[i];
+    while i < table.count {
+        let slot = slots[i];
+        let old = predecessor[i];
+        let new = successor[i];
         let answer = validate_member(claims, slot, old, new);
         if !accepted(answer) {
             return answer;
@@ -403,12 +439,11 @@ fn has_target(table: VoterSlotTable) -> bool
     requires { ⌜ table .count ≤ 9 ⌝ }
     ensures { λ r. ⌜ r ≡ hasTarget table ⌝ }
 {
+    let slots = table.slots;
     let mut none = true;
     let mut i = 0;
-    while i < 9 {
-        none = none
-            & ((table.count <= i)
-                | !(table.slots[i].member.identity.slot == table.replacement.attestation.slot));
+    while i < table.count {
+        none = none & !(slots[i].member.identity.slot == table.replacement.attestation.slot);
         i += 1;
     }
     !none

@@ -20,7 +20,10 @@ kept-requires c κs = search needs
 returns-2 : tie.Need-returns-2
 unfolding replacementSucceeds
 returns-2 c =
-    rw (c .before .before .before .before .before .before .before .before .before .if1 .left, ← c .before .before .before .before .before .same16 .ensures, c .before .before .before .if2 .taken, ← c .before .request-succeeds .ensures) (c .kept .ensures)
+    let r = c .before in
+    let e2 = r .before .before .before in
+    let s = e2 .before .before in
+    rw (s .before .before .before .if1 .left, ← s .same16 .ensures, e2 .if2 .taken, ← r .request-succeeds .ensures) (c .kept .ensures)
 
 ended-succeeds-requires : tie.Need-ended-succeeds-requires
 ended-succeeds-requires c κs = search needs
@@ -28,7 +31,9 @@ ended-succeeds-requires c κs = search needs
 returns-3 : tie.Need-returns-3
 unfolding replacementSucceeds
 returns-3 c =
-    rw (c .before .before .before .before .before .before .before .if1 .left, ← c .before .before .before .same16 .ensures, c .before .if2 .left) (c .ended-succeeds .ensures)
+    let e2 = c .before .before in
+    let s = e2 .before .before in
+    rw (s .before .before .before .if1 .left, ← s .same16 .ensures, e2 .if2 .left) (c .ended-succeeds .ensures)
 
 pub replacement-succeeds-spec : {M : Type 1} → statement M
 replacement-succeeds-spec =

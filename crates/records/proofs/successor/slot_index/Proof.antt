@@ -2,28 +2,30 @@
 use Prim.Native.Nat.{ℕ, _≤_, _-_}
 use mathlib.Core.Path.{_≡_, sym, ap, _∙_}
 use mathlib.Core.Bool.{Bool}
+use mathlib.Core.List.{List}
 use native.Mathlib.Nat.{sub-zero}
 use native.Mathlib.Omega.{arith}
 use lib.Dec.{eqb}
+use lib.ListN.{getD}
 use borrow.Author.Tests.{eq-eqb, ne-eqb}
-use Rattle.records.specs.Records.{firstFrom, slotAt}
+use Rattle.records.specs.Records.{firstFrom, noSlotRecord}
 use Rattle.records.specs.RecordsLaws.{first-more, first-stop, first-none}
-use Rattle.records.specs.declared.records.VoterSlotTable.{VoterSlotTable}
+use Rattle.records.specs.declared.records.VoterSlotRecord.{VoterSlotRecord}
 use Rattle.records.proofs.successor.slot_index.Statement.{statement}
 use Rattle.records.proofs.successor.slot_index.Tie as tie
 
 -- the slot at a place has that number
-abbrev bears : VoterSlotTable → ℕ → ℕ → Bool
-bears t slot i = eqb (slotAt t i .member .identity .slot) slot
+abbrev bears : List VoterSlotRecord → ℕ → ℕ → Bool
+bears slots slot i = eqb (getD slots i noSlotRecord .member .identity .slot) slot
 
 abbrev Inv-loop : tie.InvT-loop
-Inv-loop slot table count i₀ i = ((i ≤ count) × (count ≤ 9)) × (firstFrom (bears table slot) count 0 ≡ firstFrom (bears table slot) (count - i) i)
+Inv-loop slot slots count i₀ i = ((i ≤ count) × (count ≤ 9)) × (firstFrom (bears slots slot) count 0 ≡ firstFrom (bears slots slot) (count - i) i)
 
 abbrev μ-loop : tie.MeasureT-loop
-μ-loop slot table count i₀ i = count - i
+μ-loop slot slots count i₀ i = count - i
 
 loop-holds : tie.Need-loop-holds Inv-loop μ-loop
-loop-holds c = ((omega arith, c .pre), ap (λ (n : ℕ). firstFrom (bears (c .args .t1) (c .args .slot)) n 0) (sym (sub-zero (c .args .t1 .count))))
+loop-holds c = ((omega arith, c .before .pre), ap (λ (n : ℕ). firstFrom (bears (c .before .args .table .slots) (c .before .args .slot)) n 0) (sym (sub-zero (c .before .args .table .count))))
 
 mul-if1 : tie.Need-mul-if1 Inv-loop μ-loop
 mul-if1 c = omega arith
@@ -34,7 +36,7 @@ element-copy-out-if1 c = omega arith
 returns : tie.Need-returns Inv-loop μ-loop
 returns c =
     let l = c .before .before in
-    sym (l .loop .inv .1 ∙ first-stop (bears (l .before .args .t1) (l .before .args .slot)) (l .before .args .t1 .count) (l .loop .i) (omega arith) (eq-eqb _ _ (c .if1 .taken)))
+    sym (l .loop .inv .1 ∙ first-stop (bears (l .before .before .args .table .slots) (l .before .before .args .slot)) (l .before .before .args .table .count) (l .loop .i) (omega arith) (eq-eqb _ _ (c .if1 .taken)))
 
 add-i : tie.Need-add-i Inv-loop μ-loop
 add-i c = omega arith
@@ -45,12 +47,12 @@ loop-less c = omega arith
 loop-again : tie.Need-loop-again Inv-loop μ-loop
 loop-again c =
     let l = c .before .before in
-    ((omega arith, omega arith), l .loop .inv .1 ∙ first-more (bears (l .before .args .t1) (l .before .args .slot)) (l .before .args .t1 .count) (l .loop .i) (omega arith) (ne-eqb _ _ (c .if1 .left)))
+    ((omega arith, omega arith), l .loop .inv .1 ∙ first-more (bears (l .before .before .args .table .slots) (l .before .before .args .slot)) (l .before .before .args .table .count) (l .loop .i) (omega arith) (ne-eqb _ _ (c .if1 .left)))
 
 returns-2 : tie.Need-returns-2 Inv-loop μ-loop
 returns-2 c =
     let l = c .before in
-    sym (l .loop .inv .1 ∙ first-none (bears (l .before .args .t1) (l .before .args .slot)) (l .before .args .t1 .count) (l .loop .i) (omega arith))
+    sym (l .loop .inv .1 ∙ first-none (bears (l .before .before .args .table .slots) (l .before .before .args .slot)) (l .before .before .args .table .count) (l .loop .i) (omega arith))
 
 pub slot-index-spec : {M : Type 1} → statement M
 slot-index-spec =

@@ -1,21 +1,28 @@
 -- `records::successor::slots_succeed` meets its contract: the answer so far is that of the places passed. Assumes nothing.
 use Prim.Native.Nat.{ℕ, _≤_, _-_}
-use mathlib.Core.Path.{_≡_, refl, ap, _∙_}
-use mathlib.Core.Bool.{Bool, _||_}
+use mathlib.Core.Path.{_≡_, refl}
+use mathlib.Core.Bool.{Bool}
+use mathlib.Core.List.{List}
 use native.Mathlib.Omega.{arith}
-use lib.Dec.{leb}
+use lib.ListN.{getD}
 use borrow.Author.Needs.{needs}
-use Rattle.records.specs.Records.{allBelow, slotAt}
-use Rattle.records.specs.RecordsLaws.{allBelow-turn, allBelow-nine}
+use Rattle.records.specs.Records.{allBelow, slotAt, noSlotRecord}
+use Rattle.records.specs.RecordsLaws.{allBelow-turn}
 use Rattle.records.specs.Successor.{slotSucceeds}
+use Rattle.records.specs.declared.records.VoterSlotRecord.{VoterSlotRecord}
+use Rattle.records.specs.declared.records.VoterSlotTable.{VoterSlotTable}
 use Rattle.records.proofs.successor.slots_succeed.Statement.{statement}
 use Rattle.records.proofs.successor.slots_succeed.Tie as tie
 
+-- the test at a place
+abbrev testAt : VoterSlotTable → List VoterSlotRecord → ℕ → Bool
+testAt new old-slots i = slotSucceeds (slotAt new i) (getD old-slots i noSlotRecord)
+
 abbrev Inv-loop : tie.InvT-loop
-Inv-loop new old all₀ i₀ all i = (i ≤ 9) × (all ≡ allBelow (λ i. leb (new .count) i || slotSucceeds (slotAt new i) (slotAt old i)) i)
+Inv-loop new slots old-slots all₀ i₀ all i = (i ≤ new .count) × (all ≡ allBelow (testAt new old-slots) i)
 
 abbrev μ-loop : tie.MeasureT-loop
-μ-loop new old all₀ i₀ all i = 9 - i
+μ-loop new slots old-slots all₀ i₀ all i = new .count - i
 
 loop-holds : tie.Need-loop-holds Inv-loop μ-loop
 unfolding allBelow
@@ -24,14 +31,14 @@ loop-holds c = (omega arith, refl)
 mul-slot : tie.Need-mul-slot Inv-loop μ-loop
 mul-slot c = omega arith
 
-element-copy-out-slot : tie.Need-element-copy-out-slot Inv-loop μ-loop
-element-copy-out-slot c = omega arith
+array-copy-out-slot : tie.Need-array-copy-out-slot Inv-loop μ-loop
+array-copy-out-slot c = omega arith
 
 mul-old-slot : tie.Need-mul-old-slot Inv-loop μ-loop
 mul-old-slot c = omega arith
 
-element-copy-out-old-slot : tie.Need-element-copy-out-old-slot Inv-loop μ-loop
-element-copy-out-old-slot c = omega arith
+array-copy-out-old-slot : tie.Need-array-copy-out-old-slot Inv-loop μ-loop
+array-copy-out-old-slot c = omega arith
 
 slot-succeeds-requires : tie.Need-slot-succeeds-requires Inv-loop μ-loop
 slot-succeeds-requires c κs = search needs
@@ -44,19 +51,15 @@ loop-less c = omega arith
 
 loop-again : tie.Need-loop-again Inv-loop μ-loop
 loop-again c =
-    let l = c .before .before .before .before in
-    let new = l .before .args .t1 in
-    let old = l .before .args .t2 in
-    (omega arith, allBelow-turn (λ i. leb (new .count) i || slotSucceeds (slotAt new i) (slotAt old i)) (l .loop .i) _ _ (l .loop .inv .1) (ap (λ (t : Bool). leb (new .count) (l .loop .i) || t) (c .slot-succeeds .ensures)))
+    let l = c .before .before .before .before .before in
+    let s = l .before .before .before in
+    (omega arith, allBelow-turn (testAt (s .args .new) (s .args .old .slots)) (l .loop .i) _ _ (l .loop .inv .1) (c .slot-succeeds .ensures))
 
 returns : tie.Need-returns Inv-loop μ-loop
 returns c =
-    let l = c .before in
-    let new = l .before .args .t1 in
-    let old = l .before .args .t2 in
-    let e : l .loop .i ≡ 9 = omega arith in
-    let q : ℕ → Bool = λ i. leb (new .count) i || slotSucceeds (slotAt new i) (slotAt old i) in
-    l .loop .inv .1 ∙ (ap (allBelow q) e ∙ allBelow-nine (λ i. slotSucceeds (slotAt new i) (slotAt old i)) (new .count) 9 (l .before .pre))
+    let l = c .before .before in
+    let e : l .loop .i ≡ l .before .before .before .args .new .count = omega arith in
+    rw e at (l .loop .inv .1)
 
 pub slots-succeed-spec : {M : Type 1} → statement M
 slots-succeed-spec =
@@ -66,9 +69,9 @@ slots-succeed-spec =
     μ-loop
     loop-holds
     mul-slot
-    element-copy-out-slot
+    array-copy-out-slot
     mul-old-slot
-    element-copy-out-old-slot
+    array-copy-out-old-slot
     slot-succeeds-requires
     add-i
     loop-less

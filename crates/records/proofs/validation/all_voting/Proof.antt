@@ -1,11 +1,11 @@
 -- `records::validation::all_voting` meets its contract: the answer so far is that of the places passed. Assumes nothing.
-use mathlib.Core.Path.{_≡_, refl, _∙_}
-use mathlib.Core.Bool.{Bool, _||_}
+use mathlib.Core.Path.{_≡_, refl}
+use mathlib.Core.Bool.{Bool}
 use Prim.Native.Nat.{ℕ, _≤_, _-_}
 use native.Mathlib.Omega.{arith}
-use lib.Dec.{eqb, leb}
+use lib.Dec.{eqb}
 use Rattle.records.specs.Records.{allBelow, slotAt, voting}
-use Rattle.records.specs.RecordsLaws.{allBelow-turn, allBelow-nine}
+use Rattle.records.specs.RecordsLaws.{allBelow-turn}
 use Rattle.records.specs.declared.records.VoterSlotTable.{VoterSlotTable}
 use Rattle.records.proofs.validation.all_voting.Statement.{statement}
 use Rattle.records.proofs.validation.all_voting.Tie as tie
@@ -15,10 +15,10 @@ abbrev testAt : VoterSlotTable → ℕ → Bool
 testAt t i = eqb (slotAt t i .phase) voting
 
 abbrev Inv-loop : tie.InvT-loop
-Inv-loop table all₀ i₀ all i = (i ≤ 9) × (all ≡ allBelow (λ i. leb (table .count) i || testAt table i) i)
+Inv-loop table slots all₀ i₀ all i = (i ≤ table .count) × (all ≡ allBelow (testAt table) i)
 
 abbrev μ-loop : tie.MeasureT-loop
-μ-loop table all₀ i₀ all i = 9 - i
+μ-loop table slots all₀ i₀ all i = table .count - i
 
 loop-holds : tie.Need-loop-holds Inv-loop μ-loop
 unfolding allBelow
@@ -38,15 +38,14 @@ loop-less c = omega arith
 
 loop-again : tie.Need-loop-again Inv-loop μ-loop
 loop-again c =
-    let l = c .before in
+    let l = c .before .before in
     (omega arith, allBelow-turn _ (l .loop .i) _ _ (l .loop .inv .1) refl)
 
 returns : tie.Need-returns Inv-loop μ-loop
 returns c =
-    let l = c .before in
-    let t = l .before .args .t1 in
-    let e : l .loop .i ≡ 9 = omega arith in
-    l .loop .inv .1 ∙ rw e (allBelow-nine (testAt t) (t .count) 9 (omega arith))
+    let l = c .before .before in
+    let e : l .loop .i ≡ l .before .before .args .table .count = omega arith in
+    rw e at (l .loop .inv .1)
 
 pub all-voting-spec : {M : Type 1} → statement M
 all-voting-spec =

@@ -3,7 +3,7 @@ use native.Mathlib.Omega.{arith}
 use borrow.Author.Needs.{needs}
 use borrow.Author.Tests.{lt-ltb, le-ltb}
 use Rattle.records.specs.Validation.{validSlots}
-use Rattle.records.specs.ValidationLaws.{failed, held}
+use Rattle.records.specs.ValidationLaws.{failed, held, count-some}
 use Rattle.records.proofs.validation.are_valid_slots.Statement.{statement}
 use Rattle.records.proofs.validation.are_valid_slots.Tie as tie
 
@@ -22,7 +22,9 @@ returns-2 c =
     rw (held (e .before .is-valid-count .ensures) (e .if1 .left), le-ltb 0 (t .revision) (omega arith))
 
 slots-rise-requires : tie.Need-slots-rise-requires
-slots-rise-requires c κs = search needs
+slots-rise-requires c κs =
+    let e = c .before .before in
+    (count-some _ (held (e .before .is-valid-count .ensures) (e .if1 .left)), search needs)
 
 each-slot-valid-requires : tie.Need-each-slot-valid-requires
 each-slot-valid-requires c κs = search needs

@@ -1,12 +1,11 @@
 -- `records::validation::each_slot_valid` meets its contract: the answer so far is that of the places passed. Assumes nothing.
-use mathlib.Core.Path.{_≡_, refl, ap, _∙_}
-use mathlib.Core.Bool.{Bool, _||_}
+use mathlib.Core.Path.{_≡_, refl}
+use mathlib.Core.Bool.{Bool}
 use Prim.Native.Nat.{ℕ, _≤_, _-_}
 use native.Mathlib.Omega.{arith}
-use lib.Dec.{leb}
 use borrow.Author.Needs.{needs}
 use Rattle.records.specs.Records.{allBelow, slotAt}
-use Rattle.records.specs.RecordsLaws.{allBelow-turn, allBelow-nine}
+use Rattle.records.specs.RecordsLaws.{allBelow-turn}
 use Rattle.records.specs.Validation.{validSlot, isActive}
 use Rattle.records.specs.declared.records.VoterSlotTable.{VoterSlotTable}
 use Rattle.records.proofs.validation.each_slot_valid.Statement.{statement}
@@ -17,10 +16,10 @@ abbrev testAt : VoterSlotTable → ℕ → Bool
 testAt t i = validSlot (t .revision) (t .«configuration_epoch») (isActive t (slotAt t i)) (slotAt t i)
 
 abbrev Inv-loop : tie.InvT-loop
-Inv-loop table all₀ i₀ all i = (i ≤ 9) × (all ≡ allBelow (λ i. leb (table .count) i || testAt table i) i)
+Inv-loop table slots all₀ i₀ all i = (i ≤ table .count) × (all ≡ allBelow (testAt table) i)
 
 abbrev μ-loop : tie.MeasureT-loop
-μ-loop table all₀ i₀ all i = 9 - i
+μ-loop table slots all₀ i₀ all i = table .count - i
 
 loop-holds : tie.Need-loop-holds Inv-loop μ-loop
 unfolding allBelow
@@ -29,8 +28,8 @@ loop-holds c = (omega arith, refl)
 mul-slot : tie.Need-mul-slot Inv-loop μ-loop
 mul-slot c = omega arith
 
-element-copy-out-slot : tie.Need-element-copy-out-slot Inv-loop μ-loop
-element-copy-out-slot c = omega arith
+array-copy-out-slot : tie.Need-array-copy-out-slot Inv-loop μ-loop
+array-copy-out-slot c = omega arith
 
 is-valid-slot-requires : tie.Need-is-valid-slot-requires Inv-loop μ-loop
 is-valid-slot-requires c κs = search needs
@@ -43,16 +42,14 @@ loop-less c = omega arith
 
 loop-again : tie.Need-loop-again Inv-loop μ-loop
 loop-again c =
-    let l = c .before .before .before .before in
-    let t = l .before .args .t1 in
-    (omega arith, allBelow-turn _ (l .loop .i) _ _ (l .loop .inv .1) (ap (λ (b : Bool). leb (t .count) (l .loop .i) || b) (c .is-valid-slot .ensures)))
+    let l = c .before .before .before .before .before .before .before in
+    (omega arith, allBelow-turn (testAt (l .before .before .args .table)) (l .loop .i) _ _ (l .loop .inv .1) (c .is-valid-slot .ensures))
 
 returns : tie.Need-returns Inv-loop μ-loop
 returns c =
-    let l = c .before in
-    let t = l .before .args .t1 in
-    let e : l .loop .i ≡ 9 = omega arith in
-    l .loop .inv .1 ∙ rw e (allBelow-nine (testAt t) (t .count) 9 (omega arith))
+    let l = c .before .before in
+    let e : l .loop .i ≡ l .before .before .args .table .count = omega arith in
+    rw e at (l .loop .inv .1)
 
 pub each-slot-valid-spec : {M : Type 1} → statement M
 each-slot-valid-spec =
@@ -62,7 +59,7 @@ each-slot-valid-spec =
     μ-loop
     loop-holds
     mul-slot
-    element-copy-out-slot
+    array-copy-out-slot
     is-valid-slot-requires
     add-i
     loop-less

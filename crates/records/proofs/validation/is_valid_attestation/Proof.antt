@@ -1,7 +1,7 @@
 -- `records::validation::is_valid_attestation` meets its contract: the two names in turn, then the numbers. Assumes nothing.
 use borrow.Author.Needs.{needs}
 use Rattle.records.specs.Validation.{validAttestation}
-use Rattle.records.specs.ValidationLaws.{failed, held}
+use Rattle.records.specs.ValidationLaws.{failed, held, names-hold}
 use Rattle.records.proofs.validation.is_valid_attestation.Statement.{statement}
 use Rattle.records.proofs.validation.is_valid_attestation.Tie as tie
 
@@ -21,12 +21,16 @@ returns-2 c =
     let e = c .before .before .before in
     rw (held (e .before .is-valid-spiffe-id .ensures) (e .if1 .left), failed (c .before .is-valid-spiffe-id2 .ensures) (c .if2 .taken))
 
+are-valid-times-requires : tie.Need-are-valid-times-requires
+are-valid-times-requires c κs = search needs
+
 returns-3 : tie.Need-returns-3
-unfolding validAttestation
 returns-3 c =
-    let f = c .before .before .before .before in
+    let f = c .before in
     let e = f .before .before .before in
-    rw (held (e .before .is-valid-spiffe-id .ensures) (e .if1 .left), held (f .before .is-valid-spiffe-id2 .ensures) (f .if2 .left))
+    names-hold _ _
+    (record { candidate = held (e .before .is-valid-spiffe-id .ensures) (e .if1 .left); controller = held (f .before .is-valid-spiffe-id2 .ensures) (f .if2 .left) })
+    (c .are-valid-times .ensures)
 
 pub is-valid-attestation-spec : {M : Type 1} → statement M
 is-valid-attestation-spec =
@@ -36,4 +40,5 @@ is-valid-attestation-spec =
     returns
     is-valid-spiffe-id-requires-2
     returns-2
+    are-valid-times-requires
     returns-3)

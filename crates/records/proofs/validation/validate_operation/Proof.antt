@@ -29,6 +29,9 @@ returns-2 c =
 has-target-requires : tie.Need-has-target-requires
 has-target-requires c κs = search needs
 
+require-requires : tie.Need-require-requires
+require-requires c κs = search needs
+
 returns-3 : tie.Need-returns-3
 unfolding validateOperation
 returns-3 c =
@@ -37,19 +40,8 @@ returns-3 c =
     rw (
       held (e1 .before .is-valid-operation .ensures) (e1 .if1 .left),
       passed _ _ _ (e2 .before .before .validate-members .ensures) (e2 .before .accepted .ensures) (e2 .if2 .left),
-      failed (c .before .has-target .ensures) (c .if3 .taken),
-    )
-
-returns-4 : tie.Need-returns-4
-unfolding validateOperation
-returns-4 c =
-    let e2 = c .before .before in
-    let e1 = e2 .before .before .before in
-    rw (
-      held (e1 .before .is-valid-operation .ensures) (e1 .if1 .left),
-      passed _ _ _ (e2 .before .before .validate-members .ensures) (e2 .before .accepted .ensures) (e2 .if2 .left),
-      held (c .before .has-target .ensures) (c .if3 .left),
-    )
+      ← c .before .has-target .ensures,
+    ) (c .require .ensures)
 
 pub validate-operation-spec : {M : Type 1} → statement M
 validate-operation-spec =
@@ -61,5 +53,5 @@ validate-operation-spec =
     accepted-requires
     returns-2
     has-target-requires
-    returns-3
-    returns-4)
+    require-requires
+    returns-3)
