@@ -286,6 +286,11 @@ unfolding all
 all-each [] h = tt
 all-each (p ∷ []) h = (h, tt)
 all-each (p ∷ (q ∷ ps)) h = let k = and-eq-true-iff p (all (q ∷ ps)) .0 h in (k .0, all-each (q ∷ ps) (k .1))
+
+-- the first test fails
+pub all-first : (p q : Bool) (ps : List Bool) → p ≡ false → all (p ∷ (q ∷ ps)) ≡ false
+unfolding all
+all-first p q ps h = rw h
 ''', '''
 -- ---- lists
 
@@ -646,6 +651,11 @@ def zero_of(field):
     }[field.kind]()
 
 
+def is_apart(fields):
+    """Whether the first field is tested by itself: three arrays stand in front. LLVM would make one test of them, of 80 bytes, and take it apart byte by byte."""
+    return [field.kind for field in fields[:3]] == ['bytes'] * 3
+
+
 def zero_test(field):
     """The test of a field, and the lines before it."""
     if field.kind == 'number':
@@ -660,7 +670,8 @@ def zero_test(field):
 def zero_code():
     parts = ['''
 // Whether a record is blank, field by field, with no blank made. %s
-// No loop is left early, so that many bytes are compared at once.
+// No loop is left early, so that many bytes are compared at once. Where three arrays stand in front,
+// the first is tested by itself: LLVM would make one test of them and take it apart byte by byte.
 ghost use mathlib.Core.Path.{_≡_};
 ghost use lib.ListN.{replicate};
 ghost use Rattle.identity.specs.Text.{all};
@@ -682,7 +693,10 @@ pub fn zeros(bytes: &[u8]) -> bool
 }
 ''']
     for name in PARTS:
-        tests, lets = zip(*(zero_test(field) for field in RECORDS[name]))
+        fields = RECORDS[name]
+        tests, lets = zip(*(zero_test(field) for field in fields))
+        if is_apart(fields):
+            tests, lets = tests[1:], ('    if !zeros(&x.%s) {\n        return false;\n    }\n' % fields[0].name,) + lets[1:]
         answer = tests[-1]
         for one in reversed(tests[:-1]):
             answer = '%s & (%s)' % (one, answer) if ' & ' in answer else '%s & %s' % (one, answer)
@@ -734,6 +748,15 @@ def zero_path(field, call):
     return name + ' i', line
 
 
+def first_fails(name, field):
+    """The need of the return where the field that is tested by itself is not zero."""
+    return need('returns', '''unfolding same{0} blank{0}
+returns c =
+    let c0 = c .before in
+    let x = c0 .before .before .before .before .args .t1 in
+{1}    sym (all-first _ _ _ (failed e0 (c .if1 .taken)))'''.format(name, zero_path(field, ('e0', 'c0', 'zeros'))[1]))
+
+
 def zero_proofs():
     for name in PARTS:
         function = 'is_blank_' + snake(name)
@@ -741,6 +764,8 @@ def zero_proofs():
         asked = [field for field in fields if field.kind not in ('number', 'bool')]
         kinds = [field.kind for field in fields]
         needs, known = requires([zero_of(field) for field in asked])
+        apart = is_apart(fields)
+        answer = 'returns-2' if apart else 'returns'
         head = 'unfolding all same%s blank%s\n' % (name, name)
         blank, same = ['blank' + name], ['all', 'same' + name]
         for field in asked:
@@ -749,7 +774,7 @@ def zero_proofs():
             else:
                 blank.append('blank' + field.struct)
                 same += ['same' + field.struct] + ['eqList'] * (field.kind == 'nine')
-        uses = ['mathlib.Core.Path.{%s}' % ('_≡_' if asked else 'refl')]
+        uses = ['mathlib.Core.Path.{%s}' % ('_≡_, sym' if apart else '_≡_' if asked else 'refl')]
         if asked:
             uses += ['mathlib.Core.Bool.{_&&_}']
             uses += ['lib.ListN.{replicate}'] * ('bytes' in kinds or 'nine' in kinds)
@@ -757,11 +782,16 @@ def zero_proofs():
         uses += ['Rattle.records.specs.Blank.{%s}' % ', '.join(dict.fromkeys(blank))]
         uses += ['Rattle.records.specs.Equality.{%s}' % ', '.join(dict.fromkeys(same))]
         laws = ['zeros-blank'] * ('bytes' in kinds) + ['beq-false'] * ('bool' in kinds)
+        uses += ['Rattle.records.specs.EqualityLaws.{all-first}', 'Rattle.records.specs.ValidationLaws.{failed, held}'] * apart
         uses += ['Rattle.records.specs.ZeroLaws.{%s}' % ', '.join(laws)] * bool(laws)
         if asked:
-            # from the return back to each call: a step for each comparison, unless a field was lent; four for a lent field, two for a copied one
+            # from the return back to each call: a step for each comparison, unless a field was lent; four for a lent field, two for a copied one;
+            # one more to a test by itself
             lets, at, steps, calls = '', 'c', 0 if 'bytes' in kinds else len(fields) - len(asked), []
             for i in range(len(asked) - 1, -1, -1):
+                if apart and i == 0:
+                    lets += '    let e = %s%s in\n' % (at, ' .before' * steps)
+                    at, steps = 'e', 1
                 if steps:
                     lets += '    let c%d = %s%s in\n' % (i, at, ' .before' * steps)
                     at = 'c%d' % i
@@ -773,6 +803,8 @@ def zero_proofs():
                 value, line = zero_path(field, calls.pop() if field in asked else None)
                 tests.append(value)
                 lets += line
+            if apart:
+                tests[0] = 'sym (held e0 (e .if1 .left)) i'
             path = tests[-1]
             for one in reversed(tests[:-1]):
                 path = '%s && (%s)' % (one, path) if ' && ' in path else '%s && %s' % (one, path)
@@ -780,10 +812,13 @@ def zero_proofs():
                 path = '\n    ' + path.replace(' && ', '\n    && ')
             else:
                 path = ' ' + path
-            returns = head + 'returns c =\n%s    λ i.%s' % (lets, path)
+            returns = head + '%s c =\n%s    λ i.%s' % (answer, lets, path)
         else:
             returns = head + 'returns c = refl'
-        write_proof('zero', function, 'field by field', uses, needs + [need('returns', returns)])
+        needs.append(need(answer, returns))
+        if apart:
+            needs.insert(1, first_fails(name, fields[0]))
+        write_proof('zero', function, 'field by field', uses, needs)
         if name in PART_NINES:
             zero_nine_proof(name)
     zeros_proof()

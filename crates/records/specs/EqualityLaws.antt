@@ -68,6 +68,11 @@ all-each [] h = tt
 all-each (p ∷ []) h = (h, tt)
 all-each (p ∷ (q ∷ ps)) h = let k = and-eq-true-iff p (all (q ∷ ps)) .0 h in (k .0, all-each (q ∷ ps) (k .1))
 
+-- the first test fails
+pub all-first : (p q : Bool) (ps : List Bool) → p ≡ false → all (p ∷ (q ∷ ps)) ≡ false
+unfolding all
+all-first p q ps h = rw h
+
 -- ---- lists
 
 module _ {A : Type 0} (f : A → A → Bool) where

@@ -1,17 +1,28 @@
 -- `records::zero::is_blank_lost_voter_attestation_v1` meets its contract: field by field. Written by scripts/records.py. Assumes nothing.
-use mathlib.Core.Path.{_≡_}
+use mathlib.Core.Path.{_≡_, sym}
 use mathlib.Core.Bool.{_&&_}
 use lib.ListN.{replicate}
 use lib.Dec.{eqb}
 use borrow.Author.Needs.{needs}
 use Rattle.records.specs.Blank.{blankLostVoterAttestationV1, blankSpiffeId}
 use Rattle.records.specs.Equality.{all, sameLostVoterAttestationV1, eqBytes, sameSpiffeId}
+use Rattle.records.specs.EqualityLaws.{all-first}
+use Rattle.records.specs.ValidationLaws.{failed, held}
 use Rattle.records.specs.ZeroLaws.{zeros-blank}
 use Rattle.records.proofs.zero.is_blank_lost_voter_attestation_v1.Statement.{statement}
 use Rattle.records.proofs.zero.is_blank_lost_voter_attestation_v1.Tie as tie
 
 zeros-requires : tie.Need-zeros-requires
 zeros-requires c κs = search needs
+
+returns : tie.Need-returns
+unfolding sameLostVoterAttestationV1 blankLostVoterAttestationV1
+returns c =
+    let c0 = c .before in
+    let x = c0 .before .before .before .before .args .t1 in
+    let e0 : c0 .zeros .result ≡ eqBytes (x .«request_id») (replicate 16 0) =
+    zeros-blank (x .«request_id») 16 _ (search needs) (c0 .zeros .ensures) in
+    sym (all-first _ _ _ (failed e0 (c .if1 .taken)))
 
 zeros-requires-2 : tie.Need-zeros-requires-2
 zeros-requires-2 c κs = search needs
@@ -40,9 +51,9 @@ zeros-requires-7 c κs = search needs
 zeros-requires-8 : tie.Need-zeros-requires-8
 zeros-requires-8 c κs = search needs
 
-returns : tie.Need-returns
+returns-2 : tie.Need-returns-2
 unfolding all sameLostVoterAttestationV1 blankLostVoterAttestationV1
-returns c =
+returns-2 c =
     let c8 = c .before .before .before .before in
     let c7 = c8 .before .before .before .before in
     let c6 = c7 .before .before .before .before in
@@ -51,7 +62,8 @@ returns c =
     let c3 = c4 .before .before .before .before in
     let c2 = c3 .before .before .before .before in
     let c1 = c2 .before .before .before .before in
-    let c0 = c1 .before .before .before .before in
+    let e = c1 .before .before .before .before in
+    let c0 = e .before in
     let x = c0 .before .before .before .before .args .t1 in
     let e0 : c0 .zeros .result ≡ eqBytes (x .«request_id») (replicate 16 0) =
     zeros-blank (x .«request_id») 16 _ (search needs) (c0 .zeros .ensures) in
@@ -74,7 +86,7 @@ returns c =
     let e9 : c .zeros8 .result ≡ eqBytes (x .signature) (replicate 64 0) =
     zeros-blank (x .signature) 64 _ (search needs) (c .zeros8 .ensures) in
     λ i.
-    e0 i
+    sym (held e0 (e .if1 .left)) i
     && (e1 i
     && (e2 i
     && (eqb (x .slot) 0
@@ -98,6 +110,7 @@ is-blank-lost-voter-attestation-v1-spec =
     tie.close
     (tie.spec
     zeros-requires
+    returns
     zeros-requires-2
     zeros-requires-3
     zeros-requires-4
@@ -107,4 +120,4 @@ is-blank-lost-voter-attestation-v1-spec =
     zeros-requires-6
     zeros-requires-7
     zeros-requires-8
-    returns)
+    returns-2)
