@@ -368,13 +368,20 @@ unfolding all same{0}
 # ---- equality: code
 
 
+def is_apart(fields):
+    """Whether the first field is tested by itself: three arrays stand in front. LLVM would make one test of them, of 80 bytes, and take it apart byte by byte."""
+    return [field.kind for field in fields[:3]] == ['bytes'] * 3
+
+
 def equality_code():
     parts = ['''
 // Whether two records are the same, field by field. %s
 //
 // Stands for the `PartialEq` that openpacketcore-sdk derives in
 // crates/opc-consensus/src/voter_slots/records.rs and identity.rs, commit 717de332e7, Apache-2.0
-// (see NOTICE). No loop is left early, so that many bytes are compared at once.
+// (see NOTICE). No loop is left early, so that many bytes are compared at once. Where three arrays
+// stand in front, the first is tested by itself: LLVM would make one test of them and take it apart
+// byte by byte.
 ghost use mathlib.Core.Path.{_≡_};
 ghost use Rattle.records.specs.Equality.{eqBytes, eqList, %s};
 %s''' % (BY, all_of('same'), use_rattle(NAMES)), '''
@@ -407,8 +414,13 @@ pub fn same{0}(a: [u8; {0}], b: [u8; {0}]) -> bool
         for field in fields:
             if field.kind in ('number', 'bool'):
                 tests.append('(a.{0} == b.{0})'.format(field.name))
+                continue
+            lets += '    let a_{0} = a.{0};\n    let b_{0} = b.{0};\n'.format(field.name)
+            call = '{1}(a_{0}, b_{0})'.format(field.name, same_of(field))
+            if field is fields[0] and is_apart(fields):
+                lets += '    if !%s {\n        return false;\n    }\n' % call
             else:
-                lets += '    let a_{0} = a.{0};\n    let b_{0} = b.{0};\n    let {0} = {1}(a_{0}, b_{0});\n'.format(field.name, same_of(field))
+                lets += '    let %s = %s;\n' % (field.name, call)
                 tests.append(field.name)
         answer = tests[-1]
         for one in reversed(tests[:-1]):
@@ -472,6 +484,8 @@ def write_proof(module, function, how, uses, needs, loop=False):
 
 
 NEEDS = 'borrow.Author.Needs.{needs}'
+# what the proof of a function with a test by itself uses
+APART = ['Rattle.records.specs.EqualityLaws.{all-first}', 'Rattle.records.specs.ValidationLaws.{failed, held}']
 
 
 def need(name, lines):
@@ -495,19 +509,33 @@ def equality_proofs():
         function = 'same_' + snake(name)
         calls = [same_of(field) for field in fields if field.kind not in ('number', 'bool')]
         needs, known = requires(calls)
+        apart = is_apart(fields)
+        answer = 'returns-2' if apart else 'returns'
         head = 'unfolding all same%s\n' % name
         uses = ['Rattle.records.specs.Equality.{all, same%s}' % name]
         if calls:
-            # from the return back to each call: two steps for each comparison, then three for each call
+            # from the return back to each call: two steps for each comparison, then three for each call; one more to a test by itself
             lets, at, steps = '', 'c', 2 * (len(fields) - len(calls))
             for i in range(len(calls) - 1, -1, -1):
+                if apart and i == 0:
+                    lets += '    let e = %s%s in\n' % (at, ' .before' * steps)
+                    at, steps = 'e', 1
                 lets += '    let c%d = %s%s in\n' % (i, at, ' .before' * steps)
                 at, steps = 'c%d' % i, 3
-            told = listed('simp', ['c%d .%s .ensures' % (i, known[i]) for i in range(len(calls))])
-            returns = head + 'returns c =\n%s%s' % (lets, told)
+            told = ['c%d .%s .ensures' % (i, known[i]) for i in range(len(calls))]
+            if apart:
+                told[0] = 'held (%s) (e .if1 .left)' % told[0]
+            returns = head + '%s c =\n%s%s' % (answer, lets, listed('simp', told))
         else:
             returns = head + 'returns c = search needs'
-        write_proof('equality', function, 'field by field', [NEEDS] + uses, needs + [need('returns', returns)])
+        needs.append(need(answer, returns))
+        if apart:
+            needs.insert(1, need('returns', '''unfolding same{0}
+returns c = sym (all-first _ _ _ (failed (c .before .{1} .ensures) (c .if1 .taken)))'''.format(name, known[0])))
+            uses = ['mathlib.Core.Path.{sym}', NEEDS] + uses + APART
+        else:
+            uses = [NEEDS] + uses
+        write_proof('equality', function, 'field by field', uses, needs)
         if name in NINES:
             nine_proof(name)
     bytes_proof()
@@ -651,11 +679,6 @@ def zero_of(field):
     }[field.kind]()
 
 
-def is_apart(fields):
-    """Whether the first field is tested by itself: three arrays stand in front. LLVM would make one test of them, of 80 bytes, and take it apart byte by byte."""
-    return [field.kind for field in fields[:3]] == ['bytes'] * 3
-
-
 def zero_test(field):
     """The test of a field, and the lines before it."""
     if field.kind == 'number':
@@ -782,7 +805,7 @@ def zero_proofs():
         uses += ['Rattle.records.specs.Blank.{%s}' % ', '.join(dict.fromkeys(blank))]
         uses += ['Rattle.records.specs.Equality.{%s}' % ', '.join(dict.fromkeys(same))]
         laws = ['zeros-blank'] * ('bytes' in kinds) + ['beq-false'] * ('bool' in kinds)
-        uses += ['Rattle.records.specs.EqualityLaws.{all-first}', 'Rattle.records.specs.ValidationLaws.{failed, held}'] * apart
+        uses += APART if apart else []
         uses += ['Rattle.records.specs.ZeroLaws.{%s}' % ', '.join(laws)] * bool(laws)
         if asked:
             # from the return back to each call: a step for each comparison, unless a field was lent; four for a lent field, two for a copied one;

@@ -2,7 +2,9 @@
 //
 // Stands for the `PartialEq` that openpacketcore-sdk derives in
 // crates/opc-consensus/src/voter_slots/records.rs and identity.rs, commit 717de332e7, Apache-2.0
-// (see NOTICE). No loop is left early, so that many bytes are compared at once.
+// (see NOTICE). No loop is left early, so that many bytes are compared at once. Where three arrays
+// stand in front, the first is tested by itself: LLVM would make one test of them and take it apart
+// byte by byte.
 ghost use mathlib.Core.Path.{_≡_};
 ghost use Rattle.records.specs.Equality.{eqBytes, eqList, sameVoterSlotIdentity, sameSpiffeId, sameSnapshotId, sameVoterSlotLogId, sameOptionalLogId, sameVoterSlotMember, sameVoterReplacementResult, sameVoterSlotRecord, sameVoterSnapshotEvidence, sameVoterConfiguration, sameLostVoterAttestationV1, sameVoterReplacementEvidence, sameVoterReplacementRecord, sameVoterSlotTable};
 use crate::records::LostVoterAttestationV1;
@@ -214,7 +216,9 @@ pub fn same_lost_voter_attestation_v1(a: LostVoterAttestationV1, b: LostVoterAtt
 {
     let a_request_id = a.request_id;
     let b_request_id = b.request_id;
-    let request_id = same16(a_request_id, b_request_id);
+    if !same16(a_request_id, b_request_id) {
+        return false;
+    }
     let a_request_digest = a.request_digest;
     let b_request_digest = b.request_digest;
     let request_digest = same32(a_request_digest, b_request_digest);
@@ -242,26 +246,24 @@ pub fn same_lost_voter_attestation_v1(a: LostVoterAttestationV1, b: LostVoterAtt
     let a_signature = a.signature;
     let b_signature = b.signature;
     let signature = same64(a_signature, b_signature);
-    request_id
-        & (request_digest
-            & (cluster_instance
-                & ((a.slot == b.slot)
-                    & ((a.expected_incarnation == b.expected_incarnation)
-                        & (old_descriptor_digest
-                            & (candidate_key_digest
-                                & ((a.admission_generation == b.admission_generation)
-                                    & (candidate_spiffe_id
-                                        & (controller_spiffe_id
-                                            & (signing_key_digest
-                                                & ((a.reason == b.reason)
-                                                    & (policy_digest
-                                                        & ((a.observation_start_ms
-                                                            == b.observation_start_ms)
-                                                            & ((a.decision_ms == b.decision_ms)
-                                                                & ((a.issued_ms == b.issued_ms)
-                                                                    & ((a.expires_ms
-                                                                        == b.expires_ms)
-                                                                        & signature))))))))))))))))
+    request_digest
+        & (cluster_instance
+            & ((a.slot == b.slot)
+                & ((a.expected_incarnation == b.expected_incarnation)
+                    & (old_descriptor_digest
+                        & (candidate_key_digest
+                            & ((a.admission_generation == b.admission_generation)
+                                & (candidate_spiffe_id
+                                    & (controller_spiffe_id
+                                        & (signing_key_digest
+                                            & ((a.reason == b.reason)
+                                                & (policy_digest
+                                                    & ((a.observation_start_ms
+                                                        == b.observation_start_ms)
+                                                        & ((a.decision_ms == b.decision_ms)
+                                                            & ((a.issued_ms == b.issued_ms)
+                                                                & ((a.expires_ms == b.expires_ms)
+                                                                    & signature)))))))))))))))
 }
 
 pub fn same_voter_replacement_evidence(
