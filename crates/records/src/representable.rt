@@ -1,14 +1,12 @@
 // The test for 30: whether the Rust types can hold a value, and whether all that is not in use is
 // zero. The original needs none, since its types rule such values out.
 ghost use mathlib.Core.Path.{_≡_};
-ghost use mathlib.Core.Bool.{cond, _&&_};
+ghost use mathlib.Core.Bool.{_&&_};
 ghost use Prim.Native.Nat.{_≤_};
 ghost use lib.ListN.{length, take, drop};
 ghost use lib.Dec.{leb};
 ghost use Rattle.identity.specs.Identity.{isVoterIncarnation};
 ghost use Rattle.identity.specs.Text.{all, isUtf8};
-ghost use Rattle.records.specs.Blank.{blankVoterReplacementRecord};
-ghost use Rattle.records.specs.Equality.{sameVoterReplacementRecord};
 ghost use Rattle.records.specs.Records.{allBelow, slotAt, memberAt};
 ghost use Rattle.records.specs.Representable.{isZero, representableSpiffeId, representableSnapshotId, representableOptionalLogId, representableMember, representableResult, memberPlace, slotPlace, snapshotPart, representableSlotRecord, representableConfiguration, representableAttestation, representableEvidence, representableReplacement, representable};
 use crate::records::LostVoterAttestationV1;
@@ -48,17 +46,9 @@ pub fn is_representable(table: VoterSlotTable) -> bool
     if MAX_FIXED_VOTER_SLOTS < table.count {
         return false;
     }
-    if !is_replacement_part(table) {
+    if !slot_places(table) {
         return false;
     }
-    slot_places(table)
-}
-
-// The open request, or a blank. It is looked at before the slots: its fields are read as the call
-// begins, and would wait on the stack for the slots' loop to end.
-fn is_replacement_part(table: VoterSlotTable) -> bool
-    ensures { λ r. ⌜ r ≡ cond (table .«has_replacement») (representableReplacement (table .replacement)) (sameVoterReplacementRecord (table .replacement) blankVoterReplacementRecord) ⌝ }
-{
     let replacement = table.replacement;
     if table.has_replacement {
         return is_representable_replacement(replacement);

@@ -1,13 +1,12 @@
--- `records::representable::is_representable` meets its contract: the epoch, the count, the replacement and the places are tested in turn. Assumes nothing.
+-- `records::representable::is_representable` meets its contract: the epoch, the count, the places and the replacement are tested in turn. Assumes nothing.
 use mathlib.Core.Path.{_≡_, sym, _∙_}
-use mathlib.Core.Bool.{true, and-true, and-false}
+use mathlib.Core.Bool.{true}
 use native.Mathlib.Omega.{arith}
 use lib.Dec.{leb}
-use borrow.Author.Tests.{le-leb, lt-leb}
+use borrow.Author.Tests.{le-leb, lt-leb, not-true, not-false}
 use borrow.Author.Needs.{needs}
 use Rattle.records.specs.Records.{maxFixedVoterSlots}
 use Rattle.records.specs.Representable.{representable}
-use Rattle.records.specs.ValidationLaws.{failed, held}
 use Rattle.records.proofs.representable.is_representable.Statement.{statement}
 use Rattle.records.proofs.representable.is_representable.Tie as tie
 
@@ -30,28 +29,44 @@ returns-2 c =
     let e = c .before .before in
     rw (epoch-held e, lt-leb (start e .args .table .count) maxFixedVoterSlots (omega arith))
 
-is-replacement-part-requires : tie.Need-is-replacement-part-requires
-is-replacement-part-requires c κs = search needs
+slot-places-requires : tie.Need-slot-places-requires
+slot-places-requires c κs = search needs
 
 returns-3 : tie.Need-returns-3
 unfolding representable
 returns-3 c =
     let e = c .before .before in
-    rw (epoch-held (e .before .before), count-held e, failed (c .before .is-replacement-part .ensures) (c .if3 .taken), and-false _)
+    rw (epoch-held (e .before .before), count-held e, sym (c .before .slot-places .ensures) ∙ not-true _ (c .if3 .taken))
 
-slot-places-requires : tie.Need-slot-places-requires
-slot-places-requires c κs = search needs
+is-representable-replacement-requires : tie.Need-is-representable-replacement-requires
+is-representable-replacement-requires c κs = search needs
 
 returns-4 : tie.Need-returns-4
 unfolding representable
 returns-4 c =
-    let d = c .before in
+    let d = c .before .before .before in
     let e = d .before .before in
     rw (
       epoch-held (e .before .before),
       count-held e,
-      held (d .before .is-replacement-part .ensures) (d .if3 .left),
-    ) (c .slot-places .ensures ∙ sym (and-true _))
+      sym (d .before .slot-places .ensures) ∙ not-false _ (d .if3 .left),
+      c .before .if4 .taken,
+    ) (c .is-representable-replacement .ensures)
+
+is-blank-voter-replacement-record-requires : tie.Need-is-blank-voter-replacement-record-requires
+is-blank-voter-replacement-record-requires c κs = search needs
+
+returns-5 : tie.Need-returns-5
+unfolding representable
+returns-5 c =
+    let d = c .before .before .before in
+    let e = d .before .before in
+    rw (
+      epoch-held (e .before .before),
+      count-held e,
+      sym (d .before .slot-places .ensures) ∙ not-false _ (d .if3 .left),
+      c .before .if4 .left,
+    ) (c .is-blank-voter-replacement-record .ensures)
 
 pub is-representable-spec : {M : Type 1} → statement M
 is-representable-spec =
@@ -59,7 +74,9 @@ is-representable-spec =
     (tie.spec
     returns
     returns-2
-    is-replacement-part-requires
-    returns-3
     slot-places-requires
-    returns-4)
+    returns-3
+    is-representable-replacement-requires
+    returns-4
+    is-blank-voter-replacement-record-requires
+    returns-5)
