@@ -3,3 +3,6 @@ pub mod Codec
 pub mod Num
 pub mod List
 pub mod Through
+pub mod Copy
+pub mod Put
+pub mod Fill

@@ -1,15 +1,15 @@
 -- A form read out of another by a reading of its own, which may refuse; and a form in a box: its size, and its bytes to the last.
 -- Assumes nothing.
-use Prim.Native.Nat.{ℕ}
+use Prim.Native.Nat.{ℕ, _^_, _≤_, _<_}
 use mathlib.Core.Path.{_≡_, refl, sym, ap, ap₂, _∙_, subst}
 use mathlib.Core.Bool.{Bool, true, false}
 use mathlib.Core.List.{List, _++_}
 use lib.ListN.{length, take}
 use lib.Dec.{leb, eqb}
-use borrow.Author.Tests.{eq-eqb, eqb-true}
+use borrow.Author.Tests.{eq-eqb, eqb-true, le-leb}
 use Rattle.format.specs.Res.{Res, andThen, began, ok-value, ok-count, no-ok}
 use Rattle.format.specs.Res.Res.{ok, no}
-use Rattle.format.specs.Codec.{Codec, Bytes, dep, check, there-and-back, back-and-there}
+use Rattle.format.specs.Codec.{Codec, Bytes, dep, check, held, there-and-back, back-and-there}
 use Rattle.format.specs.Num.{uint, raw, pick}
 
 module _ {A B : Type 0} (C : Codec A) (p : A → Res B) (g : B → A) (same : (a : A) (b : B) (m : ℕ) → C .Good a → p a ≡ ok b m → g b ≡ a) where
@@ -74,6 +74,16 @@ pub whole-there : {A : Type 0} (C : Codec A) (a : A) → C .Good a → whole C (
 unfolding whole andThen pick
 whole-there C a g = rw (there-and-back C a g) (rw (eq-eqb (length (C .enc a)) (length (C .enc a)) refl))
 
+-- a refusal of the form is one of the whole
+pub whole-no : {A : Type 0} (C : Codec A) (bs : List ℕ) {k : ℕ} → C .dec bs ≡ no k → whole C bs ≡ no k
+unfolding whole andThen
+whole-no C bs e = rw e
+
+-- whether all was read decides
+pub whole-by-count : {A : Type 0} (C : Codec A) (bs : List ℕ) {a : A} {n : ℕ} (t : Bool) → C .dec bs ≡ ok a n → eqb n (length bs) ≡ t → whole C bs ≡ pick t (ok a n) (no 6)
+unfolding whole andThen
+whole-by-count C bs t e q = rw e (rw q)
+
 -- a form in a box of at most `bound` bytes, refused by 5: two bytes of size, and then so many
 module _ {A : Type 0} (C : Codec A) (bound : ℕ) where
   unfoldable pub sizeTest : ℕ → ℕ
@@ -93,3 +103,33 @@ module _ {A : Type 0} (C : Codec A) (bound : ℕ) where
 
   pub boxed : Codec A
   boxed = through box (λ x. whole C (x .1)) (λ a. (length (C .enc a), C .enc a)) unboxed
+
+  -- its bytes: the size, and those of the value
+  pub boxed-bytes : (a : A) → boxed .enc a ≡ uint 2 .enc (length (C .enc a)) ++ C .enc a
+  unfolding boxed through box dep check raw
+  boxed-bytes a = refl
+
+  -- a value whose bytes a box holds: bytes they are, no more than the bound, and their number fits two bytes
+  pub boxed-good : (a : A) → C .Good a → Bytes (C .enc a) → length (C .enc a) ≤ bound → length (C .enc a) < 256 ^ 2 → boxed .Good a
+  unfolding boxed through box dep check raw uint held sizeTest pick
+  boxed-good a g z h k = (((k, rw (le-leb (length (C .enc a)) bound h)), (refl, z)), (length (C .enc a), whole-there C a g))
+
+  -- and what a box holds is good
+  pub boxed-is : (a : A) → boxed .Good a → C .Good a
+  unfolding boxed through box dep check raw
+  boxed-is a g = C .good (C .enc a) (g .0 .1 .1) (whole-is C (C .enc a) (g .1 .1))
+
+  -- reading it: the size and so many bytes, and then the value in them; any of the three may refuse
+  pub boxed-ok : (bs : List ℕ) {x : ℕ × List ℕ} {a : A} {n m : ℕ} → dep (check (uint 2) (λ n. pick (leb n bound) 0 5)) raw .dec bs ≡ ok x n → whole C (x .1) ≡ ok a m
+      → boxed .dec bs ≡ ok a n
+  unfolding boxed through box sizeTest decThrough andThen
+  boxed-ok bs e f = rw e (rw f)
+
+  pub boxed-no-1 : (bs : List ℕ) {k : ℕ} → dep (check (uint 2) (λ n. pick (leb n bound) 0 5)) raw .dec bs ≡ no k → boxed .dec bs ≡ no k
+  unfolding boxed through box sizeTest decThrough andThen
+  boxed-no-1 bs e = rw e
+
+  pub boxed-no-2 : (bs : List ℕ) {x : ℕ × List ℕ} {n k : ℕ} → dep (check (uint 2) (λ n. pick (leb n bound) 0 5)) raw .dec bs ≡ ok x n → whole C (x .1) ≡ no k
+      → boxed .dec bs ≡ no k
+  unfolding boxed through box sizeTest decThrough andThen
+  boxed-no-2 bs e f = rw e (rw f)
