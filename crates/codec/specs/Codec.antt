@@ -2,19 +2,21 @@
 -- Document 01, "Refusals from the input": 5 for too many bytes first, the field's own number, 6 for bytes left over, then validity's.
 -- Assumes nothing.
 use Prim.Native.Nat.{ℕ}
-use mathlib.Core.List.{List}
-use lib.ListN.{length}
+use mathlib.Core.List.{List, _++_}
+use lib.ListN.{length, take, drop}
 use lib.Dec.{leb}
 use Rattle.identity.specs.Answer.{numberOf}
 use Rattle.format.specs.Res.{Res, andThen}
-use Rattle.format.specs.Res.Res.{no}
+use Rattle.format.specs.Res.Res.{ok, no}
 use Rattle.format.specs.Codec.{gate}
 use Rattle.format.specs.Num.{pick}
 use Rattle.format.specs.Through.{whole}
-use Rattle.records.specs.Validation.{validity}
+use Rattle.records.specs.Blank.{blankVoterSlotTable}
+use Rattle.records.specs.Validation.{validity, validate}
 use Rattle.records.specs.declared.records.LostVoterAttestationV1.{LostVoterAttestationV1}
 use Rattle.records.specs.declared.records.VoterSlotTable.{VoterSlotTable}
 use Rattle.codec.specs.Format.{attestation, table}
+use Rattle.codec.specs.Reading.{outcome}
 
 -- `MAX_VOTER_SLOT_TABLE_BYTES`, `MAX_LOST_VOTER_ATTESTATION_BYTES`
 abbrev pub maxTableBytes : ℕ
@@ -38,3 +40,25 @@ decodeLostVoterAttestation bs = bounded maxAttestationBytes bs (whole attestatio
 -- the bytes that `encode_voter_slot_table` writes
 unfoldable pub tableBytes : VoterSlotTable → List ℕ
 tableBytes t = table .enc t
+
+-- ---- what the calls answer and leave
+
+-- `encode_voter_slot_table` into a lent buffer: 30, validity's number, then 32 for a buffer that is too short; else what the buffer holds
+-- afterwards, the bytes from its start and behind them what stood there, and the count.
+unfoldable pub encodeVoterSlotTable : VoterSlotTable → List ℕ → Res (List ℕ)
+encodeVoterSlotTable t buffer =
+    andThen (gate (numberOf (validate t)) (tableBytes t) (length (tableBytes t)))
+    (λ bs n. pick (leb n (length buffer)) (ok (bs ++ drop n buffer) n) (no 32))
+
+-- document 01's number of a reading, and the value, or the blank beside a refusal
+unfoldable pub decoded : {A : Type 0} → A → Res A → ℕ × A
+decoded blank (ok a n) = (0, a)
+decoded blank (no k) = (k, blank)
+
+-- A restart: the writer into a lent buffer, then the reader on exactly the bytes counted.
+unfoldable pub restarted : VoterSlotTable → List ℕ → Res VoterSlotTable
+restarted t buffer = andThen (encodeVoterSlotTable t buffer) (λ b n. decodeVoterSlotTable (take n b))
+
+-- What a restart answers, and what it leaves in the buffer.
+unfoldable pub restartOutcome : VoterSlotTable → List ℕ → (ℕ × VoterSlotTable) × List ℕ
+restartOutcome t buffer = (decoded blankVoterSlotTable (restarted t buffer), outcome buffer (encodeVoterSlotTable t buffer) .1)
