@@ -1,1 +1,8 @@
-// Layer three: the bytes of a table and of an attestation. So far the format and its round trips, in specs/; no code yet.
+// Layer three: the bytes of a table and of an attestation.
+pub mod codec;
+pub mod decode;
+pub mod encode;
+pub mod parts;
+pub mod reader;
+pub mod reading;
+pub mod writer;

@@ -56,7 +56,7 @@ pub struct Claims {
     pub prepare: VoterSlotLogId,
 }
 
-fn is_valid_count(count: usize) -> bool
+pub fn is_valid_count(count: usize) -> bool
     ensures { λ r. ⌜ r ≡ validCount count ⌝ }
 {
     (0 < count) & ((count <= MAX_FIXED_VOTER_SLOTS) & (count % 2 == 1))

@@ -1,0 +1,134 @@
+-- `codec::codec::decode_voter_slot_table` meets its contract. Assumes nothing.
+use mathlib.Core.Path.{_≡_, sym, ap, _∙_}
+use native.Mathlib.Omega.{arith}
+use borrow.Author.Tests.{eq-eqb, ne-eqb, eqb-true}
+use lib.ListN.{length}
+use Rattle.format.specs.Res.Res.{ok, no}
+use Rattle.format.specs.Codec.{Bytes, gate}
+use Rattle.format.specs.Fill.{gate-refused}
+use Rattle.identity.specs.Answer.{numberOf, isAccepted}
+use Rattle.records.specs.Blank.{blankVoterSlotTable}
+use Rattle.records.specs.Validation.{validity}
+use Rattle.records.specs.ValidationLaws.{failed, held}
+use Rattle.codec.specs.Codec.{decoded, decodeVoterSlotTable, maxTableBytes}
+use Rattle.codec.specs.EntryLaws.{bounded-out, decoded-no, decoded-ok, decode-no, decode-left, decode-judged}
+use Rattle.codec.specs.FitsLaws.{table-fits}
+use Rattle.codec.specs.Format.{table}
+use Rattle.codec.specs.ReadLaws.{table-tests}
+use Rattle.codec.specs.Reading.{whyOf}
+use Rattle.codec.specs.ReadingLaws.{told, told-not}
+use borrow.Author.Needs.{needs}
+use Rattle.codec.proofs.codec.decode_voter_slot_table.Statement.{statement}
+use Rattle.codec.proofs.codec.decode_voter_slot_table.Tie as tie
+
+-- what was read
+is : (c : tie.After-known-told) → table .dec (c .before .before .before .before .before .before .args .bytes .now) ≡ ok (c .before .before .before .read-table .result .value) (c .before .to .given .0 .0)
+is c = told blankVoterSlotTable _ (c .before .before .before .read-table .ensures) (c .before .to .given .1)
+
+bytes : (c : tie.After-shared-slice-known) → Bytes (c .before .args .bytes .now)
+unfolding Bytes
+bytes c i = omega (arith, c .shared-slice-known .given i)
+
+-- src/codec.rt:46:9
+refused-table-requires : tie.Need-refused-table-requires
+refused-table-requires c κs = search needs
+
+-- src/codec.rt:46:9
+returns : tie.Need-returns
+unfolding decodeVoterSlotTable
+returns c = decoded-no _ (c .refused-table .ensures) (bounded-out maxTableBytes _ _ (c .before .if1 .taken))
+
+-- src/codec.rt:48:9
+read-table-requires : tie.Need-read-table-requires
+read-table-requires c κs = search needs
+
+-- src/codec.rt:50:21
+enum-known-to : tie.Need-enum-known-to
+enum-known-to c = search needs
+
+-- src/codec.rt:51:30
+enum-told : tie.Need-enum-told
+enum-told c = search needs
+
+-- src/codec.rt:51:30
+why-requires : tie.Need-why-requires
+why-requires c κs = search needs
+
+-- src/codec.rt:51:9
+refused-table-requires-2 : tie.Need-refused-table-requires-2
+refused-table-requires-2 c κs = search needs
+
+-- src/codec.rt:51:9
+returns-2 : tie.Need-returns-2
+returns-2 c =
+    let s = c .before .before .before .before .before .before .before .args .bytes .now in
+    decoded-no _ (c .refused-table2 .ensures ∙ ap (λ a. decoded blankVoterSlotTable (no (numberOf a))) (c .before .why .ensures ∙ ap whyOf (c .before .before .enum-told .given .1)))
+    (decode-no s (omega arith) (told-not blankVoterSlotTable _ (c .before .before .before .before .read-table .ensures) (c .before .before .enum-told .given .1)))
+
+-- src/codec.rt:54:9
+refused-table-requires-3 : tie.Need-refused-table-requires-3
+refused-table-requires-3 c κs = search needs
+
+-- src/codec.rt:54:9
+returns-3 : tie.Need-returns-3
+returns-3 c =
+    let s = c .before .before .before .before .before .before .before .before .args .bytes .now in
+    decoded-no _ (c .refused-table3 .ensures) (decode-left s (omega arith) (is (c .before .before)) (ne-eqb _ _ (c .before .if2 .taken)))
+
+-- src/codec.rt:57:9
+validate-representable-requires : tie.Need-validate-representable-requires
+validate-representable-requires c κs =
+    let t = c .before .before .before .before .before .read-table .result .value in
+    table-fits t (table-tests t (table .good _ (bytes (c .before .before .before .before .before .before .before)) (is (c .before .before)))) .count
+
+-- src/codec.rt:58:9
+accepted-requires : tie.Need-accepted-requires
+accepted-requires c κs = search needs
+
+-- src/codec.rt:59:9
+refused-table-requires-4 : tie.Need-refused-table-requires-4
+refused-table-requires-4 c κs = search needs
+
+-- src/codec.rt:59:9
+returns-4 : tie.Need-returns-4
+returns-4 c =
+    let s = c .before .before .before .before .before .before .before .before .before .before .before .before .args .bytes .now in
+    let t = c .before .before .before .before .before .before .before .before .before .read-table .result .value in
+    let n = c .before .before .before .before .before .before .before .to .given .0 .0 in
+    let v = c .before .before .before .validate-representable .ensures in
+    decoded-no _ (c .refused-table4 .ensures)
+    (decode-judged s (omega arith) (is (c .before .before .before .before .before .before)) (eq-eqb n (length s) (omega arith))
+    ∙ gate-refused (numberOf (validity t)) t n (ap isAccepted (sym v) ∙ failed (c .before .before .accepted .ensures) (c .before .if3 .taken))
+    ∙ ap (λ a. no (numberOf a)) (sym v))
+
+-- src/codec.rt:42:1
+returns-5 : tie.Need-returns-5
+unfolding gate
+returns-5 c =
+    let s = c .before .before .before .before .before .before .before .before .before .before .before .args .bytes .now in
+    let t = c .before .before .before .before .before .before .before .before .read-table .result .value in
+    let n = c .before .before .before .before .before .before .to .given .0 .0 in
+    let v = c .before .before .validate-representable .ensures in
+    let z = eqb-true _ 0 (held (c .before .accepted .ensures) (c .if3 .left)) in
+    ap (λ k. (k, t)) z
+    ∙ decoded-ok _ (decode-judged s (omega arith) (is (c .before .before .before .before .before)) (eq-eqb n (length s) (omega arith)) ∙ ap (λ k. gate k t n) (ap numberOf (sym v) ∙ z))
+
+pub decode-voter-slot-table-spec : {M : Type 1} → statement M
+decode-voter-slot-table-spec =
+    tie.close
+    (tie.spec
+    refused-table-requires
+    returns
+    read-table-requires
+    enum-known-to
+    enum-told
+    why-requires
+    refused-table-requires-2
+    returns-2
+    refused-table-requires-3
+    returns-3
+    validate-representable-requires
+    accepted-requires
+    refused-table-requires-4
+    returns-4
+    returns-5)

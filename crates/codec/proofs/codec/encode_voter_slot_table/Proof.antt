@@ -1,0 +1,89 @@
+-- `codec::codec::encode_voter_slot_table` meets its contract. Assumes nothing.
+use Prim.Native.Nat.{_≤_}
+use mathlib.Core.Path.{_≡_, sym, ap, _∙_}
+use native.Mathlib.Nat.{zero-add}
+use native.Mathlib.Omega.{arith}
+use lib.ListN.{length}
+use Rattle.format.specs.Res.Res.{ok, no}
+use Rattle.identity.specs.Answer.{numberOf, isAccepted}
+use Rattle.identity.specs.declared.answer.Answer.the-variants.{Accepted}
+use Rattle.records.specs.Validation.{validate}
+use Rattle.records.specs.ValidationLaws.{failed, held, is-accepted}
+use Rattle.codec.specs.Codec.{tableBytes}
+use Rattle.codec.specs.CodecLaws.{encoded-is}
+use Rattle.codec.specs.EntryLaws.{put-start, encode-refused, encode-short}
+use Rattle.codec.specs.FitsLaws.{table-fits}
+use Rattle.codec.specs.Format.{table}
+use Rattle.codec.specs.Parts.{TableFits}
+use Rattle.codec.specs.Reading.{outcome}
+use Rattle.codec.specs.ReadingLaws.{outcome-ok}
+use Rattle.codec.specs.ValidLaws.{validate-says}
+use borrow.Author.Needs.{needs}
+use Rattle.codec.proofs.codec.encode_voter_slot_table.Statement.{statement}
+use Rattle.codec.proofs.codec.encode_voter_slot_table.Tie as tie
+
+-- the table is valid, so its fields fit
+valid : (c : tie.Else1) → validate (c .before .before .before .before .args .table) ≡ Accepted
+valid c = sym (c .before .before .validate-table .ensures) ∙ is-accepted _ (held (c .before .accepted .ensures) (c .if1 .left))
+
+fits : (c : tie.Else1) → TableFits (c .before .before .before .before .args .table)
+fits c = table-fits _ (validate-says _ (valid c) .0)
+
+-- src/codec.rt:104:9
+validate-table-requires : tie.Need-validate-table-requires
+validate-table-requires c κs = search needs
+
+-- src/codec.rt:105:9
+accepted-requires : tie.Need-accepted-requires
+accepted-requires c κs = search needs
+
+-- src/codec.rt:106:9
+returns : tie.Need-returns
+unfolding outcome
+returns c =
+    let b = c .before .before .before .before .args .buffer .now in
+    let v = c .before .before .validate-table .ensures in
+    ap (λ a. (no (numberOf a), b)) v ∙ ap (outcome b) (sym (encode-refused _ b (ap isAccepted (sym v) ∙ failed (c .before .accepted .ensures) (c .if1 .taken))))
+
+-- src/codec.rt:108:23
+table-size-requires : tie.Need-table-size-requires
+table-size-requires c κs = fits c
+
+-- src/codec.rt:109:9
+returns-2 : tie.Need-returns-2
+unfolding outcome tableBytes
+returns-2 c =
+    let b = c .before .before .before .before .before .before .args .buffer .now in
+    let t = c .before .before .before .before .before .before .args .table in
+    ap (outcome b) (sym (encode-short t b (valid (c .before .before)) (omega (arith, c .before .table-size .ensures))))
+
+-- src/codec.rt:111:17
+put-table-requires : tie.Need-put-table-requires
+put-table-requires c κs = (omega (arith, c .before .before .table-size .ensures), fits (c .before .before .before))
+
+-- src/codec.rt:101:1
+same-length : tie.Need-same-length
+same-length c = search needs
+
+-- src/codec.rt:101:1
+returns-3 : tie.Need-returns-3
+unfolding tableBytes
+returns-3 c =
+    let b = c .before .before .before .before .before .before .before .before .before .before .args .buffer .now in
+    let t = c .before .before .before .before .before .before .before .before .before .before .args .table in
+    let p = c .before .before .put-table .ensures in
+    let l : length (table .enc t) ≤ length b = omega (arith, c .before .before .before .before .before .table-size .ensures) in
+    outcome-ok b (encoded-is t b (valid (c .before .before .before .before .before .before)) l ∙ (λ i. ok (sym (p .bytes ∙ put-start (table .enc t) b) i) (sym (p .next ∙ zero-add (length (table .enc t))) i)))
+
+pub encode-voter-slot-table-spec : {M : Type 1} → statement M
+encode-voter-slot-table-spec =
+    tie.close
+    (tie.spec
+    validate-table-requires
+    accepted-requires
+    returns
+    table-size-requires
+    returns-2
+    put-table-requires
+    same-length
+    returns-3)

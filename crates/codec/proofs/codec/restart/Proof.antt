@@ -1,0 +1,96 @@
+-- `codec::codec::restart` meets its contract. Assumes nothing.
+use mathlib.Core.Path.{_≡_, sym, ap, _∙_}
+use lib.Seq.{length-take-le}
+use Rattle.format.specs.Res.Res.{ok, no}
+use Rattle.identity.specs.Answer.{numberOf}
+use Rattle.records.specs.Blank.{blankVoterSlotTable}
+use Rattle.codec.specs.Codec.{decoded, encodeVoterSlotTable, restartOutcome}
+use Rattle.codec.specs.EntryLaws.{decoded-no, encode-within, restarted-no, restarted-on}
+use Rattle.codec.specs.Reading.{whyOf}
+use Rattle.codec.specs.ReadingLaws.{told, told-not}
+use borrow.Author.Needs.{needs}
+use Rattle.codec.proofs.codec.restart.Statement.{statement}
+use Rattle.codec.proofs.codec.restart.Tie as tie
+
+-- what was written
+written : (c : tie.After-known-told) → encodeVoterSlotTable (c .before .before .before .before .before .before .before .before .args .table) (c .before .before .before .before .before .before .before .before .args .buffer .now)
+    ≡ ok (c .before .before .before .before .before .encode-voter-slot-table .last .0) (c .before .written .given .0 .0)
+written c = told (c .before .before .before .before .before .before .before .before .args .buffer .now) _ (c .before .before .before .before .before .encode-voter-slot-table .ensures) (c .before .written .given .1)
+
+-- src/codec.rt:118:9
+encode-voter-slot-table-requires : tie.Need-encode-voter-slot-table-requires
+encode-voter-slot-table-requires c κs = search needs
+
+-- src/codec.rt:119:21
+enum-known-written : tie.Need-enum-known-written
+enum-known-written c = search needs
+
+-- src/codec.rt:120:30
+enum-told : tie.Need-enum-told
+enum-told c = search needs
+
+-- src/codec.rt:120:30
+why-requires : tie.Need-why-requires
+why-requires c κs = search needs
+
+-- src/codec.rt:120:9
+refused-table-requires : tie.Need-refused-table-requires
+refused-table-requires c κs = search needs
+
+-- src/codec.rt:120:9
+same-length : tie.Need-same-length
+same-length c = search needs
+
+-- src/codec.rt:120:9
+returns : tie.Need-returns
+unfolding restartOutcome
+returns c =
+    let b = c .before .before .before .before .before .before .before .before .before .args .buffer .now in
+    let t = c .before .before .before .before .before .before .before .before .before .args .table in
+    let w = c .before .before .before .before .before .before .encode-voter-slot-table .ensures in
+    let p = decoded-no blankVoterSlotTable (c .refused-table .ensures ∙ ap (λ a. decoded blankVoterSlotTable (no (numberOf a))) (c .before .why .ensures ∙ ap whyOf (c .before .before .enum-told .given .1))) (restarted-no t b (told-not b _ w (c .before .before .enum-told .given .1))) in
+    λ i. (p i, w i .1)
+
+-- src/codec.rt:122:29
+slice-reshare-prefix-decode-voter-slot-table : tie.Need-slice-reshare-prefix-decode-voter-slot-table
+slice-reshare-prefix-decode-voter-slot-table c =
+    encode-within (c .before .before .before .before .before .before .before .before .args .table) (c .before .before .before .before .before .before .before .before .args .buffer .now) (written c)
+
+-- src/codec.rt:122:29
+slice-aggregate-decode-voter-slot-table : tie.Need-slice-aggregate-decode-voter-slot-table
+slice-aggregate-decode-voter-slot-table c =
+    sym (length-take-le _ _ (encode-within (c .before .before .before .before .before .before .before .before .before .args .table) (c .before .before .before .before .before .before .before .before .before .args .buffer .now) (written (c .before))))
+
+-- src/codec.rt:122:5
+decode-voter-slot-table-requires : tie.Need-decode-voter-slot-table-requires
+decode-voter-slot-table-requires c κs = search needs
+
+-- src/codec.rt:115:1
+same-length-2 : tie.Need-same-length-2
+same-length-2 c = search needs
+
+-- src/codec.rt:115:1
+returns-2 : tie.Need-returns-2
+unfolding restartOutcome
+returns-2 c =
+    let b = c .before .before .before .before .before .before .before .before .before .before .args .buffer .now in
+    let t = c .before .before .before .before .before .before .before .before .before .before .args .table in
+    let p = c .decode-voter-slot-table .ensures ∙ ap (decoded blankVoterSlotTable) (sym (restarted-on t b (written (c .before .before)))) in
+    λ i. (p i, c .before .before .before .before .before .before .before .encode-voter-slot-table .ensures i .1)
+
+pub restart-spec : {M : Type 1} → statement M
+restart-spec =
+    tie.close
+    (tie.spec
+    encode-voter-slot-table-requires
+    enum-known-written
+    enum-told
+    why-requires
+    refused-table-requires
+    same-length
+    returns
+    slice-reshare-prefix-decode-voter-slot-table
+    slice-aggregate-decode-voter-slot-table
+    decode-voter-slot-table-requires
+    same-length-2
+    returns-2)

@@ -1,0 +1,15 @@
+-- `codec::parts::blank_slot_member` meets its contract: field by field. Assumes nothing.
+use borrow.Author.Needs.{needs}
+use Rattle.codec.specs.Parts.{blankSlotMember}
+use Rattle.codec.proofs.parts.blank_slot_member.Statement.{statement}
+use Rattle.codec.proofs.parts.blank_slot_member.Tie as tie
+
+blank-voter-slot-member-requires : tie.Need-blank-voter-slot-member-requires
+blank-voter-slot-member-requires c κs = search needs
+
+returns : tie.Need-returns
+unfolding blankSlotMember
+returns c = cc
+
+pub blank-slot-member-spec : {M : Type 1} → statement M
+blank-slot-member-spec = tie.close (tie.spec blank-voter-slot-member-requires returns)

@@ -1,0 +1,123 @@
+// The entry points of the bytes.
+//
+// Ported from crates/opc-consensus/src/voter_slots/codec.rs of openpacketcore-sdk, commit
+// 717de332e7, Apache-2.0 (see NOTICE). Changed: a reading gives an answer and the table, the blank
+// one beside a refusal; the writer fills a buffer that is lent; the test for 30 stands before it.
+ghost use mathlib.Core.Path.{_≡_};
+ghost use Rattle.identity.specs.Answer.{numberOf};
+ghost use Rattle.format.specs.Res.Res.{no};
+ghost use Rattle.records.specs.Blank.{blankVoterSlotTable, blankLostVoterAttestationV1};
+ghost use Rattle.codec.specs.Reading.{report, outcome};
+ghost use Rattle.codec.specs.Codec.{decoded, decodeVoterSlotTable, decodeLostVoterAttestation, encodeVoterSlotTable, restartOutcome};
+use crate::decode::read_table;
+use crate::decode::read_whole_attestation;
+use crate::encode::put_table;
+use crate::encode::table_size;
+use crate::reading::Reading;
+use crate::reading::why;
+use identity::answer::Answer;
+use identity::answer::accepted;
+use records::blank::blank_lost_voter_attestation_v1;
+use records::blank::blank_voter_slot_table;
+use records::records::LostVoterAttestationV1;
+use records::records::VoterSlotTable;
+use records::validation::validate_representable;
+use records::validation::validate_table;
+
+// Most bytes of a table, and of an attestation.
+pub const MAX_VOTER_SLOT_TABLE_BYTES: usize = 65536;
+
+pub const MAX_LOST_VOTER_ATTESTATION_BYTES: usize = 8192;
+
+pub struct DecodedTable {
+    pub answer: Answer,
+    pub table: VoterSlotTable,
+}
+
+pub struct DecodedAttestation {
+    pub answer: Answer,
+    pub attestation: LostVoterAttestationV1,
+}
+
+pub fn decode_voter_slot_table(bytes: &[u8]) -> DecodedTable
+    ensures { λ r. ⌜ (numberOf (r .answer), r .table) ≡ decoded blankVoterSlotTable (decodeVoterSlotTable (now (bytes .entry))) ⌝ }
+{
+    if MAX_VOTER_SLOT_TABLE_BYTES < bytes.len() {
+        return refused_table(Answer::TooLarge);
+    }
+    let read = read_table(bytes);
+    let to = read.answer;
+    let Reading::To(n) = to else {
+        return refused_table(why(to));
+    };
+    if n != bytes.len() {
+        return refused_table(Answer::InvalidRecord);
+    }
+    let table = read.value;
+    let answer = validate_representable(table);
+    if !accepted(answer) {
+        return refused_table(answer);
+    }
+    DecodedTable { answer, table }
+}
+
+fn refused_table(answer: Answer) -> DecodedTable
+    ensures { λ r. ⌜ (numberOf (r .answer), r .table) ≡ decoded blankVoterSlotTable (no (numberOf answer)) ⌝ }
+{
+    DecodedTable {
+        answer,
+        table: blank_voter_slot_table(),
+    }
+}
+
+pub fn decode_lost_voter_attestation(bytes: &[u8]) -> DecodedAttestation
+    ensures { λ r. ⌜ (numberOf (r .answer), r .attestation) ≡ decoded blankLostVoterAttestationV1 (decodeLostVoterAttestation (now (bytes .entry))) ⌝ }
+{
+    if MAX_LOST_VOTER_ATTESTATION_BYTES < bytes.len() {
+        return refused_attestation(Answer::TooLarge);
+    }
+    let read = read_whole_attestation(bytes);
+    let to = read.answer;
+    let Reading::To(_) = to else {
+        return refused_attestation(why(to));
+    };
+    let attestation = read.value;
+    DecodedAttestation {
+        answer: Answer::Accepted,
+        attestation,
+    }
+}
+
+fn refused_attestation(answer: Answer) -> DecodedAttestation
+    ensures { λ r. ⌜ (numberOf (r .answer), r .attestation) ≡ decoded blankLostVoterAttestationV1 (no (numberOf answer)) ⌝ }
+{
+    DecodedAttestation {
+        answer,
+        attestation: blank_lost_voter_attestation_v1(),
+    }
+}
+
+// The table's bytes at the start of the buffer, and their count; refused, nothing is written.
+pub fn encode_voter_slot_table(buffer: &mut [u8], table: VoterSlotTable) -> Reading
+    ensures { λ r. ⌜ (report r, now (buffer .exit)) ≡ outcome (now (buffer .entry)) (encodeVoterSlotTable table (now (buffer .entry))) ⌝ }
+{
+    let answer = validate_table(table);
+    if !accepted(answer) {
+        return Reading::Refused(answer);
+    }
+    if buffer.len() < table_size(table) {
+        return Reading::Refused(Answer::BufferTooShort);
+    }
+    Reading::To(put_table(buffer, 0, table))
+}
+
+// The table is written, and the bytes counted are read again.
+pub fn restart(buffer: &mut [u8], table: VoterSlotTable) -> DecodedTable
+    ensures { λ r. ⌜ ((numberOf (r .answer), r .table), now (buffer .exit)) ≡ restartOutcome table (now (buffer .entry)) ⌝ }
+{
+    let written = encode_voter_slot_table(buffer, table);
+    let Reading::To(n) = written else {
+        return refused_table(why(written));
+    };
+    decode_voter_slot_table(&buffer[..n])
+}
