@@ -1,8 +1,13 @@
 // What the benchmark times: calls of the layers below, exported to Rust with nothing around them.
 ghost use mathlib.Core.Path.{_≡_};
 ghost use Rattle.identity.specs.Text.{isUtf8, isName, isSnapshotId};
+use codec::codec::decode_voter_slot_table;
+use codec::codec::encode_voter_slot_table;
+use codec::reading::Reading;
+use identity::answer::Answer;
 use identity::answer::number;
 use raw::table::table_of;
+use records::blank::blank_voter_slot_table;
 use records::records::VoterSlotTable;
 use records::successor::validate_successor_of;
 use records::validation::validate_table;
@@ -57,6 +62,57 @@ pub extern "C" fn bench_successor(new: &[u8], old: &[u8], turns: u64) -> u64 {
     answers
 }
 
+// Reading a table's bytes, so many times. The last table is asked for the phase of a slot, 0 to 2, by
+// a number that the compiler does not know: so each table is kept, and kept whole.
+#[no_mangle]
+pub extern "C" fn bench_decode(bytes: &[u8], turns: u64) -> u64 {
+    let mut kept = blank_voter_slot_table();
+    let mut answers = 0;
+    let mut i = 0;
+    while i < turns {
+        let decoded = decode_voter_slot_table(bytes);
+        let answer = decoded.answer;
+        answers = answers | number_of(answer);
+        let table = decoded.table;
+        kept = table;
+        i += 1;
+    }
+    let place = (turns % 9) as usize;
+    answers | third(kept.slots[place].phase)
+}
+
+fn third(x: u8) -> u64 {
+    (x / 3) as u64
+}
+
+// Writing a table, given in its raw form, to the same buffer so many times, each time with the next
+// revision.
+#[no_mangle]
+pub extern "C" fn bench_encode(raw: &[u8], buffer: &mut [u8], turns: u64) -> u64 {
+    let mut table = table_of_bytes(raw);
+    let mut answers = 0;
+    let mut i = 0;
+    while i < turns {
+        if table.revision < u64::MAX {
+            table.revision += 1;
+        }
+        answers = answers | refusal_of(encode_voter_slot_table(buffer, table));
+        i += 1;
+    }
+    answers
+}
+
+fn number_of(answer: Answer) -> u64 {
+    number(answer) as u64
+}
+
+fn refusal_of(written: Reading) -> u64 {
+    match written {
+        Reading::To(_) => 0,
+        Reading::Refused(answer) => number_of(answer),
+    }
+}
+
 // Two tables take turns, so that no call's result is kept for the next.
 fn pick(first: bool, a: VoterSlotTable, b: VoterSlotTable) -> VoterSlotTable {
     if first { a } else { b }
@@ -72,11 +128,11 @@ fn later(table: VoterSlotTable) -> VoterSlotTable {
 }
 
 fn validity_of(table: VoterSlotTable) -> u64 {
-    number(validate_table(table)) as u64
+    number_of(validate_table(table))
 }
 
 fn successor_of(new: VoterSlotTable, old: VoterSlotTable) -> u64 {
-    number(validate_successor_of(new, old)) as u64
+    number_of(validate_successor_of(new, old))
 }
 
 fn table_of_bytes(bytes: &[u8]) -> VoterSlotTable {

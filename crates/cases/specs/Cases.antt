@@ -8,15 +8,22 @@ use mathlib.Core.List.{List, [], _∷_, _++_}
 use lib.ListN.{replicate}
 use lib.Dec.{T, eqb, leb, eqb→eq}
 use Rattle.identity.specs.Answer.{numberOf}
-use Rattle.identity.specs.Identity.{validateVoterIncarnation, validateVoterSlotIdentity, newVoterSlotIdentity, identityOf, nodeId, fromNodeId, numberOfNumber, valueOfNumber, numberOfIdentity}
+use Rattle.format.specs.Res.{andThen}
+use Rattle.format.specs.Codec.{decSeq, decCheck, decMap, gate, dep, check, via, held, always}
+use Rattle.format.specs.Num.{uint, raw, decUint, decRaw, val, pick}
+use Rattle.format.specs.List.{decVec, vec, padded, flag, flagTest, opt, either}
+use Rattle.format.specs.Through.{whole}
+use Rattle.identity.specs.Identity.{validateSlotId, validateVoterIncarnation, validateVoterSlotIdentity, newVoterSlotIdentity, identityOf, nodeId, fromNodeId, numberOfNumber, valueOfNumber, numberOfIdentity}
 use Rattle.identity.specs.Text.{scheme, isIn, startsWith, isName}
 use Rattle.identity.specs.Utf8.{fits, widthIn, decoded, charsFrom, allChars}
-use Rattle.records.specs.Blank.{blankVoterSlotIdentity, blankSpiffeId, blankSnapshotId, blankVoterSlotLogId, blankOptionalLogId, blankVoterSlotMember, blankVoterReplacementResult, blankVoterSlotRecord, blankVoterSnapshotEvidence, blankVoterConfiguration, blankLostVoterAttestationV1, blankVoterReplacementEvidence, blankVoterReplacementRecord}
+use Rattle.records.specs.Blank.{blankVoterSlotIdentity, blankSpiffeId, blankSnapshotId, blankVoterSlotLogId, blankOptionalLogId, blankVoterSlotMember, blankVoterReplacementResult, blankVoterSlotRecord, blankVoterSnapshotEvidence, blankVoterConfiguration, blankLostVoterAttestationV1, blankVoterReplacementEvidence, blankVoterReplacementRecord, blankVoterSlotTable}
 use Rattle.records.specs.Equality.{all as sameTests, eqList, sameVoterSlotIdentity, sameSpiffeId, sameSnapshotId, sameVoterSlotLogId, sameOptionalLogId, sameVoterSlotMember, sameVoterReplacementResult, sameVoterSlotRecord, sameVoterSnapshotEvidence, sameVoterConfiguration, sameLostVoterAttestationV1, sameVoterReplacementEvidence, sameVoterReplacementRecord}
 use Rattle.records.specs.Evidence.{follows}
 use Rattle.records.specs.Records.{voting, allBelow}
 use Rattle.records.specs.Representable.{representableMember, representableResult, representableSlotRecord, representable}
 use Rattle.records.specs.Validation.{validResult, validSlot, validSlots, validity, validate}
+use Rattle.codec.specs.Format.{table, head, headTest, tableHead, epoch, count, slots, slot, slotMember, identity, slotId, incarnation, binding, choice, result, magic}
+use Rattle.codec.specs.Codec.{decodeVoterSlotTable, bounded, decoded as answered}
 use Rattle.records.specs.declared.records.VoterSlotLogId.{VoterSlotLogId}
 use Rattle.records.specs.declared.records.VoterSlotRecord.{VoterSlotRecord}
 use Rattle.records.specs.declared.records.VoterSlotTable.{VoterSlotTable}
@@ -71,6 +78,21 @@ tableOf n =
       replacement = blankVoterReplacementRecord;
     }
 
+-- The bytes of a table of n slots, numbers 1 to n, that is revision 1 of epoch 1, with no request open: a count in bytes may be any.
+abbrev pub slotBytes : ℕ → List ℕ
+slotBytes slot = (0 ∷ slot ∷ replicate 7 0) ++ (1 ∷ replicate 79 0) ++ (1 ∷ voting ∷ 0 ∷ [])
+
+abbrev pub slotsBytes : ℕ → ℕ → List ℕ
+slotsBytes slot zero = []
+slotsBytes slot (suc n) = slotBytes slot ++ slotsBytes (slot + 1) n
+
+abbrev pub bytesOf : ℕ → List ℕ
+bytesOf n = magic ++ (0 ∷ 1 ∷ replicate 71 0) ++ (1 ∷ replicate 7 0) ++ (1 ∷ n ∷ slotsBytes 1 n) ++ (0 ∷ [])
+
+-- The number that reading the bytes of a table gives.
+abbrev pub readNumber : List ℕ → ℕ
+readNumber bs = answered blankVoterSlotTable (decodeVoterSlotTable bs) .0
+
 -- ---- the table
 
 abbrev pub rows : List Row
@@ -100,6 +122,16 @@ rows =
     ∷ is-number (numberOf (validate (tableOf 0))) 6
     ∷ is-number (numberOf (validate (tableOf 2))) 6
     ∷ is-number (numberOf (validate (tableOf 10))) 30
+    -- `OPVI` alone: 6; with version 2: 4; `OPVX` with version 2: 6
+    ∷ is-number (readNumber magic) 6
+    ∷ is-number (readNumber (magic ++ (0 ∷ 2 ∷ []))) 4
+    ∷ is-number (readNumber (79 ∷ 80 ∷ 86 ∷ 88 ∷ 0 ∷ 2 ∷ [])) 6
+    -- counts 0, 2, 10 in bytes: 6; counts 1, 9 pass
+    ∷ is-number (readNumber (bytesOf 0)) 6
+    ∷ is-number (readNumber (bytesOf 2)) 6
+    ∷ is-number (readNumber (bytesOf 10)) 6
+    ∷ is-number (readNumber (bytesOf 1)) 0
+    ∷ is-number (readNumber (bytesOf 9)) 0
     ∷ []
 
 -- ---- the same as a test, which is computed
@@ -131,5 +163,5 @@ every (r ∷ rs) h = let p = both (holds r) (all rs) h in (row r (p .0), every r
 -- ---- the theorem
 
 pub cases : Every rows
-unfolding validateVoterIncarnation validateVoterSlotIdentity newVoterSlotIdentity nodeId fromNodeId isIn startsWith isName fits widthIn decoded charsFrom allChars eqList sameTests sameVoterSlotIdentity sameSpiffeId sameSnapshotId sameVoterSlotLogId sameOptionalLogId sameVoterSlotMember sameVoterReplacementResult sameVoterSlotRecord sameVoterSnapshotEvidence sameVoterConfiguration sameLostVoterAttestationV1 sameVoterReplacementEvidence sameVoterReplacementRecord blankVoterSlotIdentity blankSpiffeId blankSnapshotId blankVoterSlotLogId blankOptionalLogId blankVoterSlotMember blankVoterReplacementResult blankVoterSlotRecord blankVoterSnapshotEvidence blankVoterConfiguration blankLostVoterAttestationV1 blankVoterReplacementEvidence blankVoterReplacementRecord allBelow representableMember representableResult representableSlotRecord representable follows validResult validSlot validSlots validity validate
+unfolding validateVoterIncarnation validateVoterSlotIdentity newVoterSlotIdentity nodeId fromNodeId isIn startsWith isName fits widthIn decoded charsFrom allChars eqList sameTests sameVoterSlotIdentity sameSpiffeId sameSnapshotId sameVoterSlotLogId sameOptionalLogId sameVoterSlotMember sameVoterReplacementResult sameVoterSlotRecord sameVoterSnapshotEvidence sameVoterConfiguration sameLostVoterAttestationV1 sameVoterReplacementEvidence sameVoterReplacementRecord blankVoterSlotIdentity blankSpiffeId blankSnapshotId blankVoterSlotLogId blankOptionalLogId blankVoterSlotMember blankVoterReplacementResult blankVoterSlotRecord blankVoterSnapshotEvidence blankVoterConfiguration blankLostVoterAttestationV1 blankVoterReplacementEvidence blankVoterReplacementRecord allBelow representableMember representableResult representableSlotRecord representable follows validResult validSlot validSlots validity validate validateSlotId decodeVoterSlotTable bounded andThen whole pick gate answered table head headTest via check dep raw decSeq decCheck decMap decRaw uint held decUint val tableHead epoch count slots slot slotMember identity slotId incarnation binding choice result opt either always flag flagTest padded vec decVec
 cases = every rows tt

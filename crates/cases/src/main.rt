@@ -1,5 +1,6 @@
 // Answers questions about single calls, from standard input to standard output, one line for each.
 // oracle/FORMAT.md has the format; `oracle cases` answers the same questions by the original.
+mod bytes;
 mod line;
 mod question;
 mod reply;

@@ -14,7 +14,10 @@ pub enum Question {
     Epoch,
     NodeId,
     Identity,
+    TableBytes,
+    AttestationBytes,
     Validity,
+    Writing,
     Successor,
     Unknown,
 }
@@ -26,9 +29,11 @@ pub fn question_of(first: u8, second: u8) -> Question {
         b'N' => named_n(second),
         b'S' => named_s(second),
         b'C' => when(second == b'C', Question::Control),
-        b'W' => when(second == b'S', Question::Whitespace),
+        b'W' => named_w(second),
         b'I' => named_i(second),
         b'E' => when(second == b'P', Question::Epoch),
+        b'T' => when(second == b'R', Question::TableBytes),
+        b'A' => when(second == b'R', Question::AttestationBytes),
         b'V' => when(second == b'T', Question::Validity),
         _ => Question::Unknown,
     }
@@ -57,6 +62,14 @@ fn named_s(second: u8) -> Question {
     }
 }
 
+fn named_w(second: u8) -> Question {
+    match second {
+        b'S' => Question::Whitespace,
+        b'R' => Question::Writing,
+        _ => Question::Unknown,
+    }
+}
+
 fn named_i(second: u8) -> Question {
     match second {
         b'N' => Question::Incarnation,
@@ -80,7 +93,10 @@ pub fn put_mark(line: Line, question: Question) -> Line {
         Question::Epoch => line.text(b"EP"),
         Question::NodeId => line.text(b"ND"),
         Question::Identity => line.text(b"ID"),
+        Question::TableBytes => line.text(b"TR"),
+        Question::AttestationBytes => line.text(b"AR"),
         Question::Validity => line.text(b"VT"),
+        Question::Writing => line.text(b"WR"),
         Question::Successor => line.text(b"SC"),
         Question::Unknown => line.text(b"??"),
     }

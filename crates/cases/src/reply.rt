@@ -1,4 +1,7 @@
 // The reply to each question, and how it is printed.
+use crate::bytes::read_attestation;
+use crate::bytes::read_table;
+use crate::bytes::write_table;
 use crate::line::Line;
 use crate::question::Question;
 use identity::answer::Answer;
@@ -20,6 +23,9 @@ pub enum Reply {
     Number(u64),
     Pair(u64, u64),
     Triple(u64, u64, u64),
+    // A table that was read: its revision, the count of its bytes, their checksum, and the checksum of
+    // its raw form.
+    Table(u64, u64, u64, u64),
     // The body is not of the question's form: 33.
     Malformed,
 }
@@ -30,7 +36,10 @@ pub fn reply_to(question: Question, body: &[u8]) -> Reply {
         Question::Name => Reply::YesNo(identity::text::is_name(body)),
         Question::SnapshotId => Reply::YesNo(identity::text::is_snapshot_id(body)),
         Question::StrictName => Reply::YesNo(identity::text::is_strict_name(body)),
+        Question::TableBytes => read_table(body),
+        Question::AttestationBytes => read_attestation(body),
         Question::Validity => validity(body),
+        Question::Writing => write_table(body),
         Question::Successor => successor(body),
         _ => reply_to_numbers(question, body),
     }
@@ -98,7 +107,7 @@ fn reply_to_numbers(question: Question, body: &[u8]) -> Reply {
     }
 }
 
-fn number(answer: Answer) -> u64 {
+pub fn number(answer: Answer) -> u64 {
     identity::answer::number(answer) as u64
 }
 
@@ -134,8 +143,18 @@ pub fn put_reply(line: Line, reply: Reply) -> Line {
         Reply::Number(a) => line.number(a),
         Reply::Pair(a, b) => line.number(a).byte(b' ').number(b),
         Reply::Triple(a, b, c) => line.number(a).byte(b' ').number(b).byte(b' ').number(c),
+        Reply::Table(a, b, c, d) => put_table(line, a, b, c, d),
         Reply::Malformed => line.number(33),
     }
+}
+
+fn put_table(line: Line, revision: u64, count: u64, checksum: u64, raw_checksum: u64) -> Line {
+    let first = line.text(b"0 ").number(revision).byte(b' ').number(count);
+    first
+        .byte(b' ')
+        .number(checksum)
+        .byte(b' ')
+        .number(raw_checksum)
 }
 
 fn put_yes_no(line: Line, yes: bool) -> Line {

@@ -117,7 +117,7 @@ fn lay_piece(raw: &mut [u8; 8062], body: &[u8], place: Place) -> Place {
 
 // Fills the bytes of to from start to end by those of from, beginning at at. It stops where either
 // ends, so that no caller has to show that the ranges lie within.
-fn copy(to: &mut [u8], start: usize, end: usize, from: &[u8], at: usize) {
+pub fn copy(to: &mut [u8], start: usize, end: usize, from: &[u8], at: usize) {
     let mut i = start;
     let mut j = at;
     while i < end && i < to.len() && j < from.len() {

@@ -1,5 +1,6 @@
 //! `oracle bench`: nanoseconds of each call on tables of 3, 5 and 9 slots, idle and with a request
-//! open. Every subject gets the same inputs in the same run, batch by batch in turn.
+//! open, and of the bytes of the smallest, a typical and the largest table. Every subject gets the
+//! same inputs in the same run, batch by batch in turn.
 
 use std::hint::black_box;
 use std::time::Instant;
@@ -13,7 +14,8 @@ use original::{
 use crate::call::{self, Call};
 use crate::record::{Body, Step};
 use crate::sample::{
-    advance, begin, cut, identity, idle, marker, observation, open, replacement, snapshot,
+    advance, begin, cut, identity, idle, largest, marker, observation, open, replacement, snapshot,
+    typical,
 };
 
 /// Calls of one batch, and batches of one measurement. The median batch counts.
@@ -67,7 +69,8 @@ pub fn run(mut line: impl FnMut(&str) -> Result<(), String>) -> Result<(), Strin
     let (call, slots, state) = ("call", "slots", "state");
     let unit = format!("(ns, median of {BATCHES} batches of {CALLS} calls)");
     line(&format!("{call:<22}{slots:>6}  {state:<26}{names}  {unit}"))?;
-    for task in [3, 5, 9].into_iter().flat_map(tasks) {
+    let of_slots = [3, 5, 9].into_iter().flat_map(tasks);
+    for task in bytes_tasks().into_iter().chain(of_slots) {
         line(&measured(&subjects, &task))?;
     }
     Ok(())
@@ -99,6 +102,32 @@ fn measured(subjects: &[Box<dyn Subject>], task: &Task) -> String {
 fn median(times: &mut [u128]) -> f64 {
     times.sort_unstable();
     times[times.len() / 2] as f64
+}
+
+/// Reading and writing, by the size of the table.
+fn bytes_tasks() -> Vec<Task> {
+    let tables = [
+        ("smallest", idle(1)),
+        ("typical", typical()),
+        ("largest", largest()),
+    ];
+    let task = |name, state: &str, table: &VoterSlotTable, work| Task {
+        name,
+        state: format!("{state}, {} bytes", bytes_of(table).len()),
+        table: table.clone(),
+        work,
+    };
+    let both = |(state, table)| {
+        [
+            task("decode", state, &table, Work::Decode),
+            task("encode", state, &table, Work::Encode),
+        ]
+    };
+    tables.into_iter().flat_map(both).collect()
+}
+
+fn bytes_of(table: &VoterSlotTable) -> Vec<u8> {
+    encode_voter_slot_table(table).expect("a valid table")
 }
 
 fn tasks(count: u16) -> Vec<Task> {
@@ -220,7 +249,7 @@ impl Subject for Original {
                 timed(|| black_box(&task.table).validate_successor_of(black_box(older)))
             }
             Work::Decode => {
-                let bytes = encode_voter_slot_table(&task.table).expect("a valid table");
+                let bytes = bytes_of(&task.table);
                 timed(|| decode_voter_slot_table(black_box(&bytes)))
             }
             Work::Encode => timed(|| encode_voter_slot_table(black_box(&task.table))),
@@ -245,7 +274,7 @@ impl Subject for Original {
 mod port {
     use std::time::Instant;
 
-    use super::{Subject, Task, Work, CALLS};
+    use super::{bytes_of, Subject, Task, Work, CALLS};
     use crate::raw;
 
     extern "C" {
@@ -255,6 +284,14 @@ mod port {
             new_len: usize,
             old: *const u8,
             old_len: usize,
+            turns: u64,
+        ) -> u64;
+        fn bench_decode(bytes: *const u8, len: usize, turns: u64) -> u64;
+        fn bench_encode(
+            raw: *const u8,
+            len: usize,
+            buffer: *mut u8,
+            buffer_len: usize,
             turns: u64,
         ) -> u64;
     }
@@ -286,9 +323,28 @@ mod port {
                         )
                     }))
                 }
+                Work::Decode => {
+                    let bytes = bytes_of(&task.table);
+                    Some(timed(|| unsafe {
+                        bench_decode(bytes.as_ptr(), bytes.len(), turns)
+                    }))
+                }
+                Work::Encode => Some(encoded(task, &table, turns)),
                 _ => None,
             }
         }
+    }
+
+    /// One batch of writing; the last bytes are those of the original.
+    fn encoded(task: &Task, raw: &[u8], turns: u64) -> u128 {
+        let mut last = task.table.clone();
+        last.revision += turns;
+        let expected = bytes_of(&last);
+        let mut buffer = vec![0xEE; expected.len()];
+        let (place, room) = (buffer.as_mut_ptr(), buffer.len());
+        let time = timed(|| unsafe { bench_encode(raw.as_ptr(), raw.len(), place, room, turns) });
+        assert_eq!(buffer, expected, "the port wrote other bytes");
+        time
     }
 
     /// One batch. The port gives the sum of the answers' numbers, 0 where all were accepted.

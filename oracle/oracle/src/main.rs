@@ -6,6 +6,7 @@ mod bench;
 mod call;
 mod cases;
 mod compare;
+mod edges;
 mod fixed;
 mod format;
 mod generate;

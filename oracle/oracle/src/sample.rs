@@ -3,8 +3,9 @@
 
 use original::{
     ConsensusClusterId, ConsensusConfigurationEpoch, ConsensusRequestId, LostVoterAttestationV1,
-    SlotId, VoterIncarnation, VoterReplacementPhase, VoterSlotIdentity, VoterSlotMember,
-    VoterSlotPhase, VoterSlotRecord, VoterSlotTable,
+    SlotId, VoterIncarnation, VoterReplacementPhase, VoterReplacementRecord,
+    VoterReplacementResult, VoterReplacementResultKind, VoterSlotIdentity, VoterSlotLogId,
+    VoterSlotMember, VoterSlotPhase, VoterSlotRecord, VoterSlotTable,
 };
 
 use crate::record::{Advance, Begin, Body, Candidate, Cut, Marker, Observation, Step};
@@ -172,4 +173,66 @@ pub fn open(count: u16, phase: VoterReplacementPhase) -> VoterSlotTable {
         assert_eq!(play(&mut table, body), 0, "a record of a replacement");
     }
     table
+}
+
+/// A table as most are: three slots, a request open, names of 40 bytes.
+pub fn typical() -> VoterSlotTable {
+    let mut table = open(3, VoterReplacementPhase::CaughtUp);
+    if let Some(operation) = &mut table.replacement {
+        set_names(operation, 40);
+    }
+    table
+}
+
+/// The table of the most bytes.
+pub fn largest() -> VoterSlotTable {
+    full(9, 2048, 256)
+}
+
+/// A table in which every part is present: a receipt in each slot, an open request, all evidence.
+pub fn full(count: u16, name: usize, snapshot_id: usize) -> VoterSlotTable {
+    let mut table = open(count, VoterReplacementPhase::Uniform);
+    for slot in &mut table.slots {
+        slot.last_result = Some(receipt(slot.member.identity.slot().get()));
+        slot.retired_through += 1;
+        next_incarnation(&mut slot.member);
+    }
+    if let Some(operation) = &mut table.replacement {
+        let configurations = [&mut operation.predecessor, &mut operation.successor];
+        for member in configurations.into_iter().flat_map(|c| &mut c.members) {
+            next_incarnation(member);
+        }
+        let attested = &mut operation.attestation.expected_incarnation;
+        *attested = attested.next().expect("a next incarnation");
+        set_names(operation, name);
+        if let Some(snapshot) = &mut operation.evidence.snapshot {
+            snapshot.snapshot_id = "s".repeat(snapshot_id);
+        }
+        operation.evidence.continuation = Some(VoterSlotLogId { term: 2, index: 12 });
+    }
+    table
+}
+
+fn set_names(operation: &mut VoterReplacementRecord, length: usize) {
+    let name = format!("{:x<length$}", "spiffe://");
+    operation.attestation.candidate_spiffe_id = name.clone();
+    operation.attestation.controller_spiffe_id = name;
+}
+
+fn next_incarnation(member: &mut VoterSlotMember) {
+    let incarnation = member.identity.incarnation().get();
+    member.identity = identity(member.identity.slot().get(), incarnation + 1);
+}
+
+/// The receipt of a slot's first replacement, with a request id of its own.
+fn receipt(slot: u16) -> VoterReplacementResult {
+    VoterReplacementResult {
+        request_id: ConsensusRequestId::from_bytes(request_id(0x80 + slot as u8)),
+        request_digest: request_digest(0x80 + slot as u8),
+        incarnation: VoterIncarnation::new(2).expect("incarnation 2"),
+        revision: 1,
+        configuration_epoch: ConsensusConfigurationEpoch::new(1).expect("epoch 1"),
+        kind: VoterReplacementResultKind::Completed,
+        terminal: VoterSlotLogId { term: 1, index: 5 },
+    }
 }

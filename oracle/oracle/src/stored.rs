@@ -3,13 +3,14 @@
 
 use std::path::Path;
 
-use crate::{cases, fixed, generate, replay};
+use crate::{cases, edges, fixed, generate, replay};
 
 /// Files of questions: name, seed, count, kind.
-const QUESTIONS: [(&str, u64, usize, &str); 5] = [
+const QUESTIONS: [(&str, u64, usize, &str); 6] = [
     ("text", 1, 4000, "text"),
     ("validity", 5, 600, "validity"),
-    ("bytes", 2, 500, "bytes"),
+    ("bytes", 2, 1000, "bytes"),
+    ("writing", 6, 600, "writing"),
     ("values", 3, 500, "values"),
     ("calls", 4, 700, "calls"),
 ];
@@ -22,6 +23,7 @@ const RECORDS: usize = 60;
 pub fn write(folder: &Path) -> Result<(), String> {
     std::fs::create_dir_all(folder).map_err(|error| format!("{}: {error}", folder.display()))?;
     write_questions(folder, "fixed", &fixed::questions())?;
+    write_questions(folder, "edges", &edges::questions())?;
     for (name, seed, count, kind) in QUESTIONS {
         write_questions(
             folder,

@@ -22,7 +22,7 @@ use questions::Source;
 use random::Random;
 
 /// The kinds of input, as the command names them, and what they hold.
-pub const KINDS: [(&str, &str); 7] = [
+pub const KINDS: [(&str, &str); 8] = [
     (
         "text",
         "questions of layer one: U8 NM SI SN CC WS SL IN NX EP ND ID",
@@ -32,6 +32,7 @@ pub const KINDS: [(&str, &str); 7] = [
         "validity and the successor check of raw tables: VT SC",
     ),
     ("bytes", "reading table and attestation bytes: TR AR"),
+    ("writing", "the writer on raw tables: WR"),
     (
         "values",
         "validity, writer, successor check, retired test: VT WR SC RT",
@@ -48,6 +49,7 @@ pub fn generate(seed: u64, count: usize, kind: &str) -> Option<Vec<u8>> {
         "text" => Some(text_questions(&mut random, count)),
         "validity" => Some(table_questions(&mut random, count, &[*b"VT", *b"SC"])),
         "bytes" => Some(table_questions(&mut random, count, &HIGHER_MARKS[..2])),
+        "writing" => Some(table_questions(&mut random, count, &[*b"WR"])),
         "values" => Some(table_questions(&mut random, count, &HIGHER_MARKS[2..6])),
         "calls" => Some(table_questions(&mut random, count, &HIGHER_MARKS[6..])),
         "questions" => Some(all_questions(&mut random, count)),
