@@ -1,9 +1,10 @@
 #!/usr/bin/env python3
-"""Writes the proofs of the codec's readers that go field by field (crates/codec/proofs/{reader,decode}).
+"""Writes the regular proofs of the codec's readers (crates/codec/proofs/{reader,decode,reading}).
 
-A reader's proof says after each field what was read so far and up to where; every need is then one line. The needs and their order are
-those that `rt dev codec` prints for a function that has no proof file: the script fills such a file, or one that it filled before.
-Run it from the repository's root after a change of a reader or of the format: scripts/codec_readers.py [NAME..]
+Records are read field by field: after each field a lemma says what was read so far and up to where; every need is then one line. Optional parts, the places of
+slots and members, text, and arrays of bytes have a template each, and so have the refusals that are handed on. The needs and their order are those
+that `rt dev codec` prints for a function that has no proof file: the script fills such a file, or one that it filled before.
+Run it from the repository's root after a change of a reader or of the format, and then `rt fmt`: scripts/codec_readers.py [NAME..]
 """
 import os
 import re
@@ -405,6 +406,256 @@ def header(r, body, old):
         lines += [f"use Rattle.{home}.{x}.{{{x}}}" for x in names if x in words]
     return "\n".join(lines[:1] + [l for l in (pruned(l, body) for l in lines[1:] + old) if l]) + "\n\n"
 
+
+def refill(module, name, uses, defs, bodies):
+    """Writes a file of these imports, definitions and answers to needs; a need that is not named keeps its answer."""
+    path = os.path.join(PROOFS, module, name, "Proof.antt")
+    text = open(path).read()
+    old = [l for l in text.split("\n") if l.startswith("use ") and "·proofs.proofs" in l or l.startswith("use ") and ".proofs." in l]
+    s = text[text.index("-- src/"):]
+    for need, answer in bodies.items():
+        body, unfolding = answer if isinstance(answer, tuple) else (answer, "")
+        s = fill(s, need, body, unfolding)
+    lines = [l for l in (pruned(l, defs + s) for l in sorted(uses) + ["use borrow.Author.Needs.{needs}"] + old) if l]
+    head = f"-- `codec::{module}::{name}` meets its contract. Written by scripts/codec_readers.py. Assumes nothing."
+    open(path, "w").write("\n".join([head] + lines) + "\n\n" + defs + s)
+
+
+PATH = "use mathlib.Core.Path.{_≡_, refl, sym, ap, _∙_, subst}"
+RESULTS = "use Rattle.format.specs.Res.Res.{ok, no}"
+NUMBER = "use Rattle.identity.specs.Answer.{numberOf}"
+LAWS = "use Rattle.codec.specs.ReadingLaws.{got, told, told-not, outcome-ok, outcome-no}"
+ARITH = "use native.Mathlib.Omega.{arith}"
+FITS = "use native.Mathlib.Nat.{lt-of-le-of-lt}"
+
+
+def last_sum(module, name):
+    """The need of the last sum, whose name tells a temporary."""
+    text = open(os.path.join(PROOFS, module, name, "Proof.antt")).read()
+    return re.search(r"^(add-t\d+) :", text, re.M).group(1)
+
+
+def optional(name, codec, absent, blank, call, make):
+    """A flag, and behind a yes the part."""
+    whole = f"opt {codec} {blank}"
+    s12 = f"{back(12)} .args .bytes .now"
+    src = f"({back(4)} .{call} .ensures ∙ ap (λ l. outcome {blank} ({codec} .dec l)) (rest ({s12}) _))"
+    sum_ = f"({back(8)} .flag .given .0 .1 .0 + {back(2)} .to .given .0 .0)"
+    defs = f"""-- the flag, what it says in the branch of a yes, and the whole
+flagged : (c : tie.After-flag) → flag .dec ({back(4)} .args .bytes .now) ≡ ok (c .flag .given .0 .0) (c .flag .given .0 .1 .0)
+flagged c = got boolRead ({back(2)} .read-flag .ensures) (c .flag .given .1)
+
+yes-is : (c : tie.Else1) → {back(2)} .flag .given .0 .0 ≡ true
+yes-is c = not-false _ (c .if1 .left)
+
+flagged-yes : (c : tie.Else1) → flag .dec ({back(6)} .args .bytes .now) ≡ ok true ({back(2)} .flag .given .0 .1 .0)
+flagged-yes c = flagged ({back(2)}) ∙ ap (λ t. ok t ({back(2)} .flag .given .0 .1 .0)) (yes-is c)
+
+both : (c : tie.After-value) → {whole} .dec ({s12}) ≡ ok (true, {back(4)} .{call} .result .value) {sum_}
+both c = opt-some _ _ _ (flagged-yes ({back(6)})) (told {blank} _ {src} ({back(2)} .to .given .1))
+
+"""
+    told, told2 = f"{back(2)} .enum-told .given .1", f"{back(2)} .enum-told2 .given .1"
+    refused = f"refused-optional-{name}"
+
+    def passed(n, why, said):
+        return f"outcome-no {absent} (c .{refused}{n} .ensures ∙ ap (λ a. outcome {absent} (no (numberOf a))) ({back(1)} .{why[0]} .ensures ∙ ap {why[1]} ({said})))"
+
+    refill("decode", f"read_optional_{name}", [
+        "use Prim.Native.Nat.{ℕ, _+_}", PATH, "use mathlib.Core.Bool.{true, false}", FITS, "use borrow.Author.Tests.{not-true, not-false}", RESULTS,
+        "use Rattle.format.specs.Codec.{rest}", "use Rattle.format.specs.List.{flag, opt, opt-no, opt-none, opt-some, opt-bad}", NUMBER,
+        f"use Rattle.records.specs.Blank.{{{blank}}}", f"use Rattle.codec.specs.Format.{{{codec}}}",
+        f"use Rattle.codec.specs.Parts.{{{absent}}}", "use Rattle.codec.specs.Reading.{outcome, boolRead, whyOf, whyBool}", LAWS,
+    ], defs, {
+        "returns": f"\n    {passed('', ('why-bool', 'whyBool'), told)}\n    (opt-no _ _ _ (got boolRead ({back(4)} .read-flag .ensures) ({told})))",
+        "returns-2": f"""
+    let n = {back(3)} .flag .given .0 .1 .0 in
+    let t = not-true _ ({back(1)} .if1 .taken) in
+    let p : {whole} .dec ({back(7)} .args .bytes .now) ≡ ok (false, {blank}) n = opt-none _ _ _ (flagged ({back(3)}) ∙ ap (λ b. ok b n) t) in
+    outcome-ok {absent} (p ∙ (λ i. ok (sym t i, sym (c .{make} .ensures) i) n))""",
+        f"sub-{call}": f"flag .within _ (flagged ({back(2)}))",
+        f"part-{call}-start": f"flag .within _ (flagged ({back(2)}))",
+        "returns-3": f"\n    {passed('2', ('why', 'whyOf'), told2)}\n    (opt-bad _ _ _ (flagged-yes ({back(6)})) (told-not {blank} _ {src} ({told2})))",
+        last_sum("decode", f"read_optional_{name}"): f"record {{ fits = lt-of-le-of-lt (({whole}) .within _ (both c)) ({back(12)} .good .0 .0) }}",
+        "returns-4": f"\n    outcome-ok {absent}\n    (both c ∙ ap (λ b. ok (b, {back(4)} .{call} .result .value) {sum_}) (sym (yes-is ({back(6)}))))",
+    })
+
+
+def places(name, element, blanks, blank, make):
+    """The first so many of nine places."""
+    call = f"read-{element}"
+    told = f"{back(2)} .enum-told .given .1"
+    defs = f"""abbrev Inv-loop : tie.InvT-loop
+Inv-loop bytes count value₀ at₀ i₀ value at i =
+    (i ≤ count) × (vec {element} {blank} i .dec bytes ≡ ok (take i value) at) × (drop i value ≡ drop i value₀) × (length value ≡ 9)
+
+abbrev μ-loop : tie.MeasureT-loop
+μ-loop bytes count value₀ at₀ i₀ value at i = count - i
+
+-- one more was read, behind those before it
+one-more : (c : tie.After-to Inv-loop μ-loop) → {element} .dec (drop ({back(5)} .loop .at) ({back(8)} .args .bytes .now)) ≡ ok ({back(2)} .{call} .result .value) (c .to .given .0 .0)
+one-more c = told {blank} _ ({back(2)} .{call} .ensures ∙ ap (λ l. outcome {blank} ({element} .dec l)) (rest ({back(8)} .args .bytes .now) ({back(5)} .loop .at))) (c .to .given .1)
+
+-- behind those that were read stand blanks
+blanks-behind : (i : ℕ) → drop i {blanks} ≡ replicate (9 - i) {blank}
+unfolding {blanks}
+blanks-behind i = drop-replicate i 9 {blank}
+
+"""
+    refill("decode", f"read_{name}", [
+        "use Prim.Native.Nat.{ℕ, _+_, _-_, _≤_}", PATH, "use mathlib.Core.List.{_++_}", FITS, ARITH,
+        "use lib.ListN.{length, take, drop, set, replicate, length-set, take-append-drop}", RESULTS, "use Rattle.format.specs.Codec.{rest}",
+        "use Rattle.format.specs.Copy.{filled-more, unfilled-more, drop-replicate}",
+        "use Rattle.format.specs.List.{vec, vec-start, vec-next, vec-refused, padded-ok, padded-no}", NUMBER,
+        f"use Rattle.records.specs.Blank.{{{blank}}}", f"use Rattle.codec.specs.Format.{{{element}, {name}}}",
+        f"use Rattle.codec.specs.Parts.{{{blanks}}}", "use Rattle.codec.specs.Reading.{outcome, whyOf}", LAWS,
+    ], defs, {
+        **{need: "search needs" for need in [f"{make}-requires", f"part-{call}-end", f"{call}-requires", "enum-known-to", "enum-told", "why-requires",
+                                             f"refused-{name}-requires", "mul-value", "array-set-from-value", "add-i"]},
+        "loop-holds": (f"(search needs, vec-start {element} {blank} _, refl, ap length (c .{make} .ensures))", blanks),
+        f"sub-{call}": f"vec {element} {blank} _ .within _ (c .before .loop .inv .1)",
+        f"part-{call}-start": f"vec {element} {blank} _ .within _ (c .before .loop .inv .1)",
+        "returns": (f"""
+    let l = {back(7)} .loop in
+    outcome-no {blanks} (c .refused-{name} .ensures ∙ ap (λ a. outcome {blanks} (no (numberOf a))) ({back(1)} .why .ensures ∙ ap whyOf ({told})))
+    (padded-no _ _ _ _ _ _ (vec-refused _ _ _ _ _ ({back(6)} .loop-test .taken) (l .inv .1)
+    (told-not {blank} _ ({back(4)} .{call} .ensures ∙ ap (λ l. outcome {blank} ({element} .dec l)) (rest ({back(10)} .args .bytes .now) (l .at))) ({told}))))""", name),
+        "add-at": f"record {{ fits = lt-of-le-of-lt (vec {element} {blank} _ .within _ (vec-next {element} {blank} _ _ ({back(7)} .loop .inv .1) (one-more ({back(2)})))) ({back(10)} .good .0 .0) }}",
+        "loop-less": "omega arith",
+        "loop-again": f"""
+    let l = {back(7)} .loop in
+    let m = {back(4)} .{call} .result .value in (
+      omega arith,
+      vec-next {element} {blank} _ _ (l .inv .1) (one-more ({back(2)})) ∙ ap (λ v. ok v (l .at + {back(2)} .to .given .0 .0)) (sym (filled-more (l .value) (l .i) m (omega (arith, l .inv .3)))),
+      unfilled-more (l .value) _ (l .i) m (l .inv .2),
+      length-set (l .value) (l .i) m ∙ l .inv .3,
+    )""",
+        "returns-2": (f"""
+    let l = c .before .loop in
+    let a = {back(4)} .args in
+    let e : l .i ≡ a .count = omega arith in
+    let v : l .value ≡ take (l .i) (l .value) ++ replicate (9 - a .count) {blank}
+        = sym (take-append-drop (l .i) (l .value))
+            ∙ ap (λ t. take (l .i) (l .value) ++ t) (l .inv .2 ∙ ap (drop (l .i)) ({back(2)} .{make} .ensures) ∙ blanks-behind (l .i))
+            ∙ ap (λ n. take (l .i) (l .value) ++ replicate (9 - n) {blank}) e in
+    outcome-ok {blanks}
+    (padded-ok _ _ _ _ _ _ (subst (λ n. vec {element} {blank} n .dec (a .bytes .now) ≡ ok (take (l .i) (l .value)) (l .at)) e (l .inv .1)) ∙ ap (λ x. ok x (l .at)) (sym v))""", name),
+    })
+
+
+def text(name, codec, blank, size):
+    """Sized bytes that are UTF-8, in a place of so many."""
+    call, zeros, refused = f"read_{name}", f"zeros{size}", "refused-" + kebab(name)
+    told = f"{back(2)} .enum-told .given .1"
+    defs = f"""-- what was read
+is : (c : tie.After-known-told) → sized {size} .dec ({back(5)} .args .bytes .now)
+    ≡ ok ({back(1)} .size .given .0 .0, take ({back(1)} .size .given .0 .0) (drop 2 ({back(5)} .args .bytes .now))) (2 + {back(1)} .size .given .0 .0)
+is c = got (λ r. sizedRead r ({back(5)} .args .bytes .now)) ({back(3)} .read-sized .ensures) ({back(1)} .size .given .1)
+
+-- the text, as the slice says it
+text : (n : ℕ) (s : List ℕ) → take (2 + n - 2) (drop 2 s) ≡ take n (drop 2 s)
+text n s = let e : 2 + n - 2 ≡ n = omega arith in ap (λ m. take m (drop 2 s)) e
+
+fits : (c : tie.After-known-told) → 2 + {back(1)} .size .given .0 .0 ≤ length ({back(5)} .args .bytes .now)
+fits c = sized {size} .within _ (is c)
+
+"""
+    opened = f"{codec} string"
+    refill("reader", call, [
+        "use Prim.Native.Nat.{ℕ, _+_, _-_, _≤_}", PATH, "use mathlib.Core.List.{List, _++_}", FITS, ARITH,
+        "use lib.ListN.{length, take, drop, replicate, length-take, length-drop}", "use lib.Seq.{length-take-le}", RESULTS,
+        "use Rattle.format.specs.Codec.{checked-ok, checked-no, checked-bad, via-ok, via-no}", "use Rattle.format.specs.Copy.{length-zeros}",
+        "use Rattle.format.specs.Fill.{put-zeros}", "use Rattle.format.specs.Num.{pick}", "use Rattle.format.specs.Put.{put}", NUMBER,
+        "use Rattle.identity.specs.Text.{isUtf8}", f"use Rattle.records.specs.Blank.{{{blank}}}", "use Rattle.records.specs.ValidationLaws.{failed, held}",
+        f"use Rattle.codec.specs.Format.{{require, sized, string, {codec}}}", "use Rattle.codec.specs.FormatLaws.{sized-small}",
+        "use Rattle.codec.specs.Reading.{outcome, sizedRead, whySized}", LAWS,
+    ], defs, {
+        "returns": (f"""
+    let s = {back(6)} .args .bytes .now in
+    outcome-no _ (c .{refused} .ensures ∙ ap (λ a. outcome {blank} (no (numberOf a))) ({back(1)} .why-sized .ensures ∙ ap whySized ({told})))
+    (via-no _ _ _ _ _ (checked-no _ _ _ (got (λ r. sizedRead r s) ({back(4)} .read-sized .ensures) ({told}))))""", opened),
+        "add-text": f"record {{ fits = lt-of-le-of-lt (fits c) ({back(5)} .good .0 .0) }}",
+        "part-text-end": "fits c",
+        "returns-2": (f"""
+    let s = {back(9)} .args .bytes .now in
+    let n = {back(5)} .size .given .0 .0 in
+    outcome-no _ (c .{refused}2 .ensures)
+    (via-no _ _ _ _ _ (checked-bad _ _ _ (is ({back(4)})) (ap require (ap isUtf8 (sym (text n s)) ∙ failed ({back(2)} .is-utf8 .ensures) ({back(1)} .if1 .taken)))))""", opened + " pick"),
+        "put-bytes-requires": f"""
+    let s = {back(10)} .args .bytes .now in
+    let n = {back(6)} .size .given .0 .0 in
+    let z : length ({back(1)} .{zeros} .result) ≡ {size} = ap length ({back(1)} .{zeros} .ensures) ∙ length-zeros {size} in
+    omega (arith, length-take (2 + n - 2) (drop 2 s), z, sized-small {size} s (is ({back(5)})))""",
+        last_sum("reader", call): f"record {{ fits = lt-of-le-of-lt (fits ({back(7)})) ({back(12)} .good .0 .0) }}",
+        "returns-3": (f"""
+    let s = {back(12)} .args .bytes .now in
+    let n = {back(8)} .size .given .0 .0 in
+    let l = take n (drop 2 s) in
+    let h : length l ≡ n = length-take-le n (drop 2 s) (omega (arith, length-drop 2 s, fits ({back(7)}))) in
+    let p = {back(1)} .put-bytes .ensures .bytes ∙ (λ i. put (text n s i) 0 ({back(3)} .{zeros} .ensures i)) ∙ put-zeros l {size} ∙ ap (λ m. l ++ replicate ({size} - m) 0) h in
+    outcome-ok {blank}
+    (via-ok _ _ _ _ _ (checked-ok _ _ _ (is ({back(7)})) (ap require (ap isUtf8 (sym (text n s)) ∙ held ({back(5)} .is-utf8 .ensures) ({back(4)} .if1 .left))))
+        ∙ ap (λ b. ok (record {{ len = n; bytes = b }}) (2 + n)) (sym p))""", opened + " pick"),
+    })
+
+
+def array(size):
+    """So many bytes as they stand."""
+    made = f"zeros{size}"
+    refill("reader", f"read_array{size}", [
+        PATH, ARITH, "use lib.ListN.{length, take, length-take}", "use lib.Seq.{length-take-le}", RESULTS,
+        "use Rattle.format.specs.Copy.{zeros, length-zeros}", "use Rattle.format.specs.Fill.{put-whole}", "use Rattle.format.specs.Num.{raw-got, raw-not}",
+        "use Rattle.format.specs.Put.{put}", LAWS,
+    ], "", {
+        "returns": f"outcome-no _ (c .refused-array{size} .ensures) (raw-not {size} _ ({back(1)} .if1 .taken))",
+        "slice-aggregate-put-bytes-2": "simp length-take (omega arith)",
+        "put-bytes-requires": f"""
+    let z : length ({back(2)} .{made} .result) ≡ {size} = ap length ({back(2)} .{made} .ensures) ∙ length-zeros {size} in
+    omega (arith, length-take {size} ({back(5)} .args .bytes .now), z)""",
+        "returns-2": f"""
+    let s = {back(7)} .args .bytes .now in
+    let p = {back(1)} .put-bytes .ensures .bytes ∙ ap (put (take {size} s) 0) ({back(4)} .{made} .ensures) in
+    let l : length (take {size} s) ≡ {size} = length-take-le {size} s (omega arith) in
+    outcome-ok (zeros {size}) (raw-got {size} s (omega arith) ∙ ap (λ v. ok v {size}) (sym (p ∙ put-whole (take {size} s) {size} l)))""",
+    })
+
+
+def answers():
+    """What hands a refusal on: `why..` and `refused..`."""
+    folder = os.path.join(PROOFS, "reading")
+    for name in sorted(os.listdir(folder)):
+        body = open(os.path.join(folder, name, "Proof.antt")).read()
+        if name.startswith("why"):
+            said = "whyOf" if name == "why" else "why" + "".join(w.capitalize() for w in name[4:].split("_"))
+            refill("reading", name, [PATH, f"use Rattle.codec.specs.Reading.{{{said}}}"], "", {"returns-2": f"sym (ap {said} (c .before .answer .given .1))"})
+        elif name.startswith("refused"):
+            call = re.search(r"^(\S+)-requires : ", body, re.M)
+            uses = [PATH, "use mathlib.Core.Bool.{false}", RESULTS, NUMBER, "use Rattle.format.specs.Copy.{zeros}", "use Rattle.codec.specs.Reading.{outcome}"]
+            if call is None:
+                refill("reading", name, uses, "", {"returns": ("refl", "outcome zeros")})
+            else:
+                value = "(false, v)" if "optional" in name else "v"
+                refill("reading", name, uses, "", {"returns": (f"ap (λ v. (no (numberOf (c .before .args .answer)), {value})) (c .{call.group(1)} .ensures)", "outcome")})
+
+
+TEMPLATES = {
+    "read_optional_result": lambda: optional("result", "result", "absentResult", "blankVoterReplacementResult", "read-result", "blank-voter-replacement-result"),
+    "read_optional_snapshot": lambda: optional("snapshot", "snapshot", "absentSnapshot", "blankVoterSnapshotEvidence", "read-snapshot", "blank-voter-snapshot-evidence"),
+    "read_optional_replacement": lambda: optional("replacement", "replacement", "absentReplacement", "blankVoterReplacementRecord", "read-replacement", "blank-voter-replacement-record"),
+    "read_members": lambda: places("members", "member", "blankVoterSlotMembers", "blankVoterSlotMember", "blank-voter-slot-members"),
+    "read_slots": lambda: places("slots", "slot", "blankVoterSlotRecords", "blankVoterSlotRecord", "blank-voter-slot-records"),
+    "read_spiffe_id": lambda: text("spiffe_id", "spiffeId", "blankSpiffeId", 2048),
+    "read_snapshot_id": lambda: text("snapshot_id", "snapshotId", "blankSnapshotId", 256),
+    "read_array16": lambda: array(16),
+    "read_array32": lambda: array(32),
+    "read_array64": lambda: array(64),
+    "answers": answers,
+}
+
+for name, template in TEMPLATES.items():
+    if len(sys.argv) == 1 or name in sys.argv[1:]:
+        template()
+        print("wrote", name)
 
 for reader in READERS:
     if len(sys.argv) == 1 or reader[1] in sys.argv[1:]:

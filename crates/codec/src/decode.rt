@@ -881,14 +881,9 @@ pub fn read_table(bytes: &[u8]) -> TableRead
         return refused_table(why(replacement_to));
     };
     let replacement = replacement_read.value;
+    let is_some = replacement_read.is_some;
     TableRead {
         answer: Reading::To(at + n),
-        value: table_of(
-            head,
-            count as usize,
-            slots,
-            replacement_read.is_some,
-            replacement,
-        ),
+        value: table_of(head, count as usize, slots, is_some, replacement),
     }
 }

@@ -1,21 +1,21 @@
--- `codec::decode::read_members` meets its contract. Assumes nothing.
+-- `codec::decode::read_members` meets its contract. Written by scripts/codec_readers.py. Assumes nothing.
 use Prim.Native.Nat.{ℕ, _+_, _-_, _≤_}
-use mathlib.Core.Path.{_≡_, refl, sym, ap, _∙_, subst}
-use mathlib.Core.List.{_++_}
-use native.Mathlib.Nat.{lt-of-le-of-lt}
-use native.Mathlib.Omega.{arith}
-use borrow.Author.Needs.{needs}
-use lib.ListN.{length, take, drop, replicate, length-set, take-append-drop}
-use Rattle.format.specs.Res.Res.{ok, no}
-use Rattle.format.specs.Codec.{rest}
-use Rattle.format.specs.Copy.{filled-more, unfilled-more, drop-replicate}
-use Rattle.format.specs.List.{vec, vec-start, vec-next, vec-refused, padded-ok, padded-no}
-use Rattle.identity.specs.Answer.{numberOf}
-use Rattle.records.specs.Blank.{blankVoterSlotMember}
 use Rattle.codec.specs.Format.{member, members}
 use Rattle.codec.specs.Parts.{blankVoterSlotMembers}
 use Rattle.codec.specs.Reading.{outcome, whyOf}
 use Rattle.codec.specs.ReadingLaws.{told, told-not, outcome-ok, outcome-no}
+use Rattle.format.specs.Codec.{rest}
+use Rattle.format.specs.Copy.{filled-more, unfilled-more, drop-replicate}
+use Rattle.format.specs.List.{vec, vec-start, vec-next, vec-refused, padded-ok, padded-no}
+use Rattle.format.specs.Res.Res.{ok, no}
+use Rattle.identity.specs.Answer.{numberOf}
+use Rattle.records.specs.Blank.{blankVoterSlotMember}
+use lib.ListN.{length, take, drop, replicate, length-set, take-append-drop}
+use mathlib.Core.List.{_++_}
+use mathlib.Core.Path.{_≡_, refl, sym, ap, _∙_, subst}
+use native.Mathlib.Nat.{lt-of-le-of-lt}
+use native.Mathlib.Omega.{arith}
+use borrow.Author.Needs.{needs}
 use Rattle.codec.proofs.decode.read_members.Statement.{statement}
 use Rattle.codec.proofs.decode.read_members.Tie as tie
 

@@ -1,18 +1,18 @@
--- `codec::decode::read_optional_result` meets its contract. Assumes nothing.
+-- `codec::decode::read_optional_result` meets its contract. Written by scripts/codec_readers.py. Assumes nothing.
 use Prim.Native.Nat.{_+_}
-use mathlib.Core.Path.{_≡_, sym, ap, _∙_}
-use mathlib.Core.Bool.{true, false}
-use native.Mathlib.Nat.{lt-of-le-of-lt}
-use borrow.Author.Tests.{not-true, not-false}
-use Rattle.format.specs.Res.Res.{ok, no}
-use Rattle.format.specs.Codec.{rest}
-use Rattle.format.specs.List.{flag, opt, opt-no, opt-none, opt-some, opt-bad}
-use Rattle.identity.specs.Answer.{numberOf}
-use Rattle.records.specs.Blank.{blankVoterReplacementResult}
 use Rattle.codec.specs.Format.{result}
 use Rattle.codec.specs.Parts.{absentResult}
 use Rattle.codec.specs.Reading.{outcome, boolRead, whyOf, whyBool}
 use Rattle.codec.specs.ReadingLaws.{got, told, told-not, outcome-ok, outcome-no}
+use Rattle.format.specs.Codec.{rest}
+use Rattle.format.specs.List.{flag, opt, opt-no, opt-none, opt-some, opt-bad}
+use Rattle.format.specs.Res.Res.{ok, no}
+use Rattle.identity.specs.Answer.{numberOf}
+use Rattle.records.specs.Blank.{blankVoterReplacementResult}
+use borrow.Author.Tests.{not-true, not-false}
+use mathlib.Core.Bool.{true, false}
+use mathlib.Core.Path.{_≡_, sym, ap, _∙_}
+use native.Mathlib.Nat.{lt-of-le-of-lt}
 use borrow.Author.Needs.{needs}
 use Rattle.codec.proofs.decode.read_optional_result.Statement.{statement}
 use Rattle.codec.proofs.decode.read_optional_result.Tie as tie
@@ -27,8 +27,7 @@ yes-is c = not-false _ (c .if1 .left)
 flagged-yes : (c : tie.Else1) → flag .dec (c .before .before .before .before .before .before .args .bytes .now) ≡ ok true (c .before .before .flag .given .0 .1 .0)
 flagged-yes c = flagged (c .before .before) ∙ ap (λ t. ok t (c .before .before .flag .given .0 .1 .0)) (yes-is c)
 
-both : (c : tie.After-value) → opt result blankVoterReplacementResult .dec (c .before .before .before .before .before .before .before .before .before .before .before .before .args .bytes .now)
-    ≡ ok (true, c .before .before .before .before .read-result .result .value) (c .before .before .before .before .before .before .before .before .flag .given .0 .1 .0 + c .before .before .to .given .0 .0)
+both : (c : tie.After-value) → opt result blankVoterReplacementResult .dec (c .before .before .before .before .before .before .before .before .before .before .before .before .args .bytes .now) ≡ ok (true, c .before .before .before .before .read-result .result .value) (c .before .before .before .before .before .before .before .before .flag .given .0 .1 .0 + c .before .before .to .given .0 .0)
 both c = opt-some _ _ _ (flagged-yes (c .before .before .before .before .before .before)) (told blankVoterReplacementResult _ (c .before .before .before .before .read-result .ensures ∙ ap (λ l. outcome blankVoterReplacementResult (result .dec l)) (rest (c .before .before .before .before .before .before .before .before .before .before .before .before .args .bytes .now) _)) (c .before .before .to .given .1))
 
 -- src/decode.rt:307:9

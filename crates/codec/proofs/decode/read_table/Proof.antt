@@ -256,8 +256,8 @@ returns-5 c =
     (via-no _ _ _ _ _ (dep-no-2 _ _ _ (got-4 (c .before .before .before .before .before .before)) (told-not absentReplacement _ (c .before .before .before .before .read-optional-replacement .ensures ∙ ap (λ l. outcome absentReplacement ((opt replacement blankVoterReplacementRecord) .dec l)) (rest (c .before .before .before .before .before .before .before .before .before .before .before .before .before .before .before .before .before .before .before .before .before .before .before .before .before .before .before .before .args .bytes .now) _)) (c .before .before .enum-told5 .given .1))))
 
 -- src/decode.rt:885:29
-add-t35 : tie.Need-add-t35
-add-t35 c = record { fits = lt-of-le-of-lt (c5 .within _ (got-5 (c))) (c .before .before .before .before .before .before .before .before .before .before .before .before .before .before .before .before .before .before .before .before .before .before .before .before .before .before .before .before .good .0 .0) }
+add-t36 : tie.Need-add-t36
+add-t36 c = record { fits = lt-of-le-of-lt (c5 .within _ (got-5 (c))) (c .before .before .before .before .before .before .before .before .before .before .before .before .before .before .before .before .before .before .before .before .before .before .before .before .before .before .before .before .good .0 .0) }
 
 -- src/decode.rt:888:13
 cast-table-of : tie.Need-cast-table-of
@@ -322,7 +322,7 @@ read-table-spec =
     why-requires-4
     refused-table-requires-5
     returns-5
-    add-t35
+    add-t36
     cast-table-of
     table-of-requires
     returns-6)

@@ -11,6 +11,7 @@ use Rattle.records.specs.Records.{noMember}
 use Rattle.codec.specs.Format.{count, member}
 use Rattle.codec.specs.SizeLaws.{getD-any}
 use Rattle.codec.specs.PutLaws.{put-is, firsts, firsts-none, firsts-more, firsts-within, members-firsts}
+use Rattle.records.specs.declared.records.VoterSlotMember.{VoterSlotMember}
 use Rattle.codec.proofs.encode.put_members.Statement.{statement}
 use Rattle.codec.proofs.encode.put_members.Tie as tie
 

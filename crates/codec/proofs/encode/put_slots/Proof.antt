@@ -11,6 +11,7 @@ use Rattle.records.specs.Records.{noSlotRecord}
 use Rattle.codec.specs.Format.{count, slot}
 use Rattle.codec.specs.SizeLaws.{getD-any}
 use Rattle.codec.specs.PutLaws.{put-is, firsts, firsts-none, firsts-more, firsts-within, slots-firsts}
+use Rattle.records.specs.declared.records.VoterSlotRecord.{VoterSlotRecord}
 use Rattle.codec.proofs.encode.put_slots.Statement.{statement}
 use Rattle.codec.proofs.encode.put_slots.Tie as tie
 

@@ -1,14 +1,14 @@
--- `codec::reader::read_array16` meets its contract. Assumes nothing.
-use mathlib.Core.Path.{_≡_, sym, ap, _∙_}
-use native.Mathlib.Omega.{arith}
-use lib.ListN.{length, take, length-take}
-use lib.Seq.{length-take-le}
-use Rattle.format.specs.Res.Res.{ok}
+-- `codec::reader::read_array16` meets its contract. Written by scripts/codec_readers.py. Assumes nothing.
+use Rattle.codec.specs.ReadingLaws.{outcome-ok, outcome-no}
 use Rattle.format.specs.Copy.{zeros, length-zeros}
 use Rattle.format.specs.Fill.{put-whole}
 use Rattle.format.specs.Num.{raw-got, raw-not}
 use Rattle.format.specs.Put.{put}
-use Rattle.codec.specs.ReadingLaws.{outcome-ok, outcome-no}
+use Rattle.format.specs.Res.Res.{ok}
+use lib.ListN.{length, take, length-take}
+use lib.Seq.{length-take-le}
+use mathlib.Core.Path.{_≡_, sym, ap, _∙_}
+use native.Mathlib.Omega.{arith}
 use borrow.Author.Needs.{needs}
 use Rattle.codec.proofs.reader.read_array16.Statement.{statement}
 use Rattle.codec.proofs.reader.read_array16.Tie as tie

@@ -1,25 +1,25 @@
--- `codec::reader::read_snapshot_id` meets its contract. Assumes nothing.
+-- `codec::reader::read_snapshot_id` meets its contract. Written by scripts/codec_readers.py. Assumes nothing.
 use Prim.Native.Nat.{ℕ, _+_, _-_, _≤_}
-use mathlib.Core.Path.{_≡_, sym, ap, _∙_}
-use mathlib.Core.List.{List, _++_}
-use native.Mathlib.Nat.{lt-of-le-of-lt}
-use native.Mathlib.Omega.{arith}
-use lib.ListN.{length, take, drop, replicate, length-take, length-drop}
-use lib.Seq.{length-take-le}
-use Rattle.format.specs.Res.Res.{ok, no}
+use Rattle.codec.specs.Format.{require, sized, string, snapshotId}
+use Rattle.codec.specs.FormatLaws.{sized-small}
+use Rattle.codec.specs.Reading.{outcome, sizedRead, whySized}
+use Rattle.codec.specs.ReadingLaws.{got, outcome-ok, outcome-no}
 use Rattle.format.specs.Codec.{checked-ok, checked-no, checked-bad, via-ok, via-no}
 use Rattle.format.specs.Copy.{length-zeros}
 use Rattle.format.specs.Fill.{put-zeros}
 use Rattle.format.specs.Num.{pick}
 use Rattle.format.specs.Put.{put}
+use Rattle.format.specs.Res.Res.{ok, no}
 use Rattle.identity.specs.Answer.{numberOf}
 use Rattle.identity.specs.Text.{isUtf8}
 use Rattle.records.specs.Blank.{blankSnapshotId}
 use Rattle.records.specs.ValidationLaws.{failed, held}
-use Rattle.codec.specs.Format.{require, sized, string, snapshotId}
-use Rattle.codec.specs.FormatLaws.{sized-small}
-use Rattle.codec.specs.Reading.{outcome, sizedRead, whySized}
-use Rattle.codec.specs.ReadingLaws.{got, outcome-ok, outcome-no}
+use lib.ListN.{length, take, drop, replicate, length-take, length-drop}
+use lib.Seq.{length-take-le}
+use mathlib.Core.List.{List, _++_}
+use mathlib.Core.Path.{_≡_, sym, ap, _∙_}
+use native.Mathlib.Nat.{lt-of-le-of-lt}
+use native.Mathlib.Omega.{arith}
 use borrow.Author.Needs.{needs}
 use Rattle.codec.proofs.reader.read_snapshot_id.Statement.{statement}
 use Rattle.codec.proofs.reader.read_snapshot_id.Tie as tie

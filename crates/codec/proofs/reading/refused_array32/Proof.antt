@@ -1,7 +1,7 @@
--- `codec::reading::refused_array32` meets its contract. Assumes nothing.
-use mathlib.Core.Path.{refl}
-use Rattle.format.specs.Copy.{zeros}
+-- `codec::reading::refused_array32` meets its contract. Written by scripts/codec_readers.py. Assumes nothing.
 use Rattle.codec.specs.Reading.{outcome}
+use Rattle.format.specs.Copy.{zeros}
+use mathlib.Core.Path.{refl}
 use Rattle.codec.proofs.reading.refused_array32.Statement.{statement}
 use Rattle.codec.proofs.reading.refused_array32.Tie as tie
 

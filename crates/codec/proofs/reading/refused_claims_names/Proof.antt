@@ -1,8 +1,8 @@
--- `codec::reading::refused_claims_names` meets its contract. Assumes nothing.
-use mathlib.Core.Path.{ap}
+-- `codec::reading::refused_claims_names` meets its contract. Written by scripts/codec_readers.py. Assumes nothing.
+use Rattle.codec.specs.Reading.{outcome}
 use Rattle.format.specs.Res.Res.{no}
 use Rattle.identity.specs.Answer.{numberOf}
-use Rattle.codec.specs.Reading.{outcome}
+use mathlib.Core.Path.{ap}
 use borrow.Author.Needs.{needs}
 use Rattle.codec.proofs.reading.refused_claims_names.Statement.{statement}
 use Rattle.codec.proofs.reading.refused_claims_names.Tie as tie

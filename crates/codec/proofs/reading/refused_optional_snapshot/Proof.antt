@@ -1,9 +1,9 @@
--- `codec::reading::refused_optional_snapshot` meets its contract. Assumes nothing.
-use mathlib.Core.Path.{ap}
-use mathlib.Core.Bool.{false}
+-- `codec::reading::refused_optional_snapshot` meets its contract. Written by scripts/codec_readers.py. Assumes nothing.
+use Rattle.codec.specs.Reading.{outcome}
 use Rattle.format.specs.Res.Res.{no}
 use Rattle.identity.specs.Answer.{numberOf}
-use Rattle.codec.specs.Reading.{outcome}
+use mathlib.Core.Bool.{false}
+use mathlib.Core.Path.{ap}
 use borrow.Author.Needs.{needs}
 use Rattle.codec.proofs.reading.refused_optional_snapshot.Statement.{statement}
 use Rattle.codec.proofs.reading.refused_optional_snapshot.Tie as tie

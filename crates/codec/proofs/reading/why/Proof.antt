@@ -1,6 +1,6 @@
--- `codec::reading::why` meets its contract. Assumes nothing.
-use mathlib.Core.Path.{sym, ap}
+-- `codec::reading::why` meets its contract. Written by scripts/codec_readers.py. Assumes nothing.
 use Rattle.codec.specs.Reading.{whyOf}
+use mathlib.Core.Path.{sym, ap}
 use borrow.Author.Needs.{needs}
 use Rattle.codec.proofs.reading.why.Statement.{statement}
 use Rattle.codec.proofs.reading.why.Tie as tie

@@ -1,6 +1,6 @@
--- `codec::reading::why_bool` meets its contract. Assumes nothing.
-use mathlib.Core.Path.{sym, ap}
+-- `codec::reading::why_bool` meets its contract. Written by scripts/codec_readers.py. Assumes nothing.
 use Rattle.codec.specs.Reading.{whyBool}
+use mathlib.Core.Path.{sym, ap}
 use borrow.Author.Needs.{needs}
 use Rattle.codec.proofs.reading.why_bool.Statement.{statement}
 use Rattle.codec.proofs.reading.why_bool.Tie as tie

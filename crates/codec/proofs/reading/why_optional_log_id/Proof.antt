@@ -1,6 +1,6 @@
--- `codec::reading::why_optional_log_id` meets its contract. Assumes nothing.
-use mathlib.Core.Path.{sym, ap}
+-- `codec::reading::why_optional_log_id` meets its contract. Written by scripts/codec_readers.py. Assumes nothing.
 use Rattle.codec.specs.Reading.{whyOptionalLogId}
+use mathlib.Core.Path.{sym, ap}
 use borrow.Author.Needs.{needs}
 use Rattle.codec.proofs.reading.why_optional_log_id.Statement.{statement}
 use Rattle.codec.proofs.reading.why_optional_log_id.Tie as tie

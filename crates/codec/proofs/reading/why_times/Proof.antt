@@ -1,6 +1,6 @@
--- `codec::reading::why_times` meets its contract. Assumes nothing.
-use mathlib.Core.Path.{sym, ap}
+-- `codec::reading::why_times` meets its contract. Written by scripts/codec_readers.py. Assumes nothing.
 use Rattle.codec.specs.Reading.{whyTimes}
+use mathlib.Core.Path.{sym, ap}
 use borrow.Author.Needs.{needs}
 use Rattle.codec.proofs.reading.why_times.Statement.{statement}
 use Rattle.codec.proofs.reading.why_times.Tie as tie

@@ -1,6 +1,6 @@
--- `codec::reading::why_u64` meets its contract. Assumes nothing.
-use mathlib.Core.Path.{sym, ap}
+-- `codec::reading::why_u64` meets its contract. Written by scripts/codec_readers.py. Assumes nothing.
 use Rattle.codec.specs.Reading.{whyU64}
+use mathlib.Core.Path.{sym, ap}
 use borrow.Author.Needs.{needs}
 use Rattle.codec.proofs.reading.why_u64.Statement.{statement}
 use Rattle.codec.proofs.reading.why_u64.Tie as tie
