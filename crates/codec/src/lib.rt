@@ -1,8 +1,8 @@
 // Layer three: the bytes of a table and of an attestation.
 pub mod codec;
-pub mod decode;
-pub mod encode;
-pub mod parts;
-pub mod reader;
+mod decode;
+mod encode;
+mod parts;
+mod reader;
 pub mod reading;
-pub mod writer;
+mod writer;
