@@ -39,6 +39,8 @@ pub struct DecodedAttestation {
     pub attestation: LostVoterAttestationV1,
 }
 
+// The bound, the fields, nothing left over, and then validity. What the fields hold passes the test
+// for 30, so that is not asked again.
 pub fn decode_voter_slot_table(bytes: &[u8]) -> DecodedTable
     ensures { λ r. ⌜ (numberOf (r .answer), r .table) ≡ decoded blankVoterSlotTable (decodeVoterSlotTable (now (bytes .entry))) ⌝ }
 {
@@ -70,6 +72,7 @@ fn refused_table(answer: Answer) -> DecodedTable
     }
 }
 
+// The bound, the fields, nothing left over, and the attestation's own rule.
 pub fn decode_lost_voter_attestation(bytes: &[u8]) -> DecodedAttestation
     ensures { λ r. ⌜ (numberOf (r .answer), r .attestation) ≡ decoded blankLostVoterAttestationV1 (decodeLostVoterAttestation (now (bytes .entry))) ⌝ }
 {
@@ -97,7 +100,8 @@ fn refused_attestation(answer: Answer) -> DecodedAttestation
     }
 }
 
-// The table's bytes at the start of the buffer, and their count; refused, nothing is written.
+// The table's bytes at the start of the buffer, and their count; refused, nothing is written: the size
+// is reckoned before the first byte is put.
 pub fn encode_voter_slot_table(buffer: &mut [u8], table: VoterSlotTable) -> Reading
     ensures { λ r. ⌜ (report r, now (buffer .exit)) ≡ outcome (now (buffer .entry)) (encodeVoterSlotTable table (now (buffer .entry))) ⌝ }
 {
@@ -111,7 +115,8 @@ pub fn encode_voter_slot_table(buffer: &mut [u8], table: VoterSlotTable) -> Read
     Reading::To(put_table(buffer, 0, table))
 }
 
-// The table is written, and the bytes counted are read again.
+// The table is written, and the bytes counted are read again. A valid table comes back as it was
+// where the buffer has room for it.
 pub fn restart(buffer: &mut [u8], table: VoterSlotTable) -> DecodedTable
     ensures { λ r. ⌜ ((numberOf (r .answer), r .table), now (buffer .exit)) ≡ restartOutcome table (now (buffer .entry)) ⌝ }
 {

@@ -57,7 +57,7 @@ use records::records::VoterSlotRecord;
 use records::records::VoterSlotTable;
 use records::records::VoterSnapshotEvidence;
 
-// How far was read; or why not.
+// How far was read, or written; or why not.
 pub enum Reading {
     To(usize),
     Refused(Answer),
