@@ -5,7 +5,6 @@ mod line;
 mod question;
 mod reply;
 
-ghost use Prim.Native.Nat.{_≤_};
 use line::Line;
 use question::Question;
 use question::put_mark;

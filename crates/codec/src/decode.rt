@@ -4,8 +4,7 @@
 // 717de332e7, Apache-2.0 (see NOTICE). Changed: each field has a reader of its own, which is handed
 // the rest of the bytes and gives the count that it took.
 ghost use mathlib.Core.Path.{_≡_};
-ghost use Prim.Native.Nat.{_+_, _≤_};
-ghost use lib.ListN.{length};
+ghost use Prim.Native.Nat.{_≤_};
 ghost use Rattle.format.specs.List.{opt};
 ghost use Rattle.format.specs.Through.{whole, boxed};
 ghost use Rattle.records.specs.Blank.{blankVoterSlotMember, blankVoterConfiguration, blankVoterReplacementResult, blankVoterSlotRecord, blankLostVoterAttestationV1, blankVoterSnapshotEvidence, blankVoterReplacementEvidence, blankVoterReplacementRecord, blankVoterSlotTable};

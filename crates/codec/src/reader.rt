@@ -4,8 +4,7 @@
 // 717de332e7, Apache-2.0 (see NOTICE). Changed: each is handed the rest of the bytes and answers the
 // count that it took.
 ghost use mathlib.Core.Path.{_≡_};
-ghost use Prim.Native.Nat.{_≤_, _<_};
-ghost use lib.ListN.{length};
+ghost use Prim.Native.Nat.{_≤_};
 ghost use Rattle.format.specs.Copy.{zeros};
 ghost use Rattle.format.specs.List.{flag};
 ghost use Rattle.format.specs.Num.{uint, raw};

@@ -3,7 +3,6 @@
 // An enum carries the value and the count of its bytes. Where an array comes with the value, which
 // no enum can hold, a struct has `Reading` and the value, and a refused one the blank.
 ghost use mathlib.Core.Path.{_≡_};
-ghost use mathlib.Core.Bool.{false};
 ghost use Rattle.identity.specs.Answer.{numberOf};
 ghost use Rattle.format.specs.Res.Res.{no};
 ghost use Rattle.format.specs.Copy.{zeros};
