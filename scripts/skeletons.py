@@ -2,7 +2,7 @@
 """Writes the proof files that `rt dev CRATE` prints for functions that have none: each need with a hole or a search.
 
 Run it from the repository's root: scripts/skeletons.py CRATE. A function shows its needs only where what it calls has a proof file, so run it
-again until it writes nothing. scripts/codec_readers.py fills such files.
+again until it writes nothing. scripts/readers.py fills such files.
 """
 import os
 import re

@@ -22,7 +22,7 @@ use Rattle.records.specs.Evidence.{follows}
 use Rattle.records.specs.Records.{voting, allBelow}
 use Rattle.records.specs.Representable.{representableMember, representableResult, representableSlotRecord, representable}
 use Rattle.records.specs.Validation.{validResult, validSlot, validSlots, validity, validate}
-use Rattle.codec.specs.Format.{table, head, headTest, tableHead, epoch, count, slots, slot, slotMember, identity, slotId, incarnation, binding, choice, result, magic}
+use Rattle.layout.specs.Format.{table, head, headTest, tableHead, epoch, count, slots, slot, slotMember, identity, slotId, incarnation, binding, choice, result, magic}
 use Rattle.codec.specs.Codec.{decodeVoterSlotTable, bounded, decoded as answered}
 use Rattle.records.specs.declared.records.VoterSlotLogId.{VoterSlotLogId}
 use Rattle.records.specs.declared.records.VoterSlotRecord.{VoterSlotRecord}

@@ -15,8 +15,8 @@ use Rattle.records.specs.Blank.{blankVoterSlotTable}
 use Rattle.records.specs.Validation.{validity, validate}
 use Rattle.records.specs.declared.records.LostVoterAttestationV1.{LostVoterAttestationV1}
 use Rattle.records.specs.declared.records.VoterSlotTable.{VoterSlotTable}
-use Rattle.codec.specs.Format.{attestation, table}
-use Rattle.codec.specs.Reading.{outcome}
+use Rattle.layout.specs.Format.{attestation, table}
+use Rattle.layout.specs.Reading.{outcome}
 
 -- `MAX_VOTER_SLOT_TABLE_BYTES`, `MAX_LOST_VOTER_ATTESTATION_BYTES`
 abbrev pub maxTableBytes : ℕ

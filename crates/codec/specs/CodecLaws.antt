@@ -23,13 +23,23 @@ use Rattle.records.specs.Representable.{representableAttestation}
 use Rattle.records.specs.Validation.{validAttestation, validity, validate}
 use Rattle.records.specs.declared.records.LostVoterAttestationV1.{LostVoterAttestationV1}
 use Rattle.records.specs.declared.records.VoterSlotTable.{VoterSlotTable}
-use Rattle.codec.specs.Format.{attestation, table}
+use Rattle.layout.specs.Format.{attestation, table}
 use Rattle.codec.specs.Codec.{maxTableBytes, maxAttestationBytes, bounded, decodeVoterSlotTable, decodeLostVoterAttestation, tableBytes, encodeVoterSlotTable, restarted}
-use Rattle.codec.specs.ValidLaws.{validate-says, validate-passes}
-use Rattle.codec.specs.SizeLaws.{attestation-long, bytes-bounds}
+use Rattle.codec.specs.ValidLaws.{validate-says, validate-passes, count-some, valid-count}
+use Rattle.writer.specs.SizeLaws.{attestation-long, table-long, table-bounds}
 use Rattle.codec.specs.GoodLaws.{attestation-good, table-good}
-use Rattle.codec.specs.FitsLaws.{attestation-fits}
+use Rattle.codec.specs.FitsLaws.{attestation-fits, table-fits}
 use Rattle.codec.specs.ReadLaws.{table-tests}
+
+-- The bytes of a valid table are between 180 and 8072.
+pub bytes-bounds : (t : VoterSlotTable) → HeldVoterSlotTable t → validate t ≡ Accepted → (180 ≤ length (tableBytes t)) × (length (tableBytes t) ≤ 8072)
+unfolding tableBytes
+bytes-bounds t h v =
+    let s = validate-says t v in
+    let f = table-fits t (s .0) in
+    let b = table-bounds t f (count-some (t .count) (valid-count t (s .1))) in
+    let l = table-long t h f in
+    (omega arith, omega arith)
 
 -- Reading a written valid table returns it.
 pub written-read : (t : VoterSlotTable) → HeldVoterSlotTable t → validate t ≡ Accepted → decodeVoterSlotTable (tableBytes t) ≡ ok t (length (tableBytes t))

@@ -21,7 +21,7 @@ use Rattle.format.specs.Through.{whole-no, whole-by-count}
 use Rattle.records.specs.Validation.{validity, validate}
 use Rattle.records.specs.declared.records.VoterSlotTable.{VoterSlotTable}
 use Rattle.codec.specs.Codec.{bounded, decoded, decodeVoterSlotTable, encodeVoterSlotTable, restarted, maxTableBytes, tableBytes}
-use Rattle.codec.specs.Format.{table}
+use Rattle.layout.specs.Format.{table}
 
 -- ---- a bound
 

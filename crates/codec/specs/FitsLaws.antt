@@ -17,7 +17,7 @@ use Rattle.records.specs.declared.records.LostVoterAttestationV1.{LostVoterAtte
 use Rattle.records.specs.declared.records.VoterReplacementEvidence.{VoterReplacementEvidence}
 use Rattle.records.specs.declared.records.VoterReplacementRecord.{VoterReplacementRecord}
 use Rattle.records.specs.declared.records.VoterSlotTable.{VoterSlotTable}
-use Rattle.codec.specs.Parts.{ReplacementFits, TableFits}
+use Rattle.layout.specs.Parts.{ReplacementFits, TableFits}
 use Rattle.codec.specs.TestLaws.{text-says, configuration-says, attestation-says, evidence-says, replacement-says, table-says}
 
 -- a text is no longer than its place

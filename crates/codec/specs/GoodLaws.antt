@@ -43,12 +43,12 @@ use Rattle.records.specs.declared.records.LostVoterAttestationV1.{LostVoterAtte
 use Rattle.records.specs.declared.records.VoterReplacementEvidence.{VoterReplacementEvidence}
 use Rattle.records.specs.declared.records.VoterReplacementRecord.{VoterReplacementRecord}
 use Rattle.records.specs.declared.records.VoterSlotTable.{VoterSlotTable}
-use Rattle.codec.specs.Parts.{bindingOf, resultHeadOf, slotMemberOf, claimsRequestOf, claimsSlotOf, claimsNamesOf, claimsEndOf, timesOf, changeOf, tableHeadOf}
-use Rattle.codec.specs.Format.{require, slotId, incarnation, epoch, count, choice, identity, logId, optionalLogId, sized, string, placed, spiffeId, snapshotId, binding, member, members, configuration, resultHead, result, slotMember, slot, slots, version, claimsRequest, claimsSlot, claimsNames, times, claimsEnd, claims, attestation, snapshot, threeCuts, evidence, change, replacement, magic, headTest, head, tableHead, table}
+use Rattle.layout.specs.Parts.{bindingOf, resultHeadOf, slotMemberOf, claimsRequestOf, claimsSlotOf, claimsNamesOf, claimsEndOf, timesOf, changeOf, tableHeadOf}
+use Rattle.layout.specs.Format.{require, slotId, incarnation, epoch, count, choice, identity, logId, optionalLogId, sized, string, placed, spiffeId, snapshotId, binding, member, members, configuration, resultHead, result, slotMember, slot, slots, version, claimsRequest, claimsSlot, claimsNames, times, claimsEnd, claims, attestation, snapshot, threeCuts, evidence, change, replacement, magic, headTest, head, tableHead, table}
 use Rattle.codec.specs.TestLaws.{and-both, text-says, member-says, result-says, slot-says, configuration-says, attestation-says, evidence-says, replacement-says, table-says}
 use Rattle.codec.specs.FitsLaws.{text-fits, attestation-fits, configuration-count}
 use Rattle.codec.specs.ValidLaws.{cond-yes, cond-not, valid-count, valid-attestation, valid-predecessor, valid-successor, configuration-valid}
-use Rattle.codec.specs.SizeLaws.{attestation-long, getD-any}
+use Rattle.writer.specs.SizeLaws.{attestation-long, getD-any}
 
 -- ---- the ways to make a format
 

@@ -42,9 +42,9 @@ use Rattle.records.specs.declared.records.LostVoterAttestationV1.{LostVoterAtte
 use Rattle.records.specs.declared.records.VoterReplacementEvidence.{VoterReplacementEvidence}
 use Rattle.records.specs.declared.records.VoterReplacementRecord.{VoterReplacementRecord}
 use Rattle.records.specs.declared.records.VoterSlotTable.{VoterSlotTable}
-use Rattle.codec.specs.Format.{require-is, slotId, incarnation, epoch, count, choice, identity, optionalLogId, logId, sized, string, string-long, placed, spiffeId, snapshotId, member, members, configuration, resultHead, result, slotMember, slot, slots, claimsSlot, claimsNames, claimsEnd, claims, attestation, snapshot, threeCuts, evidence, change, replacement, tableHead, table}
+use Rattle.layout.specs.Format.{require-is, slotId, incarnation, epoch, count, choice, identity, optionalLogId, logId, sized, string, string-long, placed, spiffeId, snapshotId, member, members, configuration, resultHead, result, slotMember, slot, slots, claimsSlot, claimsNames, claimsEnd, claims, attestation, snapshot, threeCuts, evidence, change, replacement, tableHead, table}
 use Rattle.codec.specs.TestLaws.{text-passes, member-passes, result-passes, slot-passes, configuration-passes, attestation-passes, evidence-passes, replacement-passes, table-passes}
-use Rattle.codec.specs.SizeLaws.{getD-any}
+use Rattle.writer.specs.SizeLaws.{getD-any}
 
 -- ---- the ways to make a format
 

@@ -153,6 +153,16 @@ pub uint-no : (k : ℕ) (bs : List ℕ) → length bs < k → decUint k bs ≡ n
 unfolding decUint
 uint-no k bs h = map-no (decRaw k) (val 0) bs (raw-no k bs h)
 
+-- a number takes its width
+pub uint-long : (k x : ℕ) → length (uint k .enc x) ≡ k
+unfolding uint held via raw
+uint-long k x = length-be k x
+
+-- bytes are written as they stand
+pub raw-same : (n : ℕ) (l : List ℕ) → raw n .enc l ≡ l
+unfolding raw
+raw-same n l = refl
+
 pub raw-long : (n : ℕ) (l : List ℕ) → raw n .Good l → length l ≡ n
 unfolding raw
 raw-long n l g = g .0

@@ -6,8 +6,8 @@ use Rattle.identity.specs.Answer.{numberOf}
 use Rattle.records.specs.Blank.{blankLostVoterAttestationV1}
 use Rattle.codec.specs.Codec.{decoded, decodeLostVoterAttestation, maxAttestationBytes}
 use Rattle.codec.specs.EntryLaws.{bounded-in, bounded-out, decoded-no, decoded-ok}
-use Rattle.codec.specs.Reading.{whyOf}
-use Rattle.codec.specs.ReadingLaws.{told, told-not}
+use Rattle.layout.specs.Reading.{whyOf}
+use Rattle.layout.specs.ReadingLaws.{told, told-not}
 use borrow.Author.Needs.{needs}
 use Rattle.codec.proofs.codec.decode_lost_voter_attestation.Statement.{statement}
 use Rattle.codec.proofs.codec.decode_lost_voter_attestation.Tie as tie

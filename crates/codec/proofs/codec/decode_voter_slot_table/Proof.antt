@@ -13,10 +13,10 @@ use Rattle.records.specs.ValidationLaws.{failed, held}
 use Rattle.codec.specs.Codec.{decoded, decodeVoterSlotTable, maxTableBytes}
 use Rattle.codec.specs.EntryLaws.{bounded-out, decoded-no, decoded-ok, decode-no, decode-left, decode-judged}
 use Rattle.codec.specs.FitsLaws.{table-fits}
-use Rattle.codec.specs.Format.{table}
+use Rattle.layout.specs.Format.{table}
 use Rattle.codec.specs.ReadLaws.{table-tests}
-use Rattle.codec.specs.Reading.{whyOf}
-use Rattle.codec.specs.ReadingLaws.{told, told-not}
+use Rattle.layout.specs.Reading.{whyOf}
+use Rattle.layout.specs.ReadingLaws.{told, told-not}
 use borrow.Author.Needs.{needs}
 use Rattle.codec.proofs.codec.decode_voter_slot_table.Statement.{statement}
 use Rattle.codec.proofs.codec.decode_voter_slot_table.Tie as tie

@@ -13,10 +13,10 @@ use Rattle.codec.specs.Codec.{tableBytes}
 use Rattle.codec.specs.CodecLaws.{encoded-is}
 use Rattle.codec.specs.EntryLaws.{put-start, encode-refused, encode-short}
 use Rattle.codec.specs.FitsLaws.{table-fits}
-use Rattle.codec.specs.Format.{table}
-use Rattle.codec.specs.Parts.{TableFits}
-use Rattle.codec.specs.Reading.{outcome}
-use Rattle.codec.specs.ReadingLaws.{outcome-ok}
+use Rattle.layout.specs.Format.{table}
+use Rattle.layout.specs.Parts.{TableFits}
+use Rattle.layout.specs.Reading.{outcome}
+use Rattle.layout.specs.ReadingLaws.{outcome-ok}
 use Rattle.codec.specs.ValidLaws.{validate-says}
 use borrow.Author.Needs.{needs}
 use Rattle.codec.proofs.codec.encode_voter_slot_table.Statement.{statement}

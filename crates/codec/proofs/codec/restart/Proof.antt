@@ -6,8 +6,8 @@ use Rattle.identity.specs.Answer.{numberOf}
 use Rattle.records.specs.Blank.{blankVoterSlotTable}
 use Rattle.codec.specs.Codec.{decoded, encodeVoterSlotTable, restartOutcome}
 use Rattle.codec.specs.EntryLaws.{decoded-no, encode-within, restarted-no, restarted-on}
-use Rattle.codec.specs.Reading.{whyOf}
-use Rattle.codec.specs.ReadingLaws.{told, told-not}
+use Rattle.layout.specs.Reading.{whyOf}
+use Rattle.layout.specs.ReadingLaws.{told, told-not}
 use borrow.Author.Needs.{needs}
 use Rattle.codec.proofs.codec.restart.Statement.{statement}
 use Rattle.codec.proofs.codec.restart.Tie as tie

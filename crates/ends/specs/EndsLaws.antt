@@ -1,0 +1,297 @@
+-- Both bounds of a table's size are met: `smallest` and `largest` are tables that the types hold, valid, of 180 and of 8072 bytes.
+-- Each other name here is a step of a proof; the tables are in Ends.
+-- Assumes nothing.
+use Prim.Native.Nat.{ℕ, zero, suc, _<_}
+use native.Mathlib.Omega.{arith}
+use mathlib.Core.Path.{_≡_, refl, _∙_}
+use mathlib.Core.List.{List, [], _∷_, _++_}
+use lib.ListN.{length, replicate, length-replicate}
+use lib.Dec.{lit<}
+use Rattle.identity.specs.Text.{scheme, isIn, startsWith, isName, isSnapshotId, isUtf8, all as allBytes}
+use Rattle.identity.specs.Utf8.{fits, widthIn, decoded, charsFrom, allChars}
+use Rattle.identity.specs.declared.answer.Answer.the-variants.{Accepted}
+use Rattle.records.specs.Blank.{blankVoterSlotIdentity, blankSpiffeId, blankSnapshotId, blankVoterSlotLogId, blankOptionalLogId, blankVoterSlotMember, blankVoterReplacementResult, blankVoterSlotRecord, blankVoterSnapshotEvidence, blankVoterConfiguration, blankLostVoterAttestationV1, blankVoterReplacementEvidence, blankVoterReplacementRecord}
+use Rattle.records.specs.Equality.{all as sameTests, eqList, sameVoterSlotIdentity, sameSpiffeId, sameSnapshotId, sameVoterSlotLogId, sameOptionalLogId, sameVoterSlotMember, sameVoterReplacementResult, sameVoterSlotRecord, sameVoterSnapshotEvidence, sameVoterConfiguration, sameLostVoterAttestationV1, sameVoterReplacementEvidence, sameVoterReplacementRecord}
+use Rattle.records.specs.Evidence.{follows, validStage, stageOr, validStages, validBeside, validContinuation, validEvidence}
+use Rattle.records.specs.Held.{AllOf, HeldArray, Byte, HeldBytes, HeldSpiffeId, HeldVoterSlotLogId, HeldOptionalLogId, HeldVoterSlotMember, HeldVoterReplacementResult, HeldVoterSlotRecord, HeldVoterSnapshotEvidence, HeldVoterConfiguration, HeldLostVoterAttestationV1, HeldVoterReplacementEvidence, HeldVoterReplacementRecord, HeldVoterSlotTable}
+use Rattle.records.specs.Records.{allBelow}
+use Rattle.records.specs.Representable.{isText, representableOptionalLogId, representableMember, representableResult, representableSlotRecord, representableConfiguration, representableAttestation, representableEvidence, representableReplacement, representable}
+use Rattle.records.specs.Validation.{validConfiguration, validAttestation, validResult, validSlot, validSlots, validOperationHead, isCurrentEpoch, validOperation, retiredMember, validTarget, validateMember, validateMembers, validateOperation, validity, validate}
+use Rattle.codec.specs.Codec.{tableBytes}
+use Rattle.writer.specs.Size.{slotsSize, evidenceSize, replacementSize, tableSize}
+use Rattle.codec.specs.ValidLaws.{validate-says}
+use Rattle.codec.specs.FitsLaws.{table-fits}
+use Rattle.writer.specs.SizeLaws.{table-long}
+use Rattle.ends.specs.Ends.{memberOf, cut, smallest, others, receiptOf, slotOf, configurationOf, longName, longAttestation, present, longEvidence, largest}
+use Rattle.records.specs.declared.records.VoterSlotTable.{VoterSlotTable}
+
+pub smallest-valid : validate smallest ≡ Accepted
+unfolding smallest isIn startsWith isName fits widthIn decoded charsFrom allChars eqList sameTests sameVoterSlotIdentity sameSpiffeId sameSnapshotId sameVoterSlotLogId sameOptionalLogId sameVoterSlotMember sameVoterReplacementResult sameVoterSlotRecord sameVoterSnapshotEvidence sameVoterConfiguration sameLostVoterAttestationV1 sameVoterReplacementEvidence sameVoterReplacementRecord blankVoterSlotIdentity blankSpiffeId blankSnapshotId blankVoterSlotLogId blankOptionalLogId blankVoterSlotMember blankVoterReplacementResult blankVoterSlotRecord blankVoterSnapshotEvidence blankVoterConfiguration blankLostVoterAttestationV1 blankVoterReplacementEvidence blankVoterReplacementRecord allBelow representableMember representableResult representableSlotRecord representable validResult validSlot validSlots validity validate
+smallest-valid = refl
+
+pub largest-valid : validate largest ≡ Accepted
+unfolding largest isText isIn startsWith isName isSnapshotId isUtf8 allBytes fits widthIn decoded charsFrom allChars eqList sameTests sameVoterSlotIdentity sameVoterSlotLogId sameVoterSlotMember allBelow representableOptionalLogId representableMember representableResult representableSlotRecord representableConfiguration representableAttestation representableEvidence representableReplacement representable follows validStage stageOr validStages validBeside validContinuation validEvidence validConfiguration validAttestation validResult validSlot validSlots validOperationHead isCurrentEpoch validOperation retiredMember validTarget validateMember validateMembers validateOperation validity validate
+largest-valid = refl
+
+-- ---- what the types hold
+
+all-replicate : {A : Type 0} (P : A → Type 0) (n : ℕ) (x : A) → P x → AllOf P (replicate n x)
+all-replicate P zero x p = tt
+all-replicate P (suc n) x p = (p, all-replicate P n x p)
+
+held-replicate : {A : Type 0} (P : A → Type 0) (n : ℕ) (x : A) → P x → HeldArray P n (replicate n x)
+held-replicate P n x p = record { count = length-replicate n x; each = all-replicate P n x p }
+
+held-bytes : (n b : ℕ) → b < 256 → HeldBytes n (replicate n b)
+held-bytes n b h = held-replicate Byte n b h
+
+zeros-held : (n : ℕ) → HeldBytes n (replicate n 0)
+zeros-held n = held-bytes n 0 (lit< tt)
+
+blank-logId-held : HeldVoterSlotLogId blankVoterSlotLogId
+unfolding blankVoterSlotLogId
+blank-logId-held = record { term = lit< tt; index = lit< tt }
+
+blank-member-held : HeldVoterSlotMember blankVoterSlotMember
+unfolding blankVoterSlotMember blankVoterSlotIdentity
+blank-member-held =
+    record {
+      identity = record { slot = lit< tt; incarnation = lit< tt };
+      «key_digest» = zeros-held 32;
+      «descriptor_digest» = zeros-held 32;
+      «admission_generation» = lit< tt;
+    }
+
+blank-result-held : HeldVoterReplacementResult blankVoterReplacementResult
+unfolding blankVoterReplacementResult
+blank-result-held =
+    record {
+      «request_id» = zeros-held 16;
+      «request_digest» = zeros-held 32;
+      incarnation = lit< tt;
+      revision = lit< tt;
+      «configuration_epoch» = lit< tt;
+      kind = lit< tt;
+      terminal = blank-logId-held;
+    }
+
+blank-slot-held : HeldVoterSlotRecord blankVoterSlotRecord
+unfolding blankVoterSlotRecord
+blank-slot-held = record { member = blank-member-held; «retired_through» = lit< tt; phase = lit< tt; «last_result» = blank-result-held }
+
+blank-configuration-held : HeldVoterConfiguration blankVoterConfiguration
+unfolding blankVoterConfiguration
+blank-configuration-held = record { epoch = lit< tt; members = held-replicate HeldVoterSlotMember 9 blankVoterSlotMember blank-member-held; count = lit< tt }
+
+blank-name-held : HeldSpiffeId blankSpiffeId
+unfolding blankSpiffeId
+blank-name-held = record { len = lit< tt; bytes = zeros-held 2048 }
+
+blank-attestation-held : HeldLostVoterAttestationV1 blankLostVoterAttestationV1
+unfolding blankLostVoterAttestationV1
+blank-attestation-held =
+    record {
+      «request_id» = zeros-held 16;
+      «request_digest» = zeros-held 32;
+      «cluster_instance» = zeros-held 32;
+      slot = lit< tt;
+      «expected_incarnation» = lit< tt;
+      «old_descriptor_digest» = zeros-held 32;
+      «candidate_key_digest» = zeros-held 32;
+      «admission_generation» = lit< tt;
+      «candidate_spiffe_id» = blank-name-held;
+      «controller_spiffe_id» = blank-name-held;
+      «signing_key_digest» = zeros-held 32;
+      reason = lit< tt;
+      «policy_digest» = zeros-held 32;
+      «observation_start_ms» = lit< tt;
+      «decision_ms» = lit< tt;
+      «issued_ms» = lit< tt;
+      «expires_ms» = lit< tt;
+      signature = zeros-held 64;
+    }
+
+blank-snapshot-held : HeldVoterSnapshotEvidence blankVoterSnapshotEvidence
+unfolding blankVoterSnapshotEvidence blankSnapshotId
+blank-snapshot-held = record { cut = blank-logId-held; «snapshot_id» = record { len = lit< tt; bytes = zeros-held 256 }; digest = zeros-held 32 }
+
+blank-cut-held : HeldOptionalLogId blankOptionalLogId
+unfolding blankOptionalLogId
+blank-cut-held = record { cut = blank-logId-held }
+
+blank-evidence-held : HeldVoterReplacementEvidence blankVoterReplacementEvidence
+unfolding blankVoterReplacementEvidence
+blank-evidence-held =
+    record {
+      prepare = blank-logId-held;
+      snapshot = blank-snapshot-held;
+      learner = blank-cut-held;
+      «caught_up» = blank-cut-held;
+      continuation = blank-cut-held;
+      fence = blank-cut-held;
+      joint = blank-cut-held;
+      uniform = blank-cut-held;
+    }
+
+blank-replacement-held : HeldVoterReplacementRecord blankVoterReplacementRecord
+unfolding blankVoterReplacementRecord
+blank-replacement-held =
+    record {
+      «expected_revision» = lit< tt;
+      attestation = blank-attestation-held;
+      predecessor = blank-configuration-held;
+      successor = blank-configuration-held;
+      phase = lit< tt;
+      evidence = blank-evidence-held;
+    }
+
+module _ (own slot : ℕ) (o : own < 10) (s : slot < 10) where
+  member-held : HeldVoterSlotMember (memberOf own slot)
+  member-held =
+      record {
+        identity = record { slot = omega arith; incarnation = omega arith };
+        «key_digest» = held-bytes 32 slot (omega arith);
+        «descriptor_digest» = held-bytes 32 slot (omega arith);
+        «admission_generation» = omega arith;
+      }
+
+  receipt-held : HeldVoterReplacementResult (receiptOf slot)
+  receipt-held =
+      record {
+        «request_id» = held-bytes 16 slot (omega arith);
+        «request_digest» = held-bytes 32 slot (omega arith);
+        incarnation = lit< tt;
+        revision = lit< tt;
+        «configuration_epoch» = lit< tt;
+        kind = lit< tt;
+        terminal = record { term = lit< tt; index = lit< tt };
+      }
+
+  slot-held : HeldVoterSlotRecord (slotOf own slot)
+  slot-held = record { member = member-held; «retired_through» = omega arith; phase = lit< tt; «last_result» = receipt-held }
+
+-- of slot 1 and of the others
+nine-held : {A : Type 0} (P : A → Type 0) (f : ℕ → ℕ → A) (own : ℕ) → own < 10 → ((o s : ℕ) → o < 10 → s < 10 → P (f o s)) → HeldArray P 9 (f own 1 ∷ others (f 2))
+nine-held P f own o h =
+    let k : (s : ℕ) → s < 10 → P (f 2 s) = λ s. h 2 s (lit< tt) in
+    record {
+      count = refl;
+      each = (h own 1 o (lit< tt), (k 2 (lit< tt), (k 3 (lit< tt), (k 4 (lit< tt), (k 5 (lit< tt), (k 6 (lit< tt), (k 7 (lit< tt), (k 8 (lit< tt), (k 9 (lit< tt), tt)))))))));
+    }
+
+configuration-held : (epoch own : ℕ) → epoch < 10 → own < 10 → HeldVoterConfiguration (configurationOf epoch own)
+configuration-held epoch own e o = record { epoch = omega arith; members = nine-held HeldVoterSlotMember memberOf own o member-held; count = lit< tt }
+
+all-append : (a b : List ℕ) → AllOf Byte a → AllOf Byte b → AllOf Byte (a ++ b)
+all-append [] b h k = k
+all-append (x ∷ a) b h k = (h .0, all-append a b (h .1) k)
+
+scheme-held : AllOf Byte scheme
+scheme-held = (lit< tt, (lit< tt, (lit< tt, (lit< tt, (lit< tt, (lit< tt, (lit< tt, (lit< tt, (lit< tt, tt)))))))))
+
+name-held : HeldSpiffeId longName
+name-held = record { len = lit< tt; bytes = record { count = refl; each = all-append scheme (replicate 2039 97) scheme-held (all-replicate Byte 2039 97 (lit< tt)) } }
+
+attestation-held : HeldLostVoterAttestationV1 longAttestation
+attestation-held =
+    record {
+      «request_id» = zeros-held 16;
+      «request_digest» = zeros-held 32;
+      «cluster_instance» = zeros-held 32;
+      slot = lit< tt;
+      «expected_incarnation» = lit< tt;
+      «old_descriptor_digest» = held-bytes 32 1 (lit< tt);
+      «candidate_key_digest» = held-bytes 32 1 (lit< tt);
+      «admission_generation» = lit< tt;
+      «candidate_spiffe_id» = name-held;
+      «controller_spiffe_id» = name-held;
+      «signing_key_digest» = zeros-held 32;
+      reason = lit< tt;
+      «policy_digest» = zeros-held 32;
+      «observation_start_ms» = lit< tt;
+      «decision_ms» = lit< tt;
+      «issued_ms» = lit< tt;
+      «expires_ms» = lit< tt;
+      signature = zeros-held 64;
+    }
+
+present-held : (index : ℕ) → index < 10 → HeldOptionalLogId (present index)
+present-held index h = record { cut = record { term = lit< tt; index = omega arith } }
+
+evidence-held : HeldVoterReplacementEvidence longEvidence
+evidence-held =
+    record {
+      prepare = record { term = lit< tt; index = lit< tt };
+      snapshot =
+          record { cut = record { term = lit< tt; index = lit< tt }; «snapshot_id» = record { len = lit< tt; bytes = held-bytes 256 97 (lit< tt) }; digest = zeros-held 32 };
+      learner = present-held 3 (lit< tt);
+      «caught_up» = present-held 4 (lit< tt);
+      continuation = present-held 5 (lit< tt);
+      fence = present-held 6 (lit< tt);
+      joint = present-held 7 (lit< tt);
+      uniform = present-held 8 (lit< tt);
+    }
+
+-- ---- both ends
+
+pub smallest-held : HeldVoterSlotTable smallest
+unfolding smallest
+smallest-held =
+    record {
+      «cluster_instance» = zeros-held 32;
+      «manifest_digest» = zeros-held 32;
+      revision = lit< tt;
+      «configuration_epoch» = lit< tt;
+      slots =
+          record {
+            count = refl;
+            each = (
+              record { member = member-held 1 1 (lit< tt) (lit< tt); «retired_through» = lit< tt; phase = lit< tt; «last_result» = blank-result-held },
+              all-replicate HeldVoterSlotRecord 8 blankVoterSlotRecord blank-slot-held,
+            );
+          };
+      count = lit< tt;
+      replacement = blank-replacement-held;
+    }
+
+pub largest-held : HeldVoterSlotTable largest
+unfolding largest
+largest-held =
+    record {
+      «cluster_instance» = zeros-held 32;
+      «manifest_digest» = zeros-held 32;
+      revision = lit< tt;
+      «configuration_epoch» = lit< tt;
+      slots = nine-held HeldVoterSlotRecord slotOf 3 (lit< tt) slot-held;
+      count = lit< tt;
+      replacement =
+          record {
+            «expected_revision» = lit< tt;
+            attestation = attestation-held;
+            predecessor = configuration-held 1 2 (lit< tt) (lit< tt);
+            successor = configuration-held 2 3 (lit< tt) (lit< tt);
+            phase = lit< tt;
+            evidence = evidence-held;
+          };
+    }
+
+-- the bytes of a valid table are as many as its size
+valid-long : (t : VoterSlotTable) → HeldVoterSlotTable t → validate t ≡ Accepted → length (tableBytes t) ≡ tableSize t
+unfolding tableBytes
+valid-long t h v = table-long t h (table-fits t (validate-says t v .0))
+
+smallest-size : tableSize smallest ≡ 180
+unfolding tableSize slotsSize smallest
+smallest-size = refl
+
+largest-size : tableSize largest ≡ 8072
+unfolding tableSize slotsSize replacementSize evidenceSize largest
+largest-size = refl
+
+-- The least that a valid table takes.
+pub smallest-long : length (tableBytes smallest) ≡ 180
+smallest-long = valid-long smallest smallest-held smallest-valid ∙ smallest-size
+
+-- The most that a valid table takes.
+pub largest-long : length (tableBytes largest) ≡ 8072
+largest-long = valid-long largest largest-held largest-valid ∙ largest-size

@@ -1,0 +1,14 @@
+-- `layout::reading::refused_array16` meets its contract. Written by scripts/readers.py. Assumes nothing.
+use Rattle.format.specs.Copy.{zeros}
+use Rattle.layout.specs.Reading.{outcome}
+use mathlib.Core.Path.{refl}
+use Rattle.layout.proofs.reading.refused_array16.Statement.{statement}
+use Rattle.layout.proofs.reading.refused_array16.Tie as tie
+
+-- src/reading.rt:362:1
+returns : tie.Need-returns
+unfolding outcome zeros
+returns c = refl
+
+pub refused-array16-spec : {M : Type 1} → statement M
+refused-array16-spec = tie.close (tie.spec returns)

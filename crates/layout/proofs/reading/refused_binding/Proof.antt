@@ -1,0 +1,20 @@
+-- `layout::reading::refused_binding` meets its contract. Written by scripts/readers.py. Assumes nothing.
+use Rattle.format.specs.Res.Res.{no}
+use Rattle.identity.specs.Answer.{numberOf}
+use Rattle.layout.specs.Reading.{outcome}
+use mathlib.Core.Path.{ap}
+use borrow.Author.Needs.{needs}
+use Rattle.layout.proofs.reading.refused_binding.Statement.{statement}
+use Rattle.layout.proofs.reading.refused_binding.Tie as tie
+
+-- src/reading.rt:412:16
+blank-binding-requires : tie.Need-blank-binding-requires
+blank-binding-requires c κs = search needs
+
+-- src/reading.rt:407:1
+returns : tie.Need-returns
+unfolding outcome
+returns c = ap (λ v. (no (numberOf (c .before .args .answer)), v)) (c .blank-binding .ensures)
+
+pub refused-binding-spec : {M : Type 1} → statement M
+refused-binding-spec = tie.close (tie.spec blank-binding-requires returns)

@@ -1,0 +1,20 @@
+-- `layout::reading::refused_member` meets its contract. Written by scripts/readers.py. Assumes nothing.
+use Rattle.format.specs.Res.Res.{no}
+use Rattle.identity.specs.Answer.{numberOf}
+use Rattle.layout.specs.Reading.{outcome}
+use mathlib.Core.Path.{ap}
+use borrow.Author.Needs.{needs}
+use Rattle.layout.proofs.reading.refused_member.Statement.{statement}
+use Rattle.layout.proofs.reading.refused_member.Tie as tie
+
+-- src/reading.rt:421:16
+blank-voter-slot-member-requires : tie.Need-blank-voter-slot-member-requires
+blank-voter-slot-member-requires c κs = search needs
+
+-- src/reading.rt:416:1
+returns : tie.Need-returns
+unfolding outcome
+returns c = ap (λ v. (no (numberOf (c .before .args .answer)), v)) (c .blank-voter-slot-member .ensures)
+
+pub refused-member-spec : {M : Type 1} → statement M
+refused-member-spec = tie.close (tie.spec blank-voter-slot-member-requires returns)

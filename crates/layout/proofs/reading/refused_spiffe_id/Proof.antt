@@ -1,0 +1,20 @@
+-- `layout::reading::refused_spiffe_id` meets its contract. Written by scripts/readers.py. Assumes nothing.
+use Rattle.format.specs.Res.Res.{no}
+use Rattle.identity.specs.Answer.{numberOf}
+use Rattle.layout.specs.Reading.{outcome}
+use mathlib.Core.Path.{ap}
+use borrow.Author.Needs.{needs}
+use Rattle.layout.proofs.reading.refused_spiffe_id.Statement.{statement}
+use Rattle.layout.proofs.reading.refused_spiffe_id.Tie as tie
+
+-- src/reading.rt:394:16
+blank-spiffe-id-requires : tie.Need-blank-spiffe-id-requires
+blank-spiffe-id-requires c κs = search needs
+
+-- src/reading.rt:389:1
+returns : tie.Need-returns
+unfolding outcome
+returns c = ap (λ v. (no (numberOf (c .before .args .answer)), v)) (c .blank-spiffe-id .ensures)
+
+pub refused-spiffe-id-spec : {M : Type 1} → statement M
+refused-spiffe-id-spec = tie.close (tie.spec blank-spiffe-id-requires returns)

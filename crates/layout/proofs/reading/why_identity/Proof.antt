@@ -1,0 +1,25 @@
+-- `layout::reading::why_identity` meets its contract. Written by scripts/readers.py. Assumes nothing.
+use Rattle.layout.specs.Reading.{whyIdentity}
+use mathlib.Core.Path.{sym, ap}
+use borrow.Author.Needs.{needs}
+use Rattle.layout.proofs.reading.why_identity.Statement.{statement}
+use Rattle.layout.proofs.reading.why_identity.Tie as tie
+
+-- src/reading.rt:320:37
+enum-told : tie.Need-enum-told
+enum-told c = search needs
+
+-- src/reading.rt:321:31
+enum-known-answer : tie.Need-enum-known-answer
+enum-known-answer c = search needs
+
+-- src/reading.rt:316:1
+returns : tie.Need-returns
+returns c = search needs
+
+-- src/reading.rt:316:1
+returns-2 : tie.Need-returns-2
+returns-2 c = sym (ap whyIdentity (c .before .answer .given .1))
+
+pub why-identity-spec : {M : Type 1} → statement M
+why-identity-spec = tie.close (tie.spec enum-told enum-known-answer returns returns-2)

@@ -1,0 +1,25 @@
+-- `layout::reading::why_log_id` meets its contract. Written by scripts/readers.py. Assumes nothing.
+use Rattle.layout.specs.Reading.{whyLogId}
+use mathlib.Core.Path.{sym, ap}
+use borrow.Author.Needs.{needs}
+use Rattle.layout.proofs.reading.why_log_id.Statement.{statement}
+use Rattle.layout.proofs.reading.why_log_id.Tie as tie
+
+-- src/reading.rt:329:34
+enum-told : tie.Need-enum-told
+enum-told c = search needs
+
+-- src/reading.rt:330:28
+enum-known-answer : tie.Need-enum-known-answer
+enum-known-answer c = search needs
+
+-- src/reading.rt:325:1
+returns : tie.Need-returns
+returns c = search needs
+
+-- src/reading.rt:325:1
+returns-2 : tie.Need-returns-2
+returns-2 c = sym (ap whyLogId (c .before .answer .given .1))
+
+pub why-log-id-spec : {M : Type 1} → statement M
+why-log-id-spec = tie.close (tie.spec enum-told enum-known-answer returns returns-2)

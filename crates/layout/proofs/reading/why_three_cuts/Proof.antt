@@ -1,0 +1,25 @@
+-- `layout::reading::why_three_cuts` meets its contract. Written by scripts/readers.py. Assumes nothing.
+use Rattle.layout.specs.Reading.{whyThreeCuts}
+use mathlib.Core.Path.{sym, ap}
+use borrow.Author.Needs.{needs}
+use Rattle.layout.proofs.reading.why_three_cuts.Statement.{statement}
+use Rattle.layout.proofs.reading.why_three_cuts.Tie as tie
+
+-- src/reading.rt:347:38
+enum-told : tie.Need-enum-told
+enum-told c = search needs
+
+-- src/reading.rt:348:32
+enum-known-answer : tie.Need-enum-known-answer
+enum-known-answer c = search needs
+
+-- src/reading.rt:343:1
+returns : tie.Need-returns
+returns c = search needs
+
+-- src/reading.rt:343:1
+returns-2 : tie.Need-returns-2
+returns-2 c = sym (ap whyThreeCuts (c .before .answer .given .1))
+
+pub why-three-cuts-spec : {M : Type 1} → statement M
+why-three-cuts-spec = tie.close (tie.spec enum-told enum-known-answer returns returns-2)

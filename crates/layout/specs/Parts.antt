@@ -1,0 +1,251 @@
+-- Groups of fields that stand together in the bytes, their blanks, and the records made of them and taken apart into them.
+-- They are no records of document 01 or of the Rust: they keep every reader at five fields or fewer.
+-- Assumes nothing.
+use Prim.Native.Nat.{ℕ, _≤_}
+use mathlib.Core.Bool.{Bool, false}
+use mathlib.Core.List.{List}
+use lib.ListN.{replicate}
+use Rattle.format.specs.Copy.{zeros}
+use Rattle.identity.specs.declared.identity.VoterSlotIdentity.{VoterSlotIdentity}
+use Rattle.records.specs.Blank.{blankVoterSlotIdentity, blankSpiffeId, blankVoterSlotMember, blankVoterSlotRecord, blankVoterConfiguration, blankVoterReplacementResult, blankVoterSnapshotEvidence, blankVoterReplacementRecord}
+use Rattle.records.specs.declared.records.LostVoterAttestationV1.{LostVoterAttestationV1}
+use Rattle.records.specs.declared.records.VoterReplacementEvidence.{VoterReplacementEvidence}
+use Rattle.records.specs.declared.records.VoterReplacementRecord.{VoterReplacementRecord}
+use Rattle.records.specs.declared.records.VoterReplacementResult.{VoterReplacementResult}
+use Rattle.records.specs.declared.records.VoterSlotLogId.{VoterSlotLogId}
+use Rattle.records.specs.declared.records.VoterSlotMember.{VoterSlotMember}
+use Rattle.records.specs.declared.records.VoterSlotRecord.{VoterSlotRecord}
+use Rattle.records.specs.declared.records.VoterSlotTable.{VoterSlotTable}
+use Rattle.records.specs.declared.records.VoterSnapshotEvidence.{VoterSnapshotEvidence}
+use Rattle.layout.specs.declared.parts.Binding.{Binding}
+use Rattle.layout.specs.declared.parts.ResultHead.{ResultHead}
+use Rattle.layout.specs.declared.parts.SlotMember.{SlotMember}
+use Rattle.layout.specs.declared.parts.ThreeCuts.{ThreeCuts}
+use Rattle.layout.specs.declared.parts.ClaimsRequest.{ClaimsRequest}
+use Rattle.layout.specs.declared.parts.ClaimsSlot.{ClaimsSlot}
+use Rattle.layout.specs.declared.parts.ClaimsNames.{ClaimsNames}
+use Rattle.layout.specs.declared.parts.ClaimsEnd.{ClaimsEnd}
+use Rattle.layout.specs.declared.parts.Times.{Times}
+use Rattle.layout.specs.declared.parts.Change.{Change}
+use Rattle.layout.specs.declared.parts.TableHead.{TableHead}
+
+-- ---- blanks
+
+unfoldable pub blankBinding : Binding
+blankBinding = record { «key_digest» = zeros 32; «descriptor_digest» = zeros 32; «admission_generation» = 0 }
+
+unfoldable pub blankResultHead : ResultHead
+blankResultHead = record { «request_id» = zeros 16; «request_digest» = zeros 32; incarnation = 0; revision = 0 }
+
+unfoldable pub blankSlotMember : SlotMember
+blankSlotMember = record { member = blankVoterSlotMember; «retired_through» = 0 }
+
+unfoldable pub blankClaimsRequest : ClaimsRequest
+blankClaimsRequest = record { «request_id» = zeros 16; «request_digest» = zeros 32; «cluster_instance» = zeros 32 }
+
+unfoldable pub blankClaimsSlot : ClaimsSlot
+blankClaimsSlot =
+    record {
+      identity = blankVoterSlotIdentity;
+      «old_descriptor_digest» = zeros 32;
+      «candidate_key_digest» = zeros 32;
+      «admission_generation» = 0;
+    }
+
+unfoldable pub blankClaimsNames : ClaimsNames
+blankClaimsNames =
+    record { «candidate_spiffe_id» = blankSpiffeId; «controller_spiffe_id» = blankSpiffeId; «signing_key_digest» = zeros 32 }
+
+unfoldable pub blankTimes : Times
+blankTimes = record { «observation_start_ms» = 0; «decision_ms» = 0; «issued_ms» = 0; «expires_ms» = 0 }
+
+unfoldable pub blankClaimsEnd : ClaimsEnd
+blankClaimsEnd = record { reason = 0; «policy_digest» = zeros 32; times = blankTimes; signature = zeros 64 }
+
+unfoldable pub blankChange : Change
+blankChange = record { predecessor = blankVoterConfiguration; successor = blankVoterConfiguration; phase = 0 }
+
+unfoldable pub blankTableHead : TableHead
+blankTableHead =
+    record { «cluster_instance» = zeros 32; «manifest_digest» = zeros 32; revision = 0; «configuration_epoch» = 0 }
+
+-- the nine places, all blank
+unfoldable pub blankVoterSlotMembers : List VoterSlotMember
+blankVoterSlotMembers = replicate 9 blankVoterSlotMember
+
+unfoldable pub blankVoterSlotRecords : List VoterSlotRecord
+blankVoterSlotRecords = replicate 9 blankVoterSlotRecord
+
+-- an optional part that is absent
+abbrev pub absentResult : Bool × VoterReplacementResult
+absentResult = (false, blankVoterReplacementResult)
+
+abbrev pub absentSnapshot : Bool × VoterSnapshotEvidence
+absentSnapshot = (false, blankVoterSnapshotEvidence)
+
+abbrev pub absentReplacement : Bool × VoterReplacementRecord
+absentReplacement = (false, blankVoterReplacementRecord)
+
+-- ---- a record of its groups, and its groups
+
+abbrev pub memberOf : VoterSlotIdentity → Binding → VoterSlotMember
+memberOf i b =
+    record {
+      identity = i;
+      «key_digest» = b .«key_digest»;
+      «descriptor_digest» = b .«descriptor_digest»;
+      «admission_generation» = b .«admission_generation»;
+    }
+
+abbrev pub bindingOf : VoterSlotMember → Binding
+bindingOf m =
+    record {
+      «key_digest» = m .«key_digest»;
+      «descriptor_digest» = m .«descriptor_digest»;
+      «admission_generation» = m .«admission_generation»;
+    }
+
+abbrev pub resultOf : ResultHead → ℕ → ℕ → VoterSlotLogId → VoterReplacementResult
+resultOf h e k t =
+    record {
+      «request_id» = h .«request_id»;
+      «request_digest» = h .«request_digest»;
+      incarnation = h .incarnation;
+      revision = h .revision;
+      «configuration_epoch» = e;
+      kind = k;
+      terminal = t;
+    }
+
+abbrev pub resultHeadOf : VoterReplacementResult → ResultHead
+resultHeadOf r =
+    record { «request_id» = r .«request_id»; «request_digest» = r .«request_digest»; incarnation = r .incarnation; revision = r .revision }
+
+abbrev pub slotMemberOf : VoterSlotRecord → SlotMember
+slotMemberOf s = record { member = s .member; «retired_through» = s .«retired_through» }
+
+abbrev pub attestationOf : ClaimsRequest → ClaimsSlot → ClaimsNames → ClaimsEnd → LostVoterAttestationV1
+attestationOf r s n e =
+    record {
+      «request_id» = r .«request_id»;
+      «request_digest» = r .«request_digest»;
+      «cluster_instance» = r .«cluster_instance»;
+      slot = s .identity .slot;
+      «expected_incarnation» = s .identity .incarnation;
+      «old_descriptor_digest» = s .«old_descriptor_digest»;
+      «candidate_key_digest» = s .«candidate_key_digest»;
+      «admission_generation» = s .«admission_generation»;
+      «candidate_spiffe_id» = n .«candidate_spiffe_id»;
+      «controller_spiffe_id» = n .«controller_spiffe_id»;
+      «signing_key_digest» = n .«signing_key_digest»;
+      reason = e .reason;
+      «policy_digest» = e .«policy_digest»;
+      «observation_start_ms» = e .times .«observation_start_ms»;
+      «decision_ms» = e .times .«decision_ms»;
+      «issued_ms» = e .times .«issued_ms»;
+      «expires_ms» = e .times .«expires_ms»;
+      signature = e .signature;
+    }
+
+abbrev pub claimsRequestOf : LostVoterAttestationV1 → ClaimsRequest
+claimsRequestOf a =
+    record { «request_id» = a .«request_id»; «request_digest» = a .«request_digest»; «cluster_instance» = a .«cluster_instance» }
+
+abbrev pub claimsSlotOf : LostVoterAttestationV1 → ClaimsSlot
+claimsSlotOf a =
+    record {
+      identity = record { slot = a .slot; incarnation = a .«expected_incarnation» };
+      «old_descriptor_digest» = a .«old_descriptor_digest»;
+      «candidate_key_digest» = a .«candidate_key_digest»;
+      «admission_generation» = a .«admission_generation»;
+    }
+
+abbrev pub claimsNamesOf : LostVoterAttestationV1 → ClaimsNames
+claimsNamesOf a =
+    record {
+      «candidate_spiffe_id» = a .«candidate_spiffe_id»;
+      «controller_spiffe_id» = a .«controller_spiffe_id»;
+      «signing_key_digest» = a .«signing_key_digest»;
+    }
+
+abbrev pub timesOf : LostVoterAttestationV1 → Times
+timesOf a =
+    record {
+      «observation_start_ms» = a .«observation_start_ms»;
+      «decision_ms» = a .«decision_ms»;
+      «issued_ms» = a .«issued_ms»;
+      «expires_ms» = a .«expires_ms»;
+    }
+
+abbrev pub claimsEndOf : LostVoterAttestationV1 → ClaimsEnd
+claimsEndOf a = record { reason = a .reason; «policy_digest» = a .«policy_digest»; times = timesOf a; signature = a .signature }
+
+abbrev pub evidenceOf : VoterSlotLogId → Bool → VoterSnapshotEvidence → ThreeCuts → ThreeCuts → VoterReplacementEvidence
+evidenceOf p b s c d =
+    record {
+      prepare = p;
+      «has_snapshot» = b;
+      snapshot = s;
+      learner = c .first;
+      «caught_up» = c .second;
+      continuation = c .third;
+      fence = d .first;
+      joint = d .second;
+      uniform = d .third;
+    }
+
+-- the six cuts of the evidence, in two threes
+abbrev pub earlyCuts : VoterReplacementEvidence → ThreeCuts
+earlyCuts e = record { first = e .learner; second = e .«caught_up»; third = e .continuation }
+
+abbrev pub lateCuts : VoterReplacementEvidence → ThreeCuts
+lateCuts e = record { first = e .fence; second = e .joint; third = e .uniform }
+
+abbrev pub replacementOf : ℕ → LostVoterAttestationV1 → Change → VoterReplacementEvidence → VoterReplacementRecord
+replacementOf r a c e =
+    record {
+      «expected_revision» = r;
+      attestation = a;
+      predecessor = c .predecessor;
+      successor = c .successor;
+      phase = c .phase;
+      evidence = e;
+    }
+
+abbrev pub changeOf : VoterReplacementRecord → Change
+changeOf r = record { predecessor = r .predecessor; successor = r .successor; phase = r .phase }
+
+abbrev pub tableOf : TableHead → ℕ → List VoterSlotRecord → Bool → VoterReplacementRecord → VoterSlotTable
+tableOf h n s b r =
+    record {
+      «cluster_instance» = h .«cluster_instance»;
+      «manifest_digest» = h .«manifest_digest»;
+      revision = h .revision;
+      «configuration_epoch» = h .«configuration_epoch»;
+      slots = s;
+      count = n;
+      «has_replacement» = b;
+      replacement = r;
+    }
+
+abbrev pub tableHeadOf : VoterSlotTable → TableHead
+tableHeadOf t =
+    record {
+      «cluster_instance» = t .«cluster_instance»;
+      «manifest_digest» = t .«manifest_digest»;
+      revision = t .revision;
+      «configuration_epoch» = t .«configuration_epoch»;
+    }
+
+-- ---- lengths that the fields hold, which the test for 30 has tested
+
+pub record ReplacementFits (r : VoterReplacementRecord) : Type 0 where
+  pub candidate : r .attestation .«candidate_spiffe_id» .len ≤ 2048
+  pub controller : r .attestation .«controller_spiffe_id» .len ≤ 2048
+  pub predecessor : r .predecessor .count ≤ 9
+  pub successor : r .successor .count ≤ 9
+  pub snapshot : r .evidence .snapshot .«snapshot_id» .len ≤ 256
+
+pub record TableFits (t : VoterSlotTable) : Type 0 where
+  pub count : t .count ≤ 9
+  pub replacement : ReplacementFits (t .replacement)

@@ -1,0 +1,125 @@
+-- `reader::decode::read_boxed_attestation` meets its contract. Assumes nothing.
+use Prim.Native.Nat.{ℕ, _+_, _-_, _≤_}
+use mathlib.Core.Path.{_≡_, sym, ap, _∙_}
+use mathlib.Core.List.{List}
+use native.Mathlib.Nat.{lt-of-le-of-lt}
+use native.Mathlib.Omega.{arith}
+use lib.ListN.{length, take, drop}
+use Rattle.format.specs.Res.Res.{ok, no}
+use Rattle.format.specs.Through.{whole, boxed-ok, boxed-no-1, boxed-no-2}
+use Rattle.identity.specs.Answer.{numberOf}
+use Rattle.records.specs.Blank.{blankLostVoterAttestationV1}
+use Rattle.layout.specs.Format.{sized, attestation}
+use Rattle.layout.specs.Reading.{outcome, sizedRead, whySized}
+use Rattle.layout.specs.ReadingLaws.{got, told, told-not, outcome-ok, outcome-no}
+use borrow.Author.Needs.{needs}
+use Rattle.reader.proofs.decode.read_boxed_attestation.Statement.{statement}
+use Rattle.reader.proofs.decode.read_boxed_attestation.Tie as tie
+
+-- the size and the bytes
+is : (c : tie.After-known-told) → sized 8192 .dec (c .before .before .before .before .before .args .bytes .now)
+    ≡ ok (c .before .size .given .0 .0, take (c .before .size .given .0 .0) (drop 2 (c .before .before .before .before .before .args .bytes .now))) (2 + c .before .size .given .0 .0)
+is c = got (λ r. sizedRead r (c .before .before .before .before .before .args .bytes .now)) (c .before .before .before .read-sized .ensures) (c .before .size .given .1)
+
+fits : (c : tie.After-known-told) → 2 + c .before .size .given .0 .0 ≤ length (c .before .before .before .before .before .args .bytes .now)
+fits c = sized 8192 .within _ (is c)
+
+-- the bytes, as the slice says them
+bytes : (n : ℕ) (s : List ℕ) → take (2 + n - 2) (drop 2 s) ≡ take n (drop 2 s)
+bytes n s = let e : 2 + n - 2 ≡ n = omega arith in ap (λ m. take m (drop 2 s)) e
+
+-- src/decode.rt:616:9
+read-sized-requires : tie.Need-read-sized-requires
+read-sized-requires c κs = search needs
+
+-- src/decode.rt:617:25
+enum-known-size : tie.Need-enum-known-size
+enum-known-size c = search needs
+
+-- src/decode.rt:618:36
+enum-told : tie.Need-enum-told
+enum-told c = search needs
+
+-- src/decode.rt:618:36
+why-sized-requires : tie.Need-why-sized-requires
+why-sized-requires c κs = search needs
+
+-- src/decode.rt:618:9
+refused-attestation-requires : tie.Need-refused-attestation-requires
+refused-attestation-requires c κs = search needs
+
+-- src/decode.rt:618:9
+returns : tie.Need-returns
+unfolding sized
+returns c =
+    let s = c .before .before .before .before .before .before .args .bytes .now in
+    outcome-no blankLostVoterAttestationV1 (c .refused-attestation .ensures ∙ ap (λ a. outcome blankLostVoterAttestationV1 (no (numberOf a))) (c .before .why-sized .ensures ∙ ap whySized (c .before .before .enum-told .given .1)))
+    (boxed-no-1 _ _ s (got (λ r. sizedRead r s) (c .before .before .before .before .read-sized .ensures) (c .before .before .enum-told .given .1)))
+
+-- src/decode.rt:620:49
+add-read-whole-attestation : tie.Need-add-read-whole-attestation
+add-read-whole-attestation c = record { fits = lt-of-le-of-lt (fits c) (c .before .before .before .before .before .good .0 .0) }
+
+-- src/decode.rt:620:39
+sub-read-whole-attestation : tie.Need-sub-read-whole-attestation
+sub-read-whole-attestation c = search needs
+
+-- src/decode.rt:620:39
+part-read-whole-attestation-start : tie.Need-part-read-whole-attestation-start
+part-read-whole-attestation-start c = search needs
+
+-- src/decode.rt:620:39
+part-read-whole-attestation-end : tie.Need-part-read-whole-attestation-end
+part-read-whole-attestation-end c = fits c
+
+-- src/decode.rt:620:9
+read-whole-attestation-requires : tie.Need-read-whole-attestation-requires
+read-whole-attestation-requires c κs = search needs
+
+enum-told-2 : tie.Need-enum-told-2
+enum-told-2 c = search needs
+
+-- src/decode.rt:623:9
+enum-told-3 : tie.Need-enum-told-3
+enum-told-3 c = search needs
+
+-- src/decode.rt:623:9
+returns-2 : tie.Need-returns-2
+unfolding sized
+returns-2 c =
+    let s = c .before .before .before .before .before .before .before .before .before .args .bytes .now in
+    let p = (c .before .before .read-whole-attestation .ensures ∙ ap (λ l. outcome blankLostVoterAttestationV1 (whole attestation l)) (bytes (c .before .before .before .before .before .size .given .0 .0) s)) in
+    let e = told-not blankLostVoterAttestationV1 _ p (c .enum-told3 .given .1) in
+    p ∙ ap (outcome blankLostVoterAttestationV1) (e ∙ sym (boxed-no-2 _ _ s (is (c .before .before .before .before)) e))
+
+-- src/decode.rt:627:29
+add-t8 : tie.Need-add-t8
+add-t8 c = record { fits = lt-of-le-of-lt (fits (c .before .before .before .before .before)) (c .before .before .before .before .before .before .before .before .before .before .good .0 .0) }
+
+-- src/decode.rt:613:1
+returns-3 : tie.Need-returns-3
+unfolding sized
+returns-3 c =
+    let s = c .before .before .before .before .before .before .before .before .before .before .args .bytes .now in
+    outcome-ok blankLostVoterAttestationV1 (boxed-ok _ _ s (is (c .before .before .before .before .before)) (told blankLostVoterAttestationV1 _ (c .before .before .before .read-whole-attestation .ensures ∙ ap (λ l. outcome blankLostVoterAttestationV1 (whole attestation l)) (bytes (c .before .before .before .before .before .before .size .given .0 .0) s)) (c .before .enum-told2 .given .1)))
+
+pub read-boxed-attestation-spec : {M : Type 1} → statement M
+read-boxed-attestation-spec =
+    tie.close
+    (tie.spec
+    read-sized-requires
+    enum-known-size
+    enum-told
+    why-sized-requires
+    refused-attestation-requires
+    returns
+    add-read-whole-attestation
+    sub-read-whole-attestation
+    part-read-whole-attestation-start
+    part-read-whole-attestation-end
+    read-whole-attestation-requires
+    enum-told-2
+    enum-told-3
+    returns-2
+    add-t8
+    returns-3)

@@ -1,0 +1,156 @@
+-- `reader::decode::read_members` meets its contract. Written by scripts/readers.py. Assumes nothing.
+use Prim.Native.Nat.{ℕ, _+_, _-_, _≤_}
+use Rattle.format.specs.Codec.{rest}
+use Rattle.format.specs.Copy.{filled-more, unfilled-more, drop-replicate}
+use Rattle.format.specs.List.{vec, vec-start, vec-next, vec-refused, padded-ok, padded-no}
+use Rattle.format.specs.Res.Res.{ok, no}
+use Rattle.identity.specs.Answer.{numberOf}
+use Rattle.layout.specs.Format.{member, members}
+use Rattle.layout.specs.Parts.{blankVoterSlotMembers}
+use Rattle.layout.specs.Reading.{outcome, whyOf}
+use Rattle.layout.specs.ReadingLaws.{told, told-not, outcome-ok, outcome-no}
+use Rattle.records.specs.Blank.{blankVoterSlotMember}
+use lib.ListN.{length, take, drop, replicate, length-set, take-append-drop}
+use mathlib.Core.List.{_++_}
+use mathlib.Core.Path.{_≡_, refl, sym, ap, _∙_, subst}
+use native.Mathlib.Nat.{lt-of-le-of-lt}
+use native.Mathlib.Omega.{arith}
+use borrow.Author.Needs.{needs}
+use Rattle.reader.proofs.decode.read_members.Statement.{statement}
+use Rattle.reader.proofs.decode.read_members.Tie as tie
+
+abbrev Inv-loop : tie.InvT-loop
+Inv-loop bytes count value₀ at₀ i₀ value at i =
+    (i ≤ count) × (vec member blankVoterSlotMember i .dec bytes ≡ ok (take i value) at) × (drop i value ≡ drop i value₀) × (length value ≡ 9)
+
+abbrev μ-loop : tie.MeasureT-loop
+μ-loop bytes count value₀ at₀ i₀ value at i = count - i
+
+-- one more was read, behind those before it
+one-more : (c : tie.After-to Inv-loop μ-loop) → member .dec (drop (c .before .before .before .before .before .loop .at) (c .before .before .before .before .before .before .before .before .args .bytes .now)) ≡ ok (c .before .before .read-member .result .value) (c .to .given .0 .0)
+one-more c = told blankVoterSlotMember _ (c .before .before .read-member .ensures ∙ ap (λ l. outcome blankVoterSlotMember (member .dec l)) (rest (c .before .before .before .before .before .before .before .before .args .bytes .now) (c .before .before .before .before .before .loop .at))) (c .to .given .1)
+
+-- behind those that were read stand blanks
+blanks-behind : (i : ℕ) → drop i blankVoterSlotMembers ≡ replicate (9 - i) blankVoterSlotMember
+unfolding blankVoterSlotMembers
+blanks-behind i = drop-replicate i 9 blankVoterSlotMember
+
+-- src/decode.rt:187:21
+blank-voter-slot-members-requires : tie.Need-blank-voter-slot-members-requires Inv-loop μ-loop
+blank-voter-slot-members-requires c κs = search needs
+
+-- src/decode.rt:190:5
+loop-holds : tie.Need-loop-holds Inv-loop μ-loop
+unfolding blankVoterSlotMembers
+loop-holds c = (search needs, vec-start member blankVoterSlotMember _, refl, ap length (c .blank-voter-slot-members .ensures))
+
+-- src/decode.rt:191:32
+sub-read-member : tie.Need-sub-read-member Inv-loop μ-loop
+sub-read-member c = vec member blankVoterSlotMember _ .within _ (c .before .loop .inv .1)
+
+-- src/decode.rt:191:32
+part-read-member-start : tie.Need-part-read-member-start Inv-loop μ-loop
+part-read-member-start c = vec member blankVoterSlotMember _ .within _ (c .before .loop .inv .1)
+
+-- src/decode.rt:191:32
+part-read-member-end : tie.Need-part-read-member-end Inv-loop μ-loop
+part-read-member-end c = search needs
+
+-- src/decode.rt:191:13
+read-member-requires : tie.Need-read-member-requires Inv-loop μ-loop
+read-member-requires c κs = search needs
+
+-- src/decode.rt:193:25
+enum-known-to : tie.Need-enum-known-to Inv-loop μ-loop
+enum-known-to c = search needs
+
+-- src/decode.rt:194:36
+enum-told : tie.Need-enum-told Inv-loop μ-loop
+enum-told c = search needs
+
+-- src/decode.rt:194:36
+why-requires : tie.Need-why-requires Inv-loop μ-loop
+why-requires c κs = search needs
+
+-- src/decode.rt:194:13
+refused-members-requires : tie.Need-refused-members-requires Inv-loop μ-loop
+refused-members-requires c κs = search needs
+
+-- src/decode.rt:194:13
+returns : tie.Need-returns Inv-loop μ-loop
+unfolding members
+returns c =
+    let l = c .before .before .before .before .before .before .before .loop in
+    outcome-no blankVoterSlotMembers (c .refused-members .ensures ∙ ap (λ a. outcome blankVoterSlotMembers (no (numberOf a))) (c .before .why .ensures ∙ ap whyOf (c .before .before .enum-told .given .1)))
+    (padded-no _ _ _ _ _ _ (vec-refused _ _ _ _ _ (c .before .before .before .before .before .before .loop-test .taken) (l .inv .1)
+    (told-not blankVoterSlotMember _ (c .before .before .before .before .read-member .ensures ∙ ap (λ l. outcome blankVoterSlotMember (member .dec l)) (rest (c .before .before .before .before .before .before .before .before .before .before .args .bytes .now) (l .at))) (c .before .before .enum-told .given .1))))
+
+-- src/decode.rt:197:9
+mul-value : tie.Need-mul-value Inv-loop μ-loop
+mul-value c = search needs
+
+-- src/decode.rt:197:9
+array-set-from-value : tie.Need-array-set-from-value Inv-loop μ-loop
+array-set-from-value c = search needs
+
+-- src/decode.rt:198:9
+add-at : tie.Need-add-at Inv-loop μ-loop
+add-at c = record { fits = lt-of-le-of-lt (vec member blankVoterSlotMember _ .within _ (vec-next member blankVoterSlotMember _ _ (c .before .before .before .before .before .before .before .loop .inv .1) (one-more (c .before .before)))) (c .before .before .before .before .before .before .before .before .before .before .good .0 .0) }
+
+-- src/decode.rt:199:9
+add-i : tie.Need-add-i Inv-loop μ-loop
+add-i c = search needs
+
+-- src/decode.rt:190:5
+loop-less : tie.Need-loop-less Inv-loop μ-loop
+loop-less c = omega arith
+
+-- src/decode.rt:190:5
+loop-again : tie.Need-loop-again Inv-loop μ-loop
+loop-again c =
+    let l = c .before .before .before .before .before .before .before .loop in
+    let m = c .before .before .before .before .read-member .result .value in (
+      omega arith,
+      vec-next member blankVoterSlotMember _ _ (l .inv .1) (one-more (c .before .before)) ∙ ap (λ v. ok v (l .at + c .before .before .to .given .0 .0)) (sym (filled-more (l .value) (l .i) m (omega (arith, l .inv .3)))),
+      unfilled-more (l .value) _ (l .i) m (l .inv .2),
+      length-set (l .value) (l .i) m ∙ l .inv .3,
+    )
+
+-- src/decode.rt:183:1
+returns-2 : tie.Need-returns-2 Inv-loop μ-loop
+unfolding members
+returns-2 c =
+    let l = c .before .loop in
+    let a = c .before .before .before .before .args in
+    let e : l .i ≡ a .count = omega arith in
+    let v : l .value ≡ take (l .i) (l .value) ++ replicate (9 - a .count) blankVoterSlotMember
+    = sym (take-append-drop (l .i) (l .value))
+    ∙ ap (λ t. take (l .i) (l .value) ++ t) (l .inv .2 ∙ ap (drop (l .i)) (c .before .before .blank-voter-slot-members .ensures) ∙ blanks-behind (l .i))
+    ∙ ap (λ n. take (l .i) (l .value) ++ replicate (9 - n) blankVoterSlotMember) e in
+    outcome-ok blankVoterSlotMembers
+    (padded-ok _ _ _ _ _ _ (subst (λ n. vec member blankVoterSlotMember n .dec (a .bytes .now) ≡ ok (take (l .i) (l .value)) (l .at)) e (l .inv .1)) ∙ ap (λ x. ok x (l .at)) (sym v))
+
+pub read-members-spec : {M : Type 1} → statement M
+read-members-spec =
+    tie.close
+    (tie.spec
+    Inv-loop
+    μ-loop
+    blank-voter-slot-members-requires
+    loop-holds
+    sub-read-member
+    part-read-member-start
+    part-read-member-end
+    read-member-requires
+    enum-known-to
+    enum-told
+    why-requires
+    refused-members-requires
+    returns
+    mul-value
+    array-set-from-value
+    add-at
+    add-i
+    loop-less
+    loop-again
+    returns-2)

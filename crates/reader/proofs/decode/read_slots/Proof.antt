@@ -1,0 +1,156 @@
+-- `reader::decode::read_slots` meets its contract. Written by scripts/readers.py. Assumes nothing.
+use Prim.Native.Nat.{ℕ, _+_, _-_, _≤_}
+use Rattle.format.specs.Codec.{rest}
+use Rattle.format.specs.Copy.{filled-more, unfilled-more, drop-replicate}
+use Rattle.format.specs.List.{vec, vec-start, vec-next, vec-refused, padded-ok, padded-no}
+use Rattle.format.specs.Res.Res.{ok, no}
+use Rattle.identity.specs.Answer.{numberOf}
+use Rattle.layout.specs.Format.{slot, slots}
+use Rattle.layout.specs.Parts.{blankVoterSlotRecords}
+use Rattle.layout.specs.Reading.{outcome, whyOf}
+use Rattle.layout.specs.ReadingLaws.{told, told-not, outcome-ok, outcome-no}
+use Rattle.records.specs.Blank.{blankVoterSlotRecord}
+use lib.ListN.{length, take, drop, replicate, length-set, take-append-drop}
+use mathlib.Core.List.{_++_}
+use mathlib.Core.Path.{_≡_, refl, sym, ap, _∙_, subst}
+use native.Mathlib.Nat.{lt-of-le-of-lt}
+use native.Mathlib.Omega.{arith}
+use borrow.Author.Needs.{needs}
+use Rattle.reader.proofs.decode.read_slots.Statement.{statement}
+use Rattle.reader.proofs.decode.read_slots.Tie as tie
+
+abbrev Inv-loop : tie.InvT-loop
+Inv-loop bytes count value₀ at₀ i₀ value at i =
+    (i ≤ count) × (vec slot blankVoterSlotRecord i .dec bytes ≡ ok (take i value) at) × (drop i value ≡ drop i value₀) × (length value ≡ 9)
+
+abbrev μ-loop : tie.MeasureT-loop
+μ-loop bytes count value₀ at₀ i₀ value at i = count - i
+
+-- one more was read, behind those before it
+one-more : (c : tie.After-to Inv-loop μ-loop) → slot .dec (drop (c .before .before .before .before .before .loop .at) (c .before .before .before .before .before .before .before .before .args .bytes .now)) ≡ ok (c .before .before .read-slot .result .value) (c .to .given .0 .0)
+one-more c = told blankVoterSlotRecord _ (c .before .before .read-slot .ensures ∙ ap (λ l. outcome blankVoterSlotRecord (slot .dec l)) (rest (c .before .before .before .before .before .before .before .before .args .bytes .now) (c .before .before .before .before .before .loop .at))) (c .to .given .1)
+
+-- behind those that were read stand blanks
+blanks-behind : (i : ℕ) → drop i blankVoterSlotRecords ≡ replicate (9 - i) blankVoterSlotRecord
+unfolding blankVoterSlotRecords
+blanks-behind i = drop-replicate i 9 blankVoterSlotRecord
+
+-- src/decode.rt:398:21
+blank-voter-slot-records-requires : tie.Need-blank-voter-slot-records-requires Inv-loop μ-loop
+blank-voter-slot-records-requires c κs = search needs
+
+-- src/decode.rt:401:5
+loop-holds : tie.Need-loop-holds Inv-loop μ-loop
+unfolding blankVoterSlotRecords
+loop-holds c = (search needs, vec-start slot blankVoterSlotRecord _, refl, ap length (c .blank-voter-slot-records .ensures))
+
+-- src/decode.rt:402:30
+sub-read-slot : tie.Need-sub-read-slot Inv-loop μ-loop
+sub-read-slot c = vec slot blankVoterSlotRecord _ .within _ (c .before .loop .inv .1)
+
+-- src/decode.rt:402:30
+part-read-slot-start : tie.Need-part-read-slot-start Inv-loop μ-loop
+part-read-slot-start c = vec slot blankVoterSlotRecord _ .within _ (c .before .loop .inv .1)
+
+-- src/decode.rt:402:30
+part-read-slot-end : tie.Need-part-read-slot-end Inv-loop μ-loop
+part-read-slot-end c = search needs
+
+-- src/decode.rt:402:13
+read-slot-requires : tie.Need-read-slot-requires Inv-loop μ-loop
+read-slot-requires c κs = search needs
+
+-- src/decode.rt:404:25
+enum-known-to : tie.Need-enum-known-to Inv-loop μ-loop
+enum-known-to c = search needs
+
+-- src/decode.rt:405:34
+enum-told : tie.Need-enum-told Inv-loop μ-loop
+enum-told c = search needs
+
+-- src/decode.rt:405:34
+why-requires : tie.Need-why-requires Inv-loop μ-loop
+why-requires c κs = search needs
+
+-- src/decode.rt:405:13
+refused-slots-requires : tie.Need-refused-slots-requires Inv-loop μ-loop
+refused-slots-requires c κs = search needs
+
+-- src/decode.rt:405:13
+returns : tie.Need-returns Inv-loop μ-loop
+unfolding slots
+returns c =
+    let l = c .before .before .before .before .before .before .before .loop in
+    outcome-no blankVoterSlotRecords (c .refused-slots .ensures ∙ ap (λ a. outcome blankVoterSlotRecords (no (numberOf a))) (c .before .why .ensures ∙ ap whyOf (c .before .before .enum-told .given .1)))
+    (padded-no _ _ _ _ _ _ (vec-refused _ _ _ _ _ (c .before .before .before .before .before .before .loop-test .taken) (l .inv .1)
+    (told-not blankVoterSlotRecord _ (c .before .before .before .before .read-slot .ensures ∙ ap (λ l. outcome blankVoterSlotRecord (slot .dec l)) (rest (c .before .before .before .before .before .before .before .before .before .before .args .bytes .now) (l .at))) (c .before .before .enum-told .given .1))))
+
+-- src/decode.rt:408:9
+mul-value : tie.Need-mul-value Inv-loop μ-loop
+mul-value c = search needs
+
+-- src/decode.rt:408:9
+array-set-from-value : tie.Need-array-set-from-value Inv-loop μ-loop
+array-set-from-value c = search needs
+
+-- src/decode.rt:409:9
+add-at : tie.Need-add-at Inv-loop μ-loop
+add-at c = record { fits = lt-of-le-of-lt (vec slot blankVoterSlotRecord _ .within _ (vec-next slot blankVoterSlotRecord _ _ (c .before .before .before .before .before .before .before .loop .inv .1) (one-more (c .before .before)))) (c .before .before .before .before .before .before .before .before .before .before .good .0 .0) }
+
+-- src/decode.rt:410:9
+add-i : tie.Need-add-i Inv-loop μ-loop
+add-i c = search needs
+
+-- src/decode.rt:401:5
+loop-less : tie.Need-loop-less Inv-loop μ-loop
+loop-less c = omega arith
+
+-- src/decode.rt:401:5
+loop-again : tie.Need-loop-again Inv-loop μ-loop
+loop-again c =
+    let l = c .before .before .before .before .before .before .before .loop in
+    let m = c .before .before .before .before .read-slot .result .value in (
+      omega arith,
+      vec-next slot blankVoterSlotRecord _ _ (l .inv .1) (one-more (c .before .before)) ∙ ap (λ v. ok v (l .at + c .before .before .to .given .0 .0)) (sym (filled-more (l .value) (l .i) m (omega (arith, l .inv .3)))),
+      unfilled-more (l .value) _ (l .i) m (l .inv .2),
+      length-set (l .value) (l .i) m ∙ l .inv .3,
+    )
+
+-- src/decode.rt:394:1
+returns-2 : tie.Need-returns-2 Inv-loop μ-loop
+unfolding slots
+returns-2 c =
+    let l = c .before .loop in
+    let a = c .before .before .before .before .args in
+    let e : l .i ≡ a .count = omega arith in
+    let v : l .value ≡ take (l .i) (l .value) ++ replicate (9 - a .count) blankVoterSlotRecord
+    = sym (take-append-drop (l .i) (l .value))
+    ∙ ap (λ t. take (l .i) (l .value) ++ t) (l .inv .2 ∙ ap (drop (l .i)) (c .before .before .blank-voter-slot-records .ensures) ∙ blanks-behind (l .i))
+    ∙ ap (λ n. take (l .i) (l .value) ++ replicate (9 - n) blankVoterSlotRecord) e in
+    outcome-ok blankVoterSlotRecords
+    (padded-ok _ _ _ _ _ _ (subst (λ n. vec slot blankVoterSlotRecord n .dec (a .bytes .now) ≡ ok (take (l .i) (l .value)) (l .at)) e (l .inv .1)) ∙ ap (λ x. ok x (l .at)) (sym v))
+
+pub read-slots-spec : {M : Type 1} → statement M
+read-slots-spec =
+    tie.close
+    (tie.spec
+    Inv-loop
+    μ-loop
+    blank-voter-slot-records-requires
+    loop-holds
+    sub-read-slot
+    part-read-slot-start
+    part-read-slot-end
+    read-slot-requires
+    enum-known-to
+    enum-told
+    why-requires
+    refused-slots-requires
+    returns
+    mul-value
+    array-set-from-value
+    add-at
+    add-i
+    loop-less
+    loop-again
+    returns-2)

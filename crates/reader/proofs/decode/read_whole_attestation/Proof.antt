@@ -1,0 +1,81 @@
+-- `reader::decode::read_whole_attestation` meets its contract. Assumes nothing.
+use mathlib.Core.Path.{_≡_, refl, sym, ap, _∙_}
+use mathlib.Core.Bool.{_&&_}
+use lib.Dec.{eqb}
+use lib.ListN.{length}
+use borrow.Author.Tests.{not-true, not-false}
+use Rattle.format.specs.Res.Res.{ok, no}
+use Rattle.format.specs.Codec.{checked-no}
+use Rattle.format.specs.Num.{pick}
+use Rattle.format.specs.Through.{whole-no}
+use Rattle.records.specs.Blank.{blankLostVoterAttestationV1}
+use Rattle.layout.specs.Format.{claims, attestation}
+use Rattle.layout.specs.FormatLaws.{attestation-by}
+use Rattle.layout.specs.Reading.{outcome}
+use Rattle.layout.specs.ReadingLaws.{told, told-not, outcome-no}
+use borrow.Author.Needs.{needs}
+use Rattle.reader.proofs.decode.read_whole_attestation.Statement.{statement}
+use Rattle.reader.proofs.decode.read_whole_attestation.Tie as tie
+
+-- what was read
+is : (c : tie.After-value) → claims .dec (c .before .before .before .before .before .before .args .bytes .now) ≡ ok (c .before .before .before .before .read-attestation .result .value) (c .before .before .to .given .0 .0)
+is c = told blankLostVoterAttestationV1 _ (c .before .before .before .before .read-attestation .ensures) (c .before .before .to .given .1)
+
+-- src/decode.rt:600:9
+read-attestation-requires : tie.Need-read-attestation-requires
+read-attestation-requires c κs = search needs
+
+-- src/decode.rt:602:21
+enum-known-to : tie.Need-enum-known-to
+enum-known-to c = search needs
+
+-- src/decode.rt:603:9
+enum-told : tie.Need-enum-told
+enum-told c = search needs
+
+-- src/decode.rt:603:9
+returns : tie.Need-returns
+unfolding attestation
+returns c =
+    let s = c .before .before .before .before .args .bytes .now in
+    let e = told-not blankLostVoterAttestationV1 _ (c .before .before .read-attestation .ensures) (c .enum-told .given .1) in
+    c .before .before .read-attestation .ensures ∙ ap (outcome blankLostVoterAttestationV1) (e ∙ sym (whole-no _ s (checked-no _ _ s e)))
+
+-- src/decode.rt:606:31
+is-valid-attestation-requires : tie.Need-is-valid-attestation-requires
+is-valid-attestation-requires c κs = search needs
+
+-- src/decode.rt:607:9
+refused-attestation-requires : tie.Need-refused-attestation-requires
+refused-attestation-requires c κs = search needs
+
+-- src/decode.rt:607:9
+returns-2 : tie.Need-returns-2
+unfolding pick
+returns-2 c =
+    let s = c .before .before .before .before .before .before .before .before .before .args .bytes .now in
+    let v = c .before .before .is-valid-attestation in
+    outcome-no blankLostVoterAttestationV1 (c .refused-attestation .ensures)
+    (attestation-by s (eqb (c .before .before .before .before .before .to .given .0 .0) (length s)) (v .result) (is (c .before .before .before)) refl (sym (v .ensures)) ∙ ap (λ t. pick t (ok (c .before .before .before .before .before .before .before .read-attestation .result .value) (c .before .before .before .before .before .to .given .0 .0)) (no 6)) (not-true ((eqb (c .before .before .before .before .before .to .given .0 .0) (length s)) && v .result) (c .before .if1 .taken)))
+
+-- src/decode.rt:597:1
+returns-3 : tie.Need-returns-3
+unfolding pick
+returns-3 c =
+    let s = c .before .before .before .before .before .before .before .before .args .bytes .now in
+    let v = c .before .is-valid-attestation in
+    let p = attestation-by s (eqb (c .before .before .before .before .to .given .0 .0) (length s)) (v .result) (is (c .before .before)) refl (sym (v .ensures)) ∙ ap (λ t. pick t (ok (c .before .before .before .before .before .before .read-attestation .result .value) (c .before .before .before .before .to .given .0 .0)) (no 6)) (not-false ((eqb (c .before .before .before .before .to .given .0 .0) (length s)) && v .result) (c .if1 .left)) in
+    c .before .before .before .before .before .before .read-attestation .ensures ∙ ap (outcome blankLostVoterAttestationV1) (is (c .before .before) ∙ sym p)
+
+pub read-whole-attestation-spec : {M : Type 1} → statement M
+read-whole-attestation-spec =
+    tie.close
+    (tie.spec
+    read-attestation-requires
+    enum-known-to
+    enum-told
+    returns
+    is-valid-attestation-requires
+    refused-attestation-requires
+    returns-2
+    returns-3)

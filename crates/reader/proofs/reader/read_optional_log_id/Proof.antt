@@ -1,0 +1,128 @@
+-- `reader::reader::read_optional_log_id` meets its contract. Assumes nothing.
+use Prim.Native.Nat.{_+_}
+use mathlib.Core.Path.{_≡_, sym, ap, _∙_}
+use mathlib.Core.Bool.{true}
+use native.Mathlib.Nat.{lt-of-le-of-lt}
+use borrow.Author.Tests.{not-true, not-false}
+use Rattle.format.specs.Res.Res.{ok, no}
+use Rattle.format.specs.Codec.{via-ok, via-no, rest}
+use Rattle.format.specs.List.{flag, opt, opt-no, opt-none, opt-some, opt-bad}
+use Rattle.identity.specs.Answer.{numberOf}
+use Rattle.records.specs.Blank.{blankVoterSlotLogId}
+use Rattle.layout.specs.Format.{logId, optionalLogId}
+use Rattle.layout.specs.Reading.{boolRead, logIdRead, whyBool, whyLogId}
+use Rattle.layout.specs.ReadingLaws.{got}
+use borrow.Author.Needs.{needs}
+use Rattle.reader.proofs.reader.read_optional_log_id.Statement.{statement}
+use Rattle.reader.proofs.reader.read_optional_log_id.Tie as tie
+
+-- the flag, what it says in the branch of a yes, and the whole
+flagged : (c : tie.After-first) → flag .dec (c .before .before .before .before .args .bytes .now) ≡ ok (c .first .given .0 .0) (c .first .given .0 .1 .0)
+flagged c = got boolRead (c .before .before .read-flag .ensures) (c .first .given .1)
+
+yes-is : (c : tie.Else1) → c .before .before .first .given .0 .0 ≡ true
+yes-is c = not-false _ (c .if1 .left)
+
+flagged-yes : (c : tie.Else1) → flag .dec (c .before .before .before .before .before .before .args .bytes .now) ≡ ok true (c .before .before .first .given .0 .1 .0)
+flagged-yes c = flagged (c .before .before) ∙ ap (λ t. ok t (c .before .before .first .given .0 .1 .0)) (yes-is c)
+
+both : (c : tie.After-known-told2) → opt logId blankVoterSlotLogId .dec (c .before .before .before .before .before .before .before .before .before .before .before .args .bytes .now)
+    ≡ ok (true, c .before .second .given .0 .0) (c .before .before .before .before .before .before .before .first .given .0 .1 .0 + c .before .second .given .0 .1 .0)
+both c = opt-some _ _ _ (flagged-yes (c .before .before .before .before .before)) (got logIdRead (c .before .before .before .read-log-id .ensures ∙ ap (logId .dec) (rest (c .before .before .before .before .before .before .before .before .before .before .before .args .bytes .now) _)) (c .before .second .given .1))
+
+-- src/reader.rt:224:9
+read-flag-requires : tie.Need-read-flag-requires
+read-flag-requires c κs = search needs
+
+-- src/reader.rt:225:24
+enum-known-first : tie.Need-enum-known-first
+enum-known-first c = search needs
+
+-- src/reader.rt:226:43
+enum-told : tie.Need-enum-told
+enum-told c = search needs
+
+-- src/reader.rt:226:43
+why-bool-requires : tie.Need-why-bool-requires
+why-bool-requires c κs = search needs
+
+-- src/reader.rt:226:9
+returns : tie.Need-returns
+unfolding optionalLogId
+returns c = ap (λ a. no (numberOf a)) (c .why-bool .ensures ∙ ap whyBool (c .before .enum-told .given .1)) ∙ sym (via-no _ _ _ _ _ (opt-no _ _ _ (got boolRead (c .before .before .before .read-flag .ensures) (c .before .enum-told .given .1))))
+
+-- src/reader.rt:230:9
+returns-2 : tie.Need-returns-2
+unfolding optionalLogId blankVoterSlotLogId
+returns-2 c =
+    let n = c .before .before .first .given .0 .1 .0 in
+    let t = not-true _ (c .if1 .taken) in
+    ap (λ b. ok (record { «is_some» = b; cut = blankVoterSlotLogId }) n) t
+    ∙ sym (via-ok _ _ _ _ _ (opt-none _ _ _ (flagged (c .before .before) ∙ ap (λ b. ok b n) t)))
+
+-- src/reader.rt:232:30
+sub-read-log-id : tie.Need-sub-read-log-id
+sub-read-log-id c = flag .within _ (flagged (c .before .before))
+
+-- src/reader.rt:232:30
+part-read-log-id-start : tie.Need-part-read-log-id-start
+part-read-log-id-start c = flag .within _ (flagged (c .before .before))
+
+-- src/reader.rt:232:30
+part-read-log-id-end : tie.Need-part-read-log-id-end
+part-read-log-id-end c = search needs
+
+-- src/reader.rt:232:9
+read-log-id-requires : tie.Need-read-log-id-requires
+read-log-id-requires c κs = search needs
+
+-- src/reader.rt:233:25
+enum-known-second : tie.Need-enum-known-second
+enum-known-second c = search needs
+
+-- src/reader.rt:234:43
+enum-told-2 : tie.Need-enum-told-2
+enum-told-2 c = search needs
+
+-- src/reader.rt:234:43
+why-log-id-requires : tie.Need-why-log-id-requires
+why-log-id-requires c κs = search needs
+
+-- src/reader.rt:234:9
+returns-3 : tie.Need-returns-3
+unfolding optionalLogId
+returns-3 c =
+    ap (λ a. no (numberOf a)) (c .why-log-id .ensures ∙ ap whyLogId (c .before .enum-told2 .given .1))
+    ∙ sym (via-no _ _ _ _ _ (opt-bad _ _ _ (flagged-yes (c .before .before .before .before .before)) (got logIdRead (c .before .before .before .read-log-id .ensures ∙ ap (logId .dec) (rest (c .before .before .before .before .before .before .before .before .before .before .before .args .bytes .now) _)) (c .before .enum-told2 .given .1))))
+
+-- src/reader.rt:236:61
+add-t13 : tie.Need-add-t13
+add-t13 c = record { fits = lt-of-le-of-lt (opt logId blankVoterSlotLogId .within _ (both c)) (c .before .before .before .before .before .before .before .before .before .before .before .good .0 .0) }
+
+-- src/reader.rt:221:1
+returns-4 : tie.Need-returns-4
+unfolding optionalLogId
+returns-4 c =
+    ap (λ b. ok (record { «is_some» = b; cut = c .before .second .given .0 .0 }) (c .before .before .before .before .before .before .before .first .given .0 .1 .0 + c .before .second .given .0 .1 .0)) (yes-is (c .before .before .before .before .before))
+    ∙ sym (via-ok _ _ _ _ _ (both c))
+
+pub read-optional-log-id-spec : {M : Type 1} → statement M
+read-optional-log-id-spec =
+    tie.close
+    (tie.spec
+    read-flag-requires
+    enum-known-first
+    enum-told
+    why-bool-requires
+    returns
+    returns-2
+    sub-read-log-id
+    part-read-log-id-start
+    part-read-log-id-end
+    read-log-id-requires
+    enum-known-second
+    enum-told-2
+    why-log-id-requires
+    returns-3
+    add-t13
+    returns-4)

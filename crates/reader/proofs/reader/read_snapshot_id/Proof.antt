@@ -1,0 +1,154 @@
+-- `reader::reader::read_snapshot_id` meets its contract. Written by scripts/readers.py. Assumes nothing.
+use Prim.Native.Nat.{ℕ, _+_, _-_, _≤_}
+use Rattle.format.specs.Codec.{checked-ok, checked-no, checked-bad, via-ok, via-no}
+use Rattle.format.specs.Copy.{length-zeros}
+use Rattle.format.specs.Fill.{put-zeros}
+use Rattle.format.specs.Num.{pick}
+use Rattle.format.specs.Put.{put}
+use Rattle.format.specs.Res.Res.{ok, no}
+use Rattle.identity.specs.Answer.{numberOf}
+use Rattle.identity.specs.Text.{isUtf8}
+use Rattle.layout.specs.Format.{require, sized, string, snapshotId}
+use Rattle.layout.specs.FormatLaws.{sized-small}
+use Rattle.layout.specs.Reading.{outcome, sizedRead, whySized}
+use Rattle.layout.specs.ReadingLaws.{got, outcome-ok, outcome-no}
+use Rattle.records.specs.Blank.{blankSnapshotId}
+use Rattle.records.specs.ValidationLaws.{failed, held}
+use lib.ListN.{length, take, drop, replicate, length-take, length-drop}
+use lib.Seq.{length-take-le}
+use mathlib.Core.List.{List, _++_}
+use mathlib.Core.Path.{_≡_, sym, ap, _∙_}
+use native.Mathlib.Nat.{lt-of-le-of-lt}
+use native.Mathlib.Omega.{arith}
+use borrow.Author.Needs.{needs}
+use Rattle.reader.proofs.reader.read_snapshot_id.Statement.{statement}
+use Rattle.reader.proofs.reader.read_snapshot_id.Tie as tie
+
+-- what was read
+is : (c : tie.After-known-told) → sized 256 .dec (c .before .before .before .before .before .args .bytes .now)
+    ≡ ok (c .before .size .given .0 .0, take (c .before .size .given .0 .0) (drop 2 (c .before .before .before .before .before .args .bytes .now))) (2 + c .before .size .given .0 .0)
+is c = got (λ r. sizedRead r (c .before .before .before .before .before .args .bytes .now)) (c .before .before .before .read-sized .ensures) (c .before .size .given .1)
+
+-- the text, as the slice says it
+text : (n : ℕ) (s : List ℕ) → take (2 + n - 2) (drop 2 s) ≡ take n (drop 2 s)
+text n s = let e : 2 + n - 2 ≡ n = omega arith in ap (λ m. take m (drop 2 s)) e
+
+fits : (c : tie.After-known-told) → 2 + c .before .size .given .0 .0 ≤ length (c .before .before .before .before .before .args .bytes .now)
+fits c = sized 256 .within _ (is c)
+
+-- src/reader.rt:417:9
+read-sized-requires : tie.Need-read-sized-requires
+read-sized-requires c κs = search needs
+
+-- src/reader.rt:418:25
+enum-known-size : tie.Need-enum-known-size
+enum-known-size c = search needs
+
+-- src/reader.rt:419:36
+enum-told : tie.Need-enum-told
+enum-told c = search needs
+
+-- src/reader.rt:419:36
+why-sized-requires : tie.Need-why-sized-requires
+why-sized-requires c κs = search needs
+
+-- src/reader.rt:419:9
+refused-snapshot-id-requires : tie.Need-refused-snapshot-id-requires
+refused-snapshot-id-requires c κs = search needs
+
+-- src/reader.rt:419:9
+returns : tie.Need-returns
+unfolding snapshotId string
+returns c =
+    let s = c .before .before .before .before .before .before .args .bytes .now in
+    outcome-no _ (c .refused-snapshot-id .ensures ∙ ap (λ a. outcome blankSnapshotId (no (numberOf a))) (c .before .why-sized .ensures ∙ ap whySized (c .before .before .enum-told .given .1)))
+    (via-no _ _ _ _ _ (checked-no _ _ _ (got (λ r. sizedRead r s) (c .before .before .before .before .read-sized .ensures) (c .before .before .enum-told .given .1))))
+
+-- src/reader.rt:421:26
+add-text : tie.Need-add-text
+add-text c = record { fits = lt-of-le-of-lt (fits c) (c .before .before .before .before .before .good .0 .0) }
+
+-- src/reader.rt:421:16
+sub-text : tie.Need-sub-text
+sub-text c = search needs
+
+-- src/reader.rt:421:16
+part-text-start : tie.Need-part-text-start
+part-text-start c = search needs
+
+-- src/reader.rt:421:16
+part-text-end : tie.Need-part-text-end
+part-text-end c = fits c
+
+-- src/reader.rt:422:9
+is-utf8-requires : tie.Need-is-utf8-requires
+is-utf8-requires c κs = search needs
+
+-- src/reader.rt:423:9
+refused-snapshot-id-requires-2 : tie.Need-refused-snapshot-id-requires-2
+refused-snapshot-id-requires-2 c κs = search needs
+
+-- src/reader.rt:423:9
+returns-2 : tie.Need-returns-2
+unfolding snapshotId string pick
+returns-2 c =
+    let s = c .before .before .before .before .before .before .before .before .before .args .bytes .now in
+    let n = c .before .before .before .before .before .size .given .0 .0 in
+    outcome-no _ (c .refused-snapshot-id2 .ensures)
+    (via-no _ _ _ _ _ (checked-bad _ _ _ (is (c .before .before .before .before)) (ap require (ap isUtf8 (sym (text n s)) ∙ failed (c .before .before .is-utf8 .ensures) (c .before .if1 .taken)))))
+
+-- src/reader.rt:425:21
+zeros256-requires : tie.Need-zeros256-requires
+zeros256-requires c κs = search needs
+
+-- src/reader.rt:426:15
+slice-aggregate-put-bytes : tie.Need-slice-aggregate-put-bytes
+slice-aggregate-put-bytes c = search needs
+
+-- src/reader.rt:426:5
+put-bytes-requires : tie.Need-put-bytes-requires
+put-bytes-requires c κs =
+    let s = c .before .before .before .before .before .before .before .before .before .before .args .bytes .now in
+    let n = c .before .before .before .before .before .before .size .given .0 .0 in
+    let z : length (c .before .zeros256 .result) ≡ 256 = ap length (c .before .zeros256 .ensures) ∙ length-zeros 256 in
+    omega (arith, length-take (2 + n - 2) (drop 2 s), z, sized-small 256 s (is (c .before .before .before .before .before)))
+
+-- src/reader.rt:428:29
+add-t9 : tie.Need-add-t9
+add-t9 c = record { fits = lt-of-le-of-lt (fits (c .before .before .before .before .before .before .before)) (c .before .before .before .before .before .before .before .before .before .before .before .before .good .0 .0) }
+
+-- src/reader.rt:414:1
+returns-3 : tie.Need-returns-3
+unfolding snapshotId string pick
+returns-3 c =
+    let s = c .before .before .before .before .before .before .before .before .before .before .before .before .args .bytes .now in
+    let n = c .before .before .before .before .before .before .before .before .size .given .0 .0 in
+    let l = take n (drop 2 s) in
+    let h : length l ≡ n = length-take-le n (drop 2 s) (omega (arith, length-drop 2 s, fits (c .before .before .before .before .before .before .before))) in
+    let p = c .before .put-bytes .ensures .bytes ∙ (λ i. put (text n s i) 0 (c .before .before .before .zeros256 .ensures i)) ∙ put-zeros l 256 ∙ ap (λ m. l ++ replicate (256 - m) 0) h in
+    outcome-ok blankSnapshotId
+    (via-ok _ _ _ _ _ (checked-ok _ _ _ (is (c .before .before .before .before .before .before .before)) (ap require (ap isUtf8 (sym (text n s)) ∙ held (c .before .before .before .before .before .is-utf8 .ensures) (c .before .before .before .before .if1 .left))))
+    ∙ ap (λ b. ok (record { len = n; bytes = b }) (2 + n)) (sym p))
+
+pub read-snapshot-id-spec : {M : Type 1} → statement M
+read-snapshot-id-spec =
+    tie.close
+    (tie.spec
+    read-sized-requires
+    enum-known-size
+    enum-told
+    why-sized-requires
+    refused-snapshot-id-requires
+    returns
+    add-text
+    sub-text
+    part-text-start
+    part-text-end
+    is-utf8-requires
+    refused-snapshot-id-requires-2
+    returns-2
+    zeros256-requires
+    slice-aggregate-put-bytes
+    put-bytes-requires
+    add-t9
+    returns-3)

@@ -1,0 +1,60 @@
+-- `reader::reader::read_version` meets its contract. Assumes nothing.
+use mathlib.Core.Path.{_≡_, sym, ap, _∙_}
+use borrow.Author.Tests.{eq-eqb, ne-eqb}
+use Rattle.format.specs.Res.Res.{ok, no}
+use Rattle.format.specs.Codec.{checked-ok, checked-no, checked-bad, via-ok, via-no}
+use Rattle.format.specs.Num.{uint, pick}
+use Rattle.identity.specs.Answer.{numberOf}
+use Rattle.layout.specs.Format.{require, version}
+use Rattle.layout.specs.Reading.{u64Read, whyU64}
+use Rattle.layout.specs.ReadingLaws.{got}
+use borrow.Author.Needs.{needs}
+use Rattle.reader.proofs.reader.read_version.Statement.{statement}
+use Rattle.reader.proofs.reader.read_version.Tie as tie
+
+-- what was read
+is : (c : tie.After-number) → uint 2 .dec (c .before .before .before .before .args .bytes .now) ≡ ok (c .number .given .0 .0) (c .number .given .0 .1 .0)
+is c = got u64Read (c .before .before .read-be .ensures) (c .number .given .1)
+
+-- src/reader.rt:437:9
+read-be-requires : tie.Need-read-be-requires
+read-be-requires c κs = search needs
+
+-- src/reader.rt:438:23
+enum-known-number : tie.Need-enum-known-number
+enum-known-number c = search needs
+
+-- src/reader.rt:439:33
+enum-told : tie.Need-enum-told
+enum-told c = search needs
+
+-- src/reader.rt:439:33
+why-u64-requires : tie.Need-why-u64-requires
+why-u64-requires c κs = search needs
+
+-- src/reader.rt:439:9
+returns : tie.Need-returns
+unfolding version
+returns c = ap (λ a. no (numberOf a)) (c .why-u64 .ensures ∙ ap whyU64 (c .before .enum-told .given .1)) ∙ sym (via-no _ _ _ _ _ (checked-no _ _ _ (got u64Read (c .before .before .before .read-be .ensures) (c .before .enum-told .given .1))))
+
+-- src/reader.rt:442:9
+returns-2 : tie.Need-returns-2
+unfolding version pick
+returns-2 c = sym (via-no _ _ _ _ _ (checked-bad _ _ _ (is (c .before .before)) (ap require (ne-eqb _ _ (c .if1 .taken)))))
+
+-- src/reader.rt:434:1
+returns-3 : tie.Need-returns-3
+unfolding version pick
+returns-3 c = sym (via-ok _ _ _ _ _ (checked-ok _ _ _ (is (c .before .before)) (ap require (eq-eqb _ _ (c .if1 .left)))))
+
+pub read-version-spec : {M : Type 1} → statement M
+read-version-spec =
+    tie.close
+    (tie.spec
+    read-be-requires
+    enum-known-number
+    enum-told
+    why-u64-requires
+    returns
+    returns-2
+    returns-3)

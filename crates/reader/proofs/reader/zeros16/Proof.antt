@@ -1,0 +1,13 @@
+-- `reader::reader::zeros16` meets its contract. Assumes nothing.
+use mathlib.Core.Path.{refl}
+use Rattle.format.specs.Copy.{zeros}
+use Rattle.reader.proofs.reader.zeros16.Statement.{statement}
+use Rattle.reader.proofs.reader.zeros16.Tie as tie
+
+-- src/reader.rt:345:1
+returns : tie.Need-returns
+unfolding zeros
+returns c = refl
+
+pub zeros16-spec : {M : Type 1} → statement M
+zeros16-spec = tie.close (tie.spec returns)

@@ -1,0 +1,13 @@
+-- `reader::reader::zeros256` meets its contract. Assumes nothing.
+use mathlib.Core.Path.{refl}
+use Rattle.format.specs.Copy.{zeros}
+use Rattle.reader.proofs.reader.zeros256.Statement.{statement}
+use Rattle.reader.proofs.reader.zeros256.Tie as tie
+
+-- src/reader.rt:363:1
+returns : tie.Need-returns
+unfolding zeros
+returns c = refl
+
+pub zeros256-spec : {M : Type 1} → statement M
+zeros256-spec = tie.close (tie.spec returns)

@@ -1,0 +1,13 @@
+-- `reader::reader::zeros32` meets its contract. Assumes nothing.
+use mathlib.Core.Path.{refl}
+use Rattle.format.specs.Copy.{zeros}
+use Rattle.reader.proofs.reader.zeros32.Statement.{statement}
+use Rattle.reader.proofs.reader.zeros32.Tie as tie
+
+-- src/reader.rt:351:1
+returns : tie.Need-returns
+unfolding zeros
+returns c = refl
+
+pub zeros32-spec : {M : Type 1} → statement M
+zeros32-spec = tie.close (tie.spec returns)

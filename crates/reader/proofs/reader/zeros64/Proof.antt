@@ -1,0 +1,13 @@
+-- `reader::reader::zeros64` meets its contract. Assumes nothing.
+use mathlib.Core.Path.{refl}
+use Rattle.format.specs.Copy.{zeros}
+use Rattle.reader.proofs.reader.zeros64.Statement.{statement}
+use Rattle.reader.proofs.reader.zeros64.Tie as tie
+
+-- src/reader.rt:357:1
+returns : tie.Need-returns
+unfolding zeros
+returns c = refl
+
+pub zeros64-spec : {M : Type 1} → statement M
+zeros64-spec = tie.close (tie.spec returns)

@@ -1,0 +1,888 @@
+// The readers of the records, in the order of codec.rs.
+//
+// Ported from crates/opc-consensus/src/voter_slots/codec.rs of openpacketcore-sdk, commit
+// 717de332e7, Apache-2.0 (see NOTICE). Changed: each field has a reader of its own, which is handed
+// the rest of the bytes and gives the count that it took.
+ghost use mathlib.Core.Path.{_≡_};
+ghost use Prim.Native.Nat.{_≤_};
+ghost use Rattle.format.specs.List.{opt};
+ghost use Rattle.format.specs.Through.{whole, boxed};
+ghost use Rattle.records.specs.Blank.{blankVoterSlotMember, blankVoterConfiguration, blankVoterReplacementResult, blankVoterSlotRecord, blankLostVoterAttestationV1, blankVoterSnapshotEvidence, blankVoterReplacementEvidence, blankVoterReplacementRecord, blankVoterSlotTable};
+ghost use Rattle.layout.specs.Parts.{absentResult, absentSnapshot, absentReplacement, blankBinding, blankClaimsRequest, blankClaimsSlot, blankClaimsNames, blankClaimsEnd, blankResultHead, blankSlotMember, blankChange, blankTableHead, blankVoterSlotMembers, blankVoterSlotRecords};
+ghost use Rattle.layout.specs.Reading.{report, outcome};
+ghost use Rattle.layout.specs.Format.{binding, member, members, configuration, resultHead, result, slotMember, slot, slots, claimsRequest, claimsSlot, claimsNames, claimsEnd, claims, attestation, snapshot, evidence, change, replacement, tableHead, table};
+use crate::reader::read_array16;
+use crate::reader::read_array32;
+use crate::reader::read_array64;
+use crate::reader::read_choice;
+use crate::reader::read_count;
+use crate::reader::read_epoch;
+use crate::reader::read_flag;
+use crate::reader::read_head;
+use crate::reader::read_identity;
+use crate::reader::read_incarnation;
+use crate::reader::read_log_id;
+use crate::reader::read_sized;
+use crate::reader::read_snapshot_id;
+use crate::reader::read_spiffe_id;
+use crate::reader::read_three_cuts;
+use crate::reader::read_times;
+use crate::reader::read_u64;
+use crate::reader::read_version;
+use identity::answer::Answer;
+use layout::parts::Binding;
+use layout::parts::Change;
+use layout::parts::ClaimsEnd;
+use layout::parts::ClaimsNames;
+use layout::parts::ClaimsRequest;
+use layout::parts::ClaimsSlot;
+use layout::parts::ResultHead;
+use layout::parts::SlotMember;
+use layout::parts::TableHead;
+use layout::parts::attestation_of;
+use layout::parts::evidence_of;
+use layout::parts::member_of;
+use layout::parts::replacement_of;
+use layout::parts::result_of;
+use layout::parts::table_of;
+use layout::reading::AttestationRead;
+use layout::reading::BindingRead;
+use layout::reading::BoolRead;
+use layout::reading::ChangeRead;
+use layout::reading::ClaimsEndRead;
+use layout::reading::ClaimsNamesRead;
+use layout::reading::ClaimsRequestRead;
+use layout::reading::ClaimsSlotRead;
+use layout::reading::ConfigurationRead;
+use layout::reading::EvidenceRead;
+use layout::reading::IdentityRead;
+use layout::reading::LogIdRead;
+use layout::reading::MemberRead;
+use layout::reading::MembersRead;
+use layout::reading::OptionalReplacementRead;
+use layout::reading::OptionalResultRead;
+use layout::reading::OptionalSnapshotRead;
+use layout::reading::Reading;
+use layout::reading::ReplacementRead;
+use layout::reading::ResultHeadRead;
+use layout::reading::ResultRead;
+use layout::reading::SizedRead;
+use layout::reading::SlotMemberRead;
+use layout::reading::SlotRead;
+use layout::reading::SlotsRead;
+use layout::reading::SnapshotRead;
+use layout::reading::TableHeadRead;
+use layout::reading::TableRead;
+use layout::reading::ThreeCutsRead;
+use layout::reading::TimesRead;
+use layout::reading::U8Read;
+use layout::reading::U64Read;
+use layout::reading::blank_voter_slot_members;
+use layout::reading::blank_voter_slot_records;
+use layout::reading::refused_attestation;
+use layout::reading::refused_binding;
+use layout::reading::refused_change;
+use layout::reading::refused_claims_end;
+use layout::reading::refused_claims_names;
+use layout::reading::refused_claims_request;
+use layout::reading::refused_claims_slot;
+use layout::reading::refused_configuration;
+use layout::reading::refused_evidence;
+use layout::reading::refused_member;
+use layout::reading::refused_members;
+use layout::reading::refused_optional_replacement;
+use layout::reading::refused_optional_result;
+use layout::reading::refused_optional_snapshot;
+use layout::reading::refused_replacement;
+use layout::reading::refused_result;
+use layout::reading::refused_result_head;
+use layout::reading::refused_slot;
+use layout::reading::refused_slot_member;
+use layout::reading::refused_slots;
+use layout::reading::refused_snapshot;
+use layout::reading::refused_table;
+use layout::reading::refused_table_head;
+use layout::reading::why;
+use layout::reading::why_bool;
+use layout::reading::why_identity;
+use layout::reading::why_log_id;
+use layout::reading::why_sized;
+use layout::reading::why_three_cuts;
+use layout::reading::why_times;
+use layout::reading::why_u8;
+use layout::reading::why_u64;
+use records::blank::blank_voter_replacement_record;
+use records::blank::blank_voter_replacement_result;
+use records::blank::blank_voter_snapshot_evidence;
+use records::records::COMPLETED;
+use records::records::PENDING;
+use records::records::PREPARED;
+use records::records::STORAGE_LOST;
+use records::records::SUPERSEDED;
+use records::records::TIME_BOUND_LOSS;
+use records::records::UNIFORM;
+use records::records::VOTING;
+use records::records::VoterConfiguration;
+use records::records::VoterSlotRecord;
+use records::records::VoterSnapshotEvidence;
+use records::validation::is_valid_attestation;
+
+// `binding`: what follows an identity.
+pub fn read_binding(bytes: &[u8]) -> BindingRead
+    ensures { λ r. ⌜ (report (r .answer), r .value) ≡ outcome blankBinding (binding .dec (now (bytes .entry))) ⌝ }
+{
+    let key_digest_read = read_array32(bytes);
+    let key_digest_to = key_digest_read.answer;
+    let Reading::To(at) = key_digest_to else {
+        return refused_binding(why(key_digest_to));
+    };
+    let key_digest = key_digest_read.value;
+    let descriptor_digest_read = read_array32(&bytes[at..]);
+    let descriptor_digest_to = descriptor_digest_read.answer;
+    let Reading::To(n) = descriptor_digest_to else {
+        return refused_binding(why(descriptor_digest_to));
+    };
+    let descriptor_digest = descriptor_digest_read.value;
+    let at = at + n;
+    let admission_generation_read = read_u64(&bytes[at..]);
+    let U64Read::Read(admission_generation, n) = admission_generation_read else {
+        return refused_binding(why_u64(admission_generation_read));
+    };
+    BindingRead {
+        answer: Reading::To(at + n),
+        value: Binding {
+            key_digest,
+            descriptor_digest,
+            admission_generation,
+        },
+    }
+}
+
+// A member of a configuration.
+pub fn read_member(bytes: &[u8]) -> MemberRead
+    ensures { λ r. ⌜ (report (r .answer), r .value) ≡ outcome blankVoterSlotMember (member .dec (now (bytes .entry))) ⌝ }
+{
+    let identity_read = read_identity(bytes);
+    let IdentityRead::Read(identity, at) = identity_read else {
+        return refused_member(why_identity(identity_read));
+    };
+    let binding_read = read_binding(&bytes[at..]);
+    let binding_to = binding_read.answer;
+    let Reading::To(n) = binding_to else {
+        return refused_member(why(binding_to));
+    };
+    let binding = binding_read.value;
+    MemberRead {
+        answer: Reading::To(at + n),
+        value: member_of(identity, binding),
+    }
+}
+
+// The first so many of the nine places; blanks behind them.
+fn read_members(bytes: &[u8], count: usize) -> MembersRead
+    requires { ⌜ count ≤ 9 ⌝ }
+    ensures { λ r. ⌜ (report (r .answer), r .value) ≡ outcome blankVoterSlotMembers (members count .dec (now (bytes .entry))) ⌝ }
+{
+    let mut value = blank_voter_slot_members();
+    let mut at = 0;
+    let mut i = 0;
+    while i < count {
+        let read = read_member(&bytes[at..]);
+        let to = read.answer;
+        let Reading::To(n) = to else {
+            return refused_members(why(to));
+        };
+        let place = read.value;
+        value[i] = place;
+        at += n;
+        i += 1;
+    }
+    MembersRead {
+        answer: Reading::To(at),
+        value,
+    }
+}
+
+// `configuration`
+pub fn read_configuration(bytes: &[u8]) -> ConfigurationRead
+    ensures { λ r. ⌜ (report (r .answer), r .value) ≡ outcome blankVoterConfiguration (configuration .dec (now (bytes .entry))) ⌝ }
+{
+    let epoch_read = read_epoch(bytes);
+    let U64Read::Read(epoch, at) = epoch_read else {
+        return refused_configuration(why_u64(epoch_read));
+    };
+    let count_read = read_count(&bytes[at..]);
+    let U8Read::Read(count, n) = count_read else {
+        return refused_configuration(why_u8(count_read));
+    };
+    let at = at + n;
+    let members_read = read_members(&bytes[at..], count as usize);
+    let members_to = members_read.answer;
+    let Reading::To(n) = members_to else {
+        return refused_configuration(why(members_to));
+    };
+    let members = members_read.value;
+    ConfigurationRead {
+        answer: Reading::To(at + n),
+        value: VoterConfiguration {
+            epoch,
+            members,
+            count: count as usize,
+        },
+    }
+}
+
+// The front of a receipt.
+pub fn read_result_head(bytes: &[u8]) -> ResultHeadRead
+    ensures { λ r. ⌜ (report (r .answer), r .value) ≡ outcome blankResultHead (resultHead .dec (now (bytes .entry))) ⌝ }
+{
+    let request_id_read = read_array16(bytes);
+    let request_id_to = request_id_read.answer;
+    let Reading::To(at) = request_id_to else {
+        return refused_result_head(why(request_id_to));
+    };
+    let request_id = request_id_read.value;
+    let request_digest_read = read_array32(&bytes[at..]);
+    let request_digest_to = request_digest_read.answer;
+    let Reading::To(n) = request_digest_to else {
+        return refused_result_head(why(request_digest_to));
+    };
+    let request_digest = request_digest_read.value;
+    let at = at + n;
+    let incarnation_read = read_incarnation(&bytes[at..]);
+    let U64Read::Read(incarnation, n) = incarnation_read else {
+        return refused_result_head(why_u64(incarnation_read));
+    };
+    let at = at + n;
+    let revision_read = read_u64(&bytes[at..]);
+    let U64Read::Read(revision, n) = revision_read else {
+        return refused_result_head(why_u64(revision_read));
+    };
+    ResultHeadRead {
+        answer: Reading::To(at + n),
+        value: ResultHead {
+            request_id,
+            request_digest,
+            incarnation,
+            revision,
+        },
+    }
+}
+
+// A receipt.
+pub fn read_result(bytes: &[u8]) -> ResultRead
+    ensures { λ r. ⌜ (report (r .answer), r .value) ≡ outcome blankVoterReplacementResult (result .dec (now (bytes .entry))) ⌝ }
+{
+    let head_read = read_result_head(bytes);
+    let head_to = head_read.answer;
+    let Reading::To(at) = head_to else {
+        return refused_result(why(head_to));
+    };
+    let head = head_read.value;
+    let configuration_epoch_read = read_epoch(&bytes[at..]);
+    let U64Read::Read(configuration_epoch, n) = configuration_epoch_read else {
+        return refused_result(why_u64(configuration_epoch_read));
+    };
+    let at = at + n;
+    let kind_read = read_choice(&bytes[at..], COMPLETED, SUPERSEDED);
+    let U8Read::Read(kind, n) = kind_read else {
+        return refused_result(why_u8(kind_read));
+    };
+    let at = at + n;
+    let terminal_read = read_log_id(&bytes[at..]);
+    let LogIdRead::Read(terminal, n) = terminal_read else {
+        return refused_result(why_log_id(terminal_read));
+    };
+    ResultRead {
+        answer: Reading::To(at + n),
+        value: result_of(head, configuration_epoch, kind, terminal),
+    }
+}
+
+// A receipt, or none.
+fn read_optional_result(bytes: &[u8]) -> OptionalResultRead
+    ensures { λ r. ⌜ (report (r .answer), (r .«is_some», r .value)) ≡ outcome absentResult (opt result blankVoterReplacementResult .dec (now (bytes .entry))) ⌝ }
+{
+    let flag = read_flag(bytes);
+    let BoolRead::Read(is_some, at) = flag else {
+        return refused_optional_result(why_bool(flag));
+    };
+    if !is_some {
+        return OptionalResultRead {
+            answer: Reading::To(at),
+            is_some,
+            value: blank_voter_replacement_result(),
+        };
+    }
+    let read = read_result(&bytes[at..]);
+    let to = read.answer;
+    let Reading::To(n) = to else {
+        return refused_optional_result(why(to));
+    };
+    let value = read.value;
+    OptionalResultRead {
+        answer: Reading::To(at + n),
+        is_some,
+        value,
+    }
+}
+
+// The front of a slot.
+pub fn read_slot_member(bytes: &[u8]) -> SlotMemberRead
+    ensures { λ r. ⌜ (report (r .answer), r .value) ≡ outcome blankSlotMember (slotMember .dec (now (bytes .entry))) ⌝ }
+{
+    let identity_read = read_identity(bytes);
+    let IdentityRead::Read(identity, at) = identity_read else {
+        return refused_slot_member(why_identity(identity_read));
+    };
+    let retired_through_read = read_u64(&bytes[at..]);
+    let U64Read::Read(retired_through, n) = retired_through_read else {
+        return refused_slot_member(why_u64(retired_through_read));
+    };
+    let at = at + n;
+    let binding_read = read_binding(&bytes[at..]);
+    let binding_to = binding_read.answer;
+    let Reading::To(n) = binding_to else {
+        return refused_slot_member(why(binding_to));
+    };
+    let binding = binding_read.value;
+    SlotMemberRead {
+        answer: Reading::To(at + n),
+        value: SlotMember {
+            member: member_of(identity, binding),
+            retired_through,
+        },
+    }
+}
+
+// A slot.
+pub fn read_slot(bytes: &[u8]) -> SlotRead
+    ensures { λ r. ⌜ (report (r .answer), r .value) ≡ outcome blankVoterSlotRecord (slot .dec (now (bytes .entry))) ⌝ }
+{
+    let head_read = read_slot_member(bytes);
+    let head_to = head_read.answer;
+    let Reading::To(at) = head_to else {
+        return refused_slot(why(head_to));
+    };
+    let head = head_read.value;
+    let phase_read = read_choice(&bytes[at..], PENDING, VOTING);
+    let U8Read::Read(phase, n) = phase_read else {
+        return refused_slot(why_u8(phase_read));
+    };
+    let at = at + n;
+    let last_result_read = read_optional_result(&bytes[at..]);
+    let last_result_to = last_result_read.answer;
+    let Reading::To(n) = last_result_to else {
+        return refused_slot(why(last_result_to));
+    };
+    let last_result = last_result_read.value;
+    let member = head.member;
+    SlotRead {
+        answer: Reading::To(at + n),
+        value: VoterSlotRecord {
+            member,
+            retired_through: head.retired_through,
+            phase,
+            has_last_result: last_result_read.is_some,
+            last_result,
+        },
+    }
+}
+
+// The first so many of the nine places; blanks behind them.
+fn read_slots(bytes: &[u8], count: usize) -> SlotsRead
+    requires { ⌜ count ≤ 9 ⌝ }
+    ensures { λ r. ⌜ (report (r .answer), r .value) ≡ outcome blankVoterSlotRecords (slots count .dec (now (bytes .entry))) ⌝ }
+{
+    let mut value = blank_voter_slot_records();
+    let mut at = 0;
+    let mut i = 0;
+    while i < count {
+        let read = read_slot(&bytes[at..]);
+        let to = read.answer;
+        let Reading::To(n) = to else {
+            return refused_slots(why(to));
+        };
+        let place = read.value;
+        value[i] = place;
+        at += n;
+        i += 1;
+    }
+    SlotsRead {
+        answer: Reading::To(at),
+        value,
+    }
+}
+
+// The four groups of an attestation.
+pub fn read_claims_request(bytes: &[u8]) -> ClaimsRequestRead
+    ensures { λ r. ⌜ (report (r .answer), r .value) ≡ outcome blankClaimsRequest (claimsRequest .dec (now (bytes .entry))) ⌝ }
+{
+    let version = read_version(bytes);
+    let Reading::To(at) = version else {
+        return refused_claims_request(why(version));
+    };
+    let request_id_read = read_array16(&bytes[at..]);
+    let request_id_to = request_id_read.answer;
+    let Reading::To(n) = request_id_to else {
+        return refused_claims_request(why(request_id_to));
+    };
+    let request_id = request_id_read.value;
+    let at = at + n;
+    let request_digest_read = read_array32(&bytes[at..]);
+    let request_digest_to = request_digest_read.answer;
+    let Reading::To(n) = request_digest_to else {
+        return refused_claims_request(why(request_digest_to));
+    };
+    let request_digest = request_digest_read.value;
+    let at = at + n;
+    let cluster_instance_read = read_array32(&bytes[at..]);
+    let cluster_instance_to = cluster_instance_read.answer;
+    let Reading::To(n) = cluster_instance_to else {
+        return refused_claims_request(why(cluster_instance_to));
+    };
+    let cluster_instance = cluster_instance_read.value;
+    ClaimsRequestRead {
+        answer: Reading::To(at + n),
+        value: ClaimsRequest {
+            request_id,
+            request_digest,
+            cluster_instance,
+        },
+    }
+}
+
+pub fn read_claims_slot(bytes: &[u8]) -> ClaimsSlotRead
+    ensures { λ r. ⌜ (report (r .answer), r .value) ≡ outcome blankClaimsSlot (claimsSlot .dec (now (bytes .entry))) ⌝ }
+{
+    let identity_read = read_identity(bytes);
+    let IdentityRead::Read(identity, at) = identity_read else {
+        return refused_claims_slot(why_identity(identity_read));
+    };
+    let old_descriptor_digest_read = read_array32(&bytes[at..]);
+    let old_descriptor_digest_to = old_descriptor_digest_read.answer;
+    let Reading::To(n) = old_descriptor_digest_to else {
+        return refused_claims_slot(why(old_descriptor_digest_to));
+    };
+    let old_descriptor_digest = old_descriptor_digest_read.value;
+    let at = at + n;
+    let candidate_key_digest_read = read_array32(&bytes[at..]);
+    let candidate_key_digest_to = candidate_key_digest_read.answer;
+    let Reading::To(n) = candidate_key_digest_to else {
+        return refused_claims_slot(why(candidate_key_digest_to));
+    };
+    let candidate_key_digest = candidate_key_digest_read.value;
+    let at = at + n;
+    let admission_generation_read = read_u64(&bytes[at..]);
+    let U64Read::Read(admission_generation, n) = admission_generation_read else {
+        return refused_claims_slot(why_u64(admission_generation_read));
+    };
+    ClaimsSlotRead {
+        answer: Reading::To(at + n),
+        value: ClaimsSlot {
+            identity,
+            old_descriptor_digest,
+            candidate_key_digest,
+            admission_generation,
+        },
+    }
+}
+
+pub fn read_claims_names(bytes: &[u8]) -> ClaimsNamesRead
+    ensures { λ r. ⌜ (report (r .answer), r .value) ≡ outcome blankClaimsNames (claimsNames .dec (now (bytes .entry))) ⌝ }
+{
+    let candidate_spiffe_id_read = read_spiffe_id(bytes);
+    let candidate_spiffe_id_to = candidate_spiffe_id_read.answer;
+    let Reading::To(at) = candidate_spiffe_id_to else {
+        return refused_claims_names(why(candidate_spiffe_id_to));
+    };
+    let candidate_spiffe_id = candidate_spiffe_id_read.value;
+    let controller_spiffe_id_read = read_spiffe_id(&bytes[at..]);
+    let controller_spiffe_id_to = controller_spiffe_id_read.answer;
+    let Reading::To(n) = controller_spiffe_id_to else {
+        return refused_claims_names(why(controller_spiffe_id_to));
+    };
+    let controller_spiffe_id = controller_spiffe_id_read.value;
+    let at = at + n;
+    let signing_key_digest_read = read_array32(&bytes[at..]);
+    let signing_key_digest_to = signing_key_digest_read.answer;
+    let Reading::To(n) = signing_key_digest_to else {
+        return refused_claims_names(why(signing_key_digest_to));
+    };
+    let signing_key_digest = signing_key_digest_read.value;
+    ClaimsNamesRead {
+        answer: Reading::To(at + n),
+        value: ClaimsNames {
+            candidate_spiffe_id,
+            controller_spiffe_id,
+            signing_key_digest,
+        },
+    }
+}
+
+pub fn read_claims_end(bytes: &[u8]) -> ClaimsEndRead
+    ensures { λ r. ⌜ (report (r .answer), r .value) ≡ outcome blankClaimsEnd (claimsEnd .dec (now (bytes .entry))) ⌝ }
+{
+    let reason_read = read_choice(bytes, STORAGE_LOST, TIME_BOUND_LOSS);
+    let U8Read::Read(reason, at) = reason_read else {
+        return refused_claims_end(why_u8(reason_read));
+    };
+    let policy_digest_read = read_array32(&bytes[at..]);
+    let policy_digest_to = policy_digest_read.answer;
+    let Reading::To(n) = policy_digest_to else {
+        return refused_claims_end(why(policy_digest_to));
+    };
+    let policy_digest = policy_digest_read.value;
+    let at = at + n;
+    let times_read = read_times(&bytes[at..]);
+    let TimesRead::Read(times, n) = times_read else {
+        return refused_claims_end(why_times(times_read));
+    };
+    let at = at + n;
+    let signature_read = read_array64(&bytes[at..]);
+    let signature_to = signature_read.answer;
+    let Reading::To(n) = signature_to else {
+        return refused_claims_end(why(signature_to));
+    };
+    let signature = signature_read.value;
+    ClaimsEndRead {
+        answer: Reading::To(at + n),
+        value: ClaimsEnd {
+            reason,
+            policy_digest,
+            times,
+            signature,
+        },
+    }
+}
+
+// The fields of an attestation; whatever may stand behind them.
+pub fn read_attestation(bytes: &[u8]) -> AttestationRead
+    ensures { λ r. ⌜ (report (r .answer), r .value) ≡ outcome blankLostVoterAttestationV1 (claims .dec (now (bytes .entry))) ⌝ }
+{
+    let request_read = read_claims_request(bytes);
+    let request_to = request_read.answer;
+    let Reading::To(at) = request_to else {
+        return refused_attestation(why(request_to));
+    };
+    let request = request_read.value;
+    let slot_read = read_claims_slot(&bytes[at..]);
+    let slot_to = slot_read.answer;
+    let Reading::To(n) = slot_to else {
+        return refused_attestation(why(slot_to));
+    };
+    let slot = slot_read.value;
+    let at = at + n;
+    let names_read = read_claims_names(&bytes[at..]);
+    let names_to = names_read.answer;
+    let Reading::To(n) = names_to else {
+        return refused_attestation(why(names_to));
+    };
+    let names = names_read.value;
+    let at = at + n;
+    let end_read = read_claims_end(&bytes[at..]);
+    let end_to = end_read.answer;
+    let Reading::To(n) = end_to else {
+        return refused_attestation(why(end_to));
+    };
+    let end = end_read.value;
+    AttestationRead {
+        answer: Reading::To(at + n),
+        value: attestation_of(request, slot, names, end),
+    }
+}
+
+// All of the bytes are one attestation, of the rule of validation.rs.
+pub fn read_whole_attestation(bytes: &[u8]) -> AttestationRead
+    ensures { λ r. ⌜ (report (r .answer), r .value) ≡ outcome blankLostVoterAttestationV1 (whole attestation (now (bytes .entry))) ⌝ }
+{
+    let read = read_attestation(bytes);
+    let to = read.answer;
+    let Reading::To(n) = to else {
+        return read;
+    };
+    let value = read.value;
+    if !((n == bytes.len()) & is_valid_attestation(value)) {
+        return refused_attestation(Answer::InvalidRecord);
+    }
+    read
+}
+
+// `sized_bytes(MAX_LOST_VOTER_ATTESTATION_BYTES)`, and the attestation in them.
+fn read_boxed_attestation(bytes: &[u8]) -> AttestationRead
+    ensures { λ r. ⌜ (report (r .answer), r .value) ≡ outcome blankLostVoterAttestationV1 (boxed attestation 8192 .dec (now (bytes .entry))) ⌝ }
+{
+    let size = read_sized(bytes, 8192);
+    let SizedRead::Read(len) = size else {
+        return refused_attestation(why_sized(size));
+    };
+    let read = read_whole_attestation(&bytes[2..2 + len]);
+    let to = read.answer;
+    let Reading::To(_) = to else {
+        return read;
+    };
+    let value = read.value;
+    AttestationRead {
+        answer: Reading::To(2 + len),
+        value,
+    }
+}
+
+// The evidence of a snapshot.
+pub fn read_snapshot(bytes: &[u8]) -> SnapshotRead
+    ensures { λ r. ⌜ (report (r .answer), r .value) ≡ outcome blankVoterSnapshotEvidence (snapshot .dec (now (bytes .entry))) ⌝ }
+{
+    let cut_read = read_log_id(bytes);
+    let LogIdRead::Read(cut, at) = cut_read else {
+        return refused_snapshot(why_log_id(cut_read));
+    };
+    let snapshot_id_read = read_snapshot_id(&bytes[at..]);
+    let snapshot_id_to = snapshot_id_read.answer;
+    let Reading::To(n) = snapshot_id_to else {
+        return refused_snapshot(why(snapshot_id_to));
+    };
+    let snapshot_id = snapshot_id_read.value;
+    let at = at + n;
+    let digest_read = read_array32(&bytes[at..]);
+    let digest_to = digest_read.answer;
+    let Reading::To(n) = digest_to else {
+        return refused_snapshot(why(digest_to));
+    };
+    let digest = digest_read.value;
+    SnapshotRead {
+        answer: Reading::To(at + n),
+        value: VoterSnapshotEvidence {
+            cut,
+            snapshot_id,
+            digest,
+        },
+    }
+}
+
+// A snapshot, or none.
+fn read_optional_snapshot(bytes: &[u8]) -> OptionalSnapshotRead
+    ensures { λ r. ⌜ (report (r .answer), (r .«is_some», r .value)) ≡ outcome absentSnapshot (opt snapshot blankVoterSnapshotEvidence .dec (now (bytes .entry))) ⌝ }
+{
+    let flag = read_flag(bytes);
+    let BoolRead::Read(is_some, at) = flag else {
+        return refused_optional_snapshot(why_bool(flag));
+    };
+    if !is_some {
+        return OptionalSnapshotRead {
+            answer: Reading::To(at),
+            is_some,
+            value: blank_voter_snapshot_evidence(),
+        };
+    }
+    let read = read_snapshot(&bytes[at..]);
+    let to = read.answer;
+    let Reading::To(n) = to else {
+        return refused_optional_snapshot(why(to));
+    };
+    let value = read.value;
+    OptionalSnapshotRead {
+        answer: Reading::To(at + n),
+        is_some,
+        value,
+    }
+}
+
+// The evidence of a replacement.
+pub fn read_evidence(bytes: &[u8]) -> EvidenceRead
+    ensures { λ r. ⌜ (report (r .answer), r .value) ≡ outcome blankVoterReplacementEvidence (evidence .dec (now (bytes .entry))) ⌝ }
+{
+    let prepare_read = read_log_id(bytes);
+    let LogIdRead::Read(prepare, at) = prepare_read else {
+        return refused_evidence(why_log_id(prepare_read));
+    };
+    let snapshot_read = read_optional_snapshot(&bytes[at..]);
+    let snapshot_to = snapshot_read.answer;
+    let Reading::To(n) = snapshot_to else {
+        return refused_evidence(why(snapshot_to));
+    };
+    let snapshot = snapshot_read.value;
+    let at = at + n;
+    let early_read = read_three_cuts(&bytes[at..]);
+    let ThreeCutsRead::Read(early, n) = early_read else {
+        return refused_evidence(why_three_cuts(early_read));
+    };
+    let at = at + n;
+    let late_read = read_three_cuts(&bytes[at..]);
+    let ThreeCutsRead::Read(late, n) = late_read else {
+        return refused_evidence(why_three_cuts(late_read));
+    };
+    EvidenceRead {
+        answer: Reading::To(at + n),
+        value: evidence_of(prepare, snapshot_read.is_some, snapshot, early, late),
+    }
+}
+
+// What an open request changes, and how far it is.
+pub fn read_change(bytes: &[u8]) -> ChangeRead
+    ensures { λ r. ⌜ (report (r .answer), r .value) ≡ outcome blankChange (change .dec (now (bytes .entry))) ⌝ }
+{
+    let predecessor_read = read_configuration(bytes);
+    let predecessor_to = predecessor_read.answer;
+    let Reading::To(at) = predecessor_to else {
+        return refused_change(why(predecessor_to));
+    };
+    let predecessor = predecessor_read.value;
+    let successor_read = read_configuration(&bytes[at..]);
+    let successor_to = successor_read.answer;
+    let Reading::To(n) = successor_to else {
+        return refused_change(why(successor_to));
+    };
+    let successor = successor_read.value;
+    let at = at + n;
+    let phase_read = read_choice(&bytes[at..], PREPARED, UNIFORM);
+    let U8Read::Read(phase, n) = phase_read else {
+        return refused_change(why_u8(phase_read));
+    };
+    ChangeRead {
+        answer: Reading::To(at + n),
+        value: Change {
+            predecessor,
+            successor,
+            phase,
+        },
+    }
+}
+
+// An open request.
+pub fn read_replacement(bytes: &[u8]) -> ReplacementRead
+    ensures { λ r. ⌜ (report (r .answer), r .value) ≡ outcome blankVoterReplacementRecord (replacement .dec (now (bytes .entry))) ⌝ }
+{
+    let expected_revision_read = read_u64(bytes);
+    let U64Read::Read(expected_revision, at) = expected_revision_read else {
+        return refused_replacement(why_u64(expected_revision_read));
+    };
+    let attestation_read = read_boxed_attestation(&bytes[at..]);
+    let attestation_to = attestation_read.answer;
+    let Reading::To(n) = attestation_to else {
+        return refused_replacement(why(attestation_to));
+    };
+    let attestation = attestation_read.value;
+    let at = at + n;
+    let change_read = read_change(&bytes[at..]);
+    let change_to = change_read.answer;
+    let Reading::To(n) = change_to else {
+        return refused_replacement(why(change_to));
+    };
+    let change = change_read.value;
+    let at = at + n;
+    let evidence_read = read_evidence(&bytes[at..]);
+    let evidence_to = evidence_read.answer;
+    let Reading::To(n) = evidence_to else {
+        return refused_replacement(why(evidence_to));
+    };
+    let evidence = evidence_read.value;
+    ReplacementRead {
+        answer: Reading::To(at + n),
+        value: replacement_of(expected_revision, attestation, change, evidence),
+    }
+}
+
+// An open request, or none.
+fn read_optional_replacement(bytes: &[u8]) -> OptionalReplacementRead
+    ensures { λ r. ⌜ (report (r .answer), (r .«is_some», r .value)) ≡ outcome absentReplacement (opt replacement blankVoterReplacementRecord .dec (now (bytes .entry))) ⌝ }
+{
+    let flag = read_flag(bytes);
+    let BoolRead::Read(is_some, at) = flag else {
+        return refused_optional_replacement(why_bool(flag));
+    };
+    if !is_some {
+        return OptionalReplacementRead {
+            answer: Reading::To(at),
+            is_some,
+            value: blank_voter_replacement_record(),
+        };
+    }
+    let read = read_replacement(&bytes[at..]);
+    let to = read.answer;
+    let Reading::To(n) = to else {
+        return refused_optional_replacement(why(to));
+    };
+    let value = read.value;
+    OptionalReplacementRead {
+        answer: Reading::To(at + n),
+        is_some,
+        value,
+    }
+}
+
+// The front of a table.
+pub fn read_table_head(bytes: &[u8]) -> TableHeadRead
+    ensures { λ r. ⌜ (report (r .answer), r .value) ≡ outcome blankTableHead (tableHead .dec (now (bytes .entry))) ⌝ }
+{
+    let cluster_instance_read = read_array32(bytes);
+    let cluster_instance_to = cluster_instance_read.answer;
+    let Reading::To(at) = cluster_instance_to else {
+        return refused_table_head(why(cluster_instance_to));
+    };
+    let cluster_instance = cluster_instance_read.value;
+    let manifest_digest_read = read_array32(&bytes[at..]);
+    let manifest_digest_to = manifest_digest_read.answer;
+    let Reading::To(n) = manifest_digest_to else {
+        return refused_table_head(why(manifest_digest_to));
+    };
+    let manifest_digest = manifest_digest_read.value;
+    let at = at + n;
+    let revision_read = read_u64(&bytes[at..]);
+    let U64Read::Read(revision, n) = revision_read else {
+        return refused_table_head(why_u64(revision_read));
+    };
+    let at = at + n;
+    let configuration_epoch_read = read_epoch(&bytes[at..]);
+    let U64Read::Read(configuration_epoch, n) = configuration_epoch_read else {
+        return refused_table_head(why_u64(configuration_epoch_read));
+    };
+    TableHeadRead {
+        answer: Reading::To(at + n),
+        value: TableHead {
+            cluster_instance,
+            manifest_digest,
+            revision,
+            configuration_epoch,
+        },
+    }
+}
+
+// The fields of a table; whatever may stand behind them.
+pub fn read_table(bytes: &[u8]) -> TableRead
+    ensures { λ r. ⌜ (report (r .answer), r .value) ≡ outcome blankVoterSlotTable (table .dec (now (bytes .entry))) ⌝ }
+{
+    let magic = read_head(bytes);
+    let Reading::To(at) = magic else {
+        return refused_table(why(magic));
+    };
+    let head_read = read_table_head(&bytes[at..]);
+    let head_to = head_read.answer;
+    let Reading::To(n) = head_to else {
+        return refused_table(why(head_to));
+    };
+    let head = head_read.value;
+    let at = at + n;
+    let count_read = read_count(&bytes[at..]);
+    let U8Read::Read(count, n) = count_read else {
+        return refused_table(why_u8(count_read));
+    };
+    let at = at + n;
+    let slots_read = read_slots(&bytes[at..], count as usize);
+    let slots_to = slots_read.answer;
+    let Reading::To(n) = slots_to else {
+        return refused_table(why(slots_to));
+    };
+    let slots = slots_read.value;
+    let at = at + n;
+    let replacement_read = read_optional_replacement(&bytes[at..]);
+    let replacement_to = replacement_read.answer;
+    let Reading::To(n) = replacement_to else {
+        return refused_table(why(replacement_to));
+    };
+    let replacement = replacement_read.value;
+    let is_some = replacement_read.is_some;
+    TableRead {
+        answer: Reading::To(at + n),
+        value: table_of(head, count as usize, slots, is_some, replacement),
+    }
+}

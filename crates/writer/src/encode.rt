@@ -1,0 +1,488 @@
+// The writers of the records, in the order of codec.rs, and their sizes.
+//
+// Ported from crates/opc-consensus/src/voter_slots/codec.rs of openpacketcore-sdk, commit
+// 717de332e7, Apache-2.0 (see NOTICE). Changed: a buffer is lent and has room; each writer is given
+// the place to write at and gives the place behind. The size of what varies is reckoned first.
+ghost use mathlib.Core.Path.{_≡_};
+ghost use Prim.Native.Nat.{_+_, _≤_};
+ghost use lib.ListN.{length};
+ghost use Rattle.format.specs.List.{flag, opt};
+ghost use Rattle.format.specs.Put.{Put};
+ghost use Rattle.format.specs.Through.{boxed};
+ghost use Rattle.records.specs.Blank.{blankVoterReplacementResult, blankVoterSnapshotEvidence, blankVoterReplacementRecord};
+ghost use Rattle.layout.specs.Parts.{ReplacementFits, TableFits, bindingOf, resultHeadOf, slotMemberOf, timesOf, claimsRequestOf, claimsSlotOf, claimsNamesOf, claimsEndOf, changeOf, tableHeadOf};
+ghost use Rattle.layout.specs.Format.{identity, logId, optionalLogId, threeCuts, binding, member, members, configuration, resultHead, result, slotMember, slot, slots, spiffeId, snapshotId, claimsRequest, claimsSlot, claimsNames, times, claimsEnd, claims, attestation, snapshot, evidence, change, replacement, head, tableHead, table};
+use identity::identity::VoterSlotIdentity;
+use layout::parts::ThreeCuts;
+use layout::parts::early_cuts;
+use layout::parts::late_cuts;
+use layout::put::put_be;
+use layout::put::put_bytes;
+use records::records::LostVoterAttestationV1;
+use records::records::OptionalLogId;
+use records::records::SnapshotId;
+use records::records::SpiffeId;
+use records::records::VoterConfiguration;
+use records::records::VoterReplacementEvidence;
+use records::records::VoterReplacementRecord;
+use records::records::VoterReplacementResult;
+use records::records::VoterSlotLogId;
+use records::records::VoterSlotMember;
+use records::records::VoterSlotRecord;
+use records::records::VoterSlotTable;
+use records::records::VoterSnapshotEvidence;
+
+// `identity`
+fn put_identity(buffer: &mut [u8], at: usize, id: VoterSlotIdentity) -> usize
+    requires { ⌜ at + length (identity .enc id) ≤ length (now buffer) ⌝ }
+    ensures { λ r. ⌜ Put (identity .enc id) at (now (buffer .entry)) (now (buffer .exit)) r ⌝ }
+{
+    let at = put_be(buffer, at, 2, id.slot as u64);
+    put_be(buffer, at, 8, id.incarnation)
+}
+
+// `log_id`
+fn put_log_id(buffer: &mut [u8], at: usize, id: VoterSlotLogId) -> usize
+    requires { ⌜ at + length (logId .enc id) ≤ length (now buffer) ⌝ }
+    ensures { λ r. ⌜ Put (logId .enc id) at (now (buffer .entry)) (now (buffer .exit)) r ⌝ }
+{
+    let at = put_be(buffer, at, 8, id.term);
+    put_be(buffer, at, 8, id.index)
+}
+
+fn put_flag(buffer: &mut [u8], at: usize, yes: bool) -> usize
+    requires { ⌜ at + length (flag .enc yes) ≤ length (now buffer) ⌝ }
+    ensures { λ r. ⌜ Put (flag .enc yes) at (now (buffer .entry)) (now (buffer .exit)) r ⌝ }
+{
+    if yes {
+        return put_be(buffer, at, 1, 1);
+    }
+    put_be(buffer, at, 1, 0)
+}
+
+fn put_optional_log_id(buffer: &mut [u8], at: usize, optional: OptionalLogId) -> usize
+    requires { ⌜ at + length (optionalLogId .enc optional) ≤ length (now buffer) ⌝ }
+    ensures { λ r. ⌜ Put (optionalLogId .enc optional) at (now (buffer .entry)) (now (buffer .exit)) r ⌝ }
+{
+    let at = put_flag(buffer, at, optional.is_some);
+    if optional.is_some {
+        let cut = optional.cut;
+        return put_log_id(buffer, at, cut);
+    }
+    at
+}
+
+// `binding`
+fn put_binding(buffer: &mut [u8], at: usize, m: VoterSlotMember) -> usize
+    requires { ⌜ at + length (binding .enc (bindingOf m)) ≤ length (now buffer) ⌝ }
+    ensures { λ r. ⌜ Put (binding .enc (bindingOf m)) at (now (buffer .entry)) (now (buffer .exit)) r ⌝ }
+{
+    let at = put_bytes(buffer, at, &m.key_digest);
+    let at = put_bytes(buffer, at, &m.descriptor_digest);
+    put_be(buffer, at, 8, m.admission_generation)
+}
+
+fn put_member(buffer: &mut [u8], at: usize, m: VoterSlotMember) -> usize
+    requires { ⌜ at + length (member .enc m) ≤ length (now buffer) ⌝ }
+    ensures { λ r. ⌜ Put (member .enc m) at (now (buffer .entry)) (now (buffer .exit)) r ⌝ }
+{
+    let id = m.identity;
+    let at = put_identity(buffer, at, id);
+    put_binding(buffer, at, m)
+}
+
+fn put_members(buffer: &mut [u8], at: usize, places: [VoterSlotMember; 9], count: usize) -> usize
+    requires { ⌜ (at + length (members count .enc places) ≤ length (now buffer)) × (count ≤ 9) ⌝ }
+    ensures { λ r. ⌜ Put (members count .enc places) at (now (buffer .entry)) (now (buffer .exit)) r ⌝ }
+{
+    let mut to = at;
+    let mut i = 0;
+    while i < count {
+        let place = places[i];
+        to = put_member(buffer, to, place);
+        i += 1;
+    }
+    to
+}
+
+// `configuration`
+fn put_configuration(buffer: &mut [u8], at: usize, c: VoterConfiguration) -> usize
+    requires { ⌜ (at + length (configuration .enc c) ≤ length (now buffer)) × (c .count ≤ 9) ⌝ }
+    ensures { λ r. ⌜ Put (configuration .enc c) at (now (buffer .entry)) (now (buffer .exit)) r ⌝ }
+{
+    let at = put_be(buffer, at, 8, c.epoch);
+    let at = put_be(buffer, at, 1, c.count as u64);
+    let places = c.members;
+    put_members(buffer, at, places, c.count)
+}
+
+fn put_result_head(buffer: &mut [u8], at: usize, x: VoterReplacementResult) -> usize
+    requires { ⌜ at + length (resultHead .enc (resultHeadOf x)) ≤ length (now buffer) ⌝ }
+    ensures { λ r. ⌜ Put (resultHead .enc (resultHeadOf x)) at (now (buffer .entry)) (now (buffer .exit)) r ⌝ }
+{
+    let at = put_bytes(buffer, at, &x.request_id);
+    let at = put_bytes(buffer, at, &x.request_digest);
+    let at = put_be(buffer, at, 8, x.incarnation);
+    put_be(buffer, at, 8, x.revision)
+}
+
+fn put_result(buffer: &mut [u8], at: usize, x: VoterReplacementResult) -> usize
+    requires { ⌜ at + length (result .enc x) ≤ length (now buffer) ⌝ }
+    ensures { λ r. ⌜ Put (result .enc x) at (now (buffer .entry)) (now (buffer .exit)) r ⌝ }
+{
+    let at = put_result_head(buffer, at, x);
+    let at = put_be(buffer, at, 8, x.configuration_epoch);
+    let at = put_be(buffer, at, 1, x.kind as u64);
+    let terminal = x.terminal;
+    put_log_id(buffer, at, terminal)
+}
+
+fn put_optional_result(
+    buffer: &mut [u8],
+    at: usize,
+    is_some: bool,
+    x: VoterReplacementResult,
+) -> usize
+    requires { ⌜ at + length (opt result blankVoterReplacementResult .enc («is_some», x)) ≤ length (now buffer) ⌝ }
+    ensures { λ r. ⌜ Put (opt result blankVoterReplacementResult .enc («is_some», x)) at (now (buffer .entry)) (now (buffer .exit)) r ⌝ }
+{
+    let at = put_flag(buffer, at, is_some);
+    if is_some {
+        return put_result(buffer, at, x);
+    }
+    at
+}
+
+fn put_slot_member(buffer: &mut [u8], at: usize, s: VoterSlotRecord) -> usize
+    requires { ⌜ at + length (slotMember .enc (slotMemberOf s)) ≤ length (now buffer) ⌝ }
+    ensures { λ r. ⌜ Put (slotMember .enc (slotMemberOf s)) at (now (buffer .entry)) (now (buffer .exit)) r ⌝ }
+{
+    let m = s.member;
+    let id = m.identity;
+    let at = put_identity(buffer, at, id);
+    let at = put_be(buffer, at, 8, s.retired_through);
+    put_binding(buffer, at, m)
+}
+
+fn put_slot(buffer: &mut [u8], at: usize, s: VoterSlotRecord) -> usize
+    requires { ⌜ at + length (slot .enc s) ≤ length (now buffer) ⌝ }
+    ensures { λ r. ⌜ Put (slot .enc s) at (now (buffer .entry)) (now (buffer .exit)) r ⌝ }
+{
+    let at = put_slot_member(buffer, at, s);
+    let at = put_be(buffer, at, 1, s.phase as u64);
+    let last_result = s.last_result;
+    put_optional_result(buffer, at, s.has_last_result, last_result)
+}
+
+fn put_slots(buffer: &mut [u8], at: usize, places: [VoterSlotRecord; 9], count: usize) -> usize
+    requires { ⌜ (at + length (slots count .enc places) ≤ length (now buffer)) × (count ≤ 9) ⌝ }
+    ensures { λ r. ⌜ Put (slots count .enc places) at (now (buffer .entry)) (now (buffer .exit)) r ⌝ }
+{
+    let mut to = at;
+    let mut i = 0;
+    while i < count {
+        let place = places[i];
+        to = put_slot(buffer, to, place);
+        i += 1;
+    }
+    to
+}
+
+// `sized_bytes`, of a name
+fn put_spiffe_id(buffer: &mut [u8], at: usize, id: SpiffeId) -> usize
+    requires { ⌜ (at + length (spiffeId .enc id) ≤ length (now buffer)) × (id .len ≤ 2048) ⌝ }
+    ensures { λ r. ⌜ Put (spiffeId .enc id) at (now (buffer .entry)) (now (buffer .exit)) r ⌝ }
+{
+    let len = id.len;
+    let at = put_be(buffer, at, 2, len as u64);
+    let bytes = &id.bytes[..];
+    put_bytes(buffer, at, &bytes[..len])
+}
+
+// `sized_bytes`, of a snapshot id
+fn put_snapshot_id(buffer: &mut [u8], at: usize, id: SnapshotId) -> usize
+    requires { ⌜ (at + length (snapshotId .enc id) ≤ length (now buffer)) × (id .len ≤ 256) ⌝ }
+    ensures { λ r. ⌜ Put (snapshotId .enc id) at (now (buffer .entry)) (now (buffer .exit)) r ⌝ }
+{
+    let len = id.len;
+    let at = put_be(buffer, at, 2, len as u64);
+    let bytes = &id.bytes[..];
+    put_bytes(buffer, at, &bytes[..len])
+}
+
+// `unsigned_claims`, and the signature: in four groups.
+fn put_claims_request(buffer: &mut [u8], at: usize, a: LostVoterAttestationV1) -> usize
+    requires { ⌜ at + length (claimsRequest .enc (claimsRequestOf a)) ≤ length (now buffer) ⌝ }
+    ensures { λ r. ⌜ Put (claimsRequest .enc (claimsRequestOf a)) at (now (buffer .entry)) (now (buffer .exit)) r ⌝ }
+{
+    let at = put_be(buffer, at, 2, 1);
+    let at = put_bytes(buffer, at, &a.request_id);
+    let at = put_bytes(buffer, at, &a.request_digest);
+    put_bytes(buffer, at, &a.cluster_instance)
+}
+
+fn put_claims_slot(buffer: &mut [u8], at: usize, a: LostVoterAttestationV1) -> usize
+    requires { ⌜ at + length (claimsSlot .enc (claimsSlotOf a)) ≤ length (now buffer) ⌝ }
+    ensures { λ r. ⌜ Put (claimsSlot .enc (claimsSlotOf a)) at (now (buffer .entry)) (now (buffer .exit)) r ⌝ }
+{
+    let id = VoterSlotIdentity {
+        slot: a.slot,
+        incarnation: a.expected_incarnation,
+    };
+    let at = put_identity(buffer, at, id);
+    let at = put_bytes(buffer, at, &a.old_descriptor_digest);
+    let at = put_bytes(buffer, at, &a.candidate_key_digest);
+    put_be(buffer, at, 8, a.admission_generation)
+}
+
+fn put_claims_names(buffer: &mut [u8], at: usize, a: LostVoterAttestationV1) -> usize
+    requires { ⌜ (at + length (claimsNames .enc (claimsNamesOf a)) ≤ length (now buffer)) × ((a .«candidate_spiffe_id» .len ≤ 2048) × (a .«controller_spiffe_id» .len ≤ 2048)) ⌝ }
+    ensures { λ r. ⌜ Put (claimsNames .enc (claimsNamesOf a)) at (now (buffer .entry)) (now (buffer .exit)) r ⌝ }
+{
+    let candidate = a.candidate_spiffe_id;
+    let at = put_spiffe_id(buffer, at, candidate);
+    let controller = a.controller_spiffe_id;
+    let at = put_spiffe_id(buffer, at, controller);
+    put_bytes(buffer, at, &a.signing_key_digest)
+}
+
+fn put_times(buffer: &mut [u8], at: usize, a: LostVoterAttestationV1) -> usize
+    requires { ⌜ at + length (times .enc (timesOf a)) ≤ length (now buffer) ⌝ }
+    ensures { λ r. ⌜ Put (times .enc (timesOf a)) at (now (buffer .entry)) (now (buffer .exit)) r ⌝ }
+{
+    let at = put_be(buffer, at, 8, a.observation_start_ms);
+    let at = put_be(buffer, at, 8, a.decision_ms);
+    let at = put_be(buffer, at, 8, a.issued_ms);
+    put_be(buffer, at, 8, a.expires_ms)
+}
+
+fn put_claims_end(buffer: &mut [u8], at: usize, a: LostVoterAttestationV1) -> usize
+    requires { ⌜ at + length (claimsEnd .enc (claimsEndOf a)) ≤ length (now buffer) ⌝ }
+    ensures { λ r. ⌜ Put (claimsEnd .enc (claimsEndOf a)) at (now (buffer .entry)) (now (buffer .exit)) r ⌝ }
+{
+    let at = put_be(buffer, at, 1, a.reason as u64);
+    let at = put_bytes(buffer, at, &a.policy_digest);
+    let at = put_times(buffer, at, a);
+    put_bytes(buffer, at, &a.signature)
+}
+
+// `encode_lost_voter_attestation`, of one that is valid.
+fn put_attestation(buffer: &mut [u8], at: usize, a: LostVoterAttestationV1) -> usize
+    requires { ⌜ (at + length (claims .enc a) ≤ length (now buffer)) × ((a .«candidate_spiffe_id» .len ≤ 2048) × (a .«controller_spiffe_id» .len ≤ 2048)) ⌝ }
+    ensures { λ r. ⌜ Put (claims .enc a) at (now (buffer .entry)) (now (buffer .exit)) r ⌝ }
+{
+    let at = put_claims_request(buffer, at, a);
+    let at = put_claims_slot(buffer, at, a);
+    let at = put_claims_names(buffer, at, a);
+    put_claims_end(buffer, at, a)
+}
+
+// How many bytes an attestation takes.
+fn attestation_size(a: LostVoterAttestationV1) -> usize
+    requires { ⌜ (a .«candidate_spiffe_id» .len ≤ 2048) × (a .«controller_spiffe_id» .len ≤ 2048) ⌝ }
+    ensures { λ r. ⌜ r ≡ length (claims .enc a) ⌝ }
+{
+    329 + a.candidate_spiffe_id.len + a.controller_spiffe_id.len
+}
+
+// `sized_bytes`, of an attestation
+fn put_boxed_attestation(buffer: &mut [u8], at: usize, a: LostVoterAttestationV1) -> usize
+    requires { ⌜ (at + length (boxed attestation 8192 .enc a) ≤ length (now buffer)) × ((a .«candidate_spiffe_id» .len ≤ 2048) × (a .«controller_spiffe_id» .len ≤ 2048)) ⌝ }
+    ensures { λ r. ⌜ Put (boxed attestation 8192 .enc a) at (now (buffer .entry)) (now (buffer .exit)) r ⌝ }
+{
+    let at = put_be(buffer, at, 2, attestation_size(a) as u64);
+    put_attestation(buffer, at, a)
+}
+
+fn put_snapshot(buffer: &mut [u8], at: usize, s: VoterSnapshotEvidence) -> usize
+    requires { ⌜ (at + length (snapshot .enc s) ≤ length (now buffer)) × (s .«snapshot_id» .len ≤ 256) ⌝ }
+    ensures { λ r. ⌜ Put (snapshot .enc s) at (now (buffer .entry)) (now (buffer .exit)) r ⌝ }
+{
+    let cut = s.cut;
+    let at = put_log_id(buffer, at, cut);
+    let id = s.snapshot_id;
+    let at = put_snapshot_id(buffer, at, id);
+    put_bytes(buffer, at, &s.digest)
+}
+
+fn put_optional_snapshot(
+    buffer: &mut [u8],
+    at: usize,
+    is_some: bool,
+    s: VoterSnapshotEvidence,
+) -> usize
+    requires { ⌜ (at + length (opt snapshot blankVoterSnapshotEvidence .enc («is_some», s)) ≤ length (now buffer)) × (s .«snapshot_id» .len ≤ 256) ⌝ }
+    ensures { λ r. ⌜ Put (opt snapshot blankVoterSnapshotEvidence .enc («is_some», s)) at (now (buffer .entry)) (now (buffer .exit)) r ⌝ }
+{
+    let at = put_flag(buffer, at, is_some);
+    if is_some {
+        return put_snapshot(buffer, at, s);
+    }
+    at
+}
+
+fn put_three_cuts(buffer: &mut [u8], at: usize, cuts: ThreeCuts) -> usize
+    requires { ⌜ at + length (threeCuts .enc cuts) ≤ length (now buffer) ⌝ }
+    ensures { λ r. ⌜ Put (threeCuts .enc cuts) at (now (buffer .entry)) (now (buffer .exit)) r ⌝ }
+{
+    let first = cuts.first;
+    let at = put_optional_log_id(buffer, at, first);
+    let second = cuts.second;
+    let at = put_optional_log_id(buffer, at, second);
+    let third = cuts.third;
+    put_optional_log_id(buffer, at, third)
+}
+
+fn put_evidence(buffer: &mut [u8], at: usize, e: VoterReplacementEvidence) -> usize
+    requires { ⌜ (at + length (evidence .enc e) ≤ length (now buffer)) × (e .snapshot .«snapshot_id» .len ≤ 256) ⌝ }
+    ensures { λ r. ⌜ Put (evidence .enc e) at (now (buffer .entry)) (now (buffer .exit)) r ⌝ }
+{
+    let prepare = e.prepare;
+    let at = put_log_id(buffer, at, prepare);
+    let s = e.snapshot;
+    let at = put_optional_snapshot(buffer, at, e.has_snapshot, s);
+    let early = early_cuts(e);
+    let at = put_three_cuts(buffer, at, early);
+    let late = late_cuts(e);
+    put_three_cuts(buffer, at, late)
+}
+
+fn put_change(buffer: &mut [u8], at: usize, x: VoterReplacementRecord) -> usize
+    requires { ⌜ (at + length (change .enc (changeOf x)) ≤ length (now buffer)) × ((x .predecessor .count ≤ 9) × (x .successor .count ≤ 9)) ⌝ }
+    ensures { λ r. ⌜ Put (change .enc (changeOf x)) at (now (buffer .entry)) (now (buffer .exit)) r ⌝ }
+{
+    let predecessor = x.predecessor;
+    let at = put_configuration(buffer, at, predecessor);
+    let successor = x.successor;
+    let at = put_configuration(buffer, at, successor);
+    put_be(buffer, at, 1, x.phase as u64)
+}
+
+fn put_replacement(buffer: &mut [u8], at: usize, x: VoterReplacementRecord) -> usize
+    requires { ⌜ (at + length (replacement .enc x) ≤ length (now buffer)) × ReplacementFits x ⌝ }
+    ensures { λ r. ⌜ Put (replacement .enc x) at (now (buffer .entry)) (now (buffer .exit)) r ⌝ }
+{
+    let at = put_be(buffer, at, 8, x.expected_revision);
+    let a = x.attestation;
+    let at = put_boxed_attestation(buffer, at, a);
+    let at = put_change(buffer, at, x);
+    let e = x.evidence;
+    put_evidence(buffer, at, e)
+}
+
+fn put_optional_replacement(
+    buffer: &mut [u8],
+    at: usize,
+    is_some: bool,
+    x: VoterReplacementRecord,
+) -> usize
+    requires { ⌜ (at + length (opt replacement blankVoterReplacementRecord .enc («is_some», x)) ≤ length (now buffer)) × ReplacementFits x ⌝ }
+    ensures { λ r. ⌜ Put (opt replacement blankVoterReplacementRecord .enc («is_some», x)) at (now (buffer .entry)) (now (buffer .exit)) r ⌝ }
+{
+    let at = put_flag(buffer, at, is_some);
+    if is_some {
+        return put_replacement(buffer, at, x);
+    }
+    at
+}
+
+// The magic and the version.
+fn put_head(buffer: &mut [u8], at: usize) -> usize
+    requires { ⌜ at + length (head .enc tt) ≤ length (now buffer) ⌝ }
+    ensures { λ r. ⌜ Put (head .enc tt) at (now (buffer .entry)) (now (buffer .exit)) r ⌝ }
+{
+    let at = put_bytes(buffer, at, b"OPVI");
+    put_be(buffer, at, 2, 1)
+}
+
+fn put_table_head(buffer: &mut [u8], at: usize, t: VoterSlotTable) -> usize
+    requires { ⌜ at + length (tableHead .enc (tableHeadOf t)) ≤ length (now buffer) ⌝ }
+    ensures { λ r. ⌜ Put (tableHead .enc (tableHeadOf t)) at (now (buffer .entry)) (now (buffer .exit)) r ⌝ }
+{
+    let at = put_bytes(buffer, at, &t.cluster_instance);
+    let at = put_bytes(buffer, at, &t.manifest_digest);
+    let at = put_be(buffer, at, 8, t.revision);
+    put_be(buffer, at, 8, t.configuration_epoch)
+}
+
+// `encode_voter_slot_table`, of a table that is valid.
+pub fn put_table(buffer: &mut [u8], at: usize, t: VoterSlotTable) -> usize
+    requires { ⌜ (at + length (table .enc t) ≤ length (now buffer)) × TableFits t ⌝ }
+    ensures { λ r. ⌜ Put (table .enc t) at (now (buffer .entry)) (now (buffer .exit)) r ⌝ }
+{
+    let at = put_head(buffer, at);
+    let at = put_table_head(buffer, at, t);
+    let at = put_be(buffer, at, 1, t.count as u64);
+    let places = t.slots;
+    let at = put_slots(buffer, at, places, t.count);
+    let x = t.replacement;
+    put_optional_replacement(buffer, at, t.has_replacement, x)
+}
+
+// How many bytes each takes.
+fn slots_size(places: [VoterSlotRecord; 9], count: usize) -> usize
+    requires { ⌜ count ≤ 9 ⌝ }
+    ensures { λ r. ⌜ r ≡ length (slots count .enc places) ⌝ }
+{
+    let mut size = 0;
+    let mut i = 0;
+    while i < count {
+        size += if places[i].has_last_result { 181 } else { 92 };
+        i += 1;
+    }
+    size
+}
+
+fn three_cuts_size(cuts: ThreeCuts) -> usize
+    ensures { λ r. ⌜ r ≡ length (threeCuts .enc cuts) ⌝ }
+{
+    let first = if cuts.first.is_some { 17 } else { 1 };
+    let second = if cuts.second.is_some { 17 } else { 1 };
+    let third = if cuts.third.is_some { 17 } else { 1 };
+    first + second + third
+}
+
+fn configuration_size(c: VoterConfiguration) -> usize
+    requires { ⌜ c .count ≤ 9 ⌝ }
+    ensures { λ r. ⌜ r ≡ length (configuration .enc c) ⌝ }
+{
+    9 + 82 * c.count
+}
+
+fn evidence_size(e: VoterReplacementEvidence) -> usize
+    requires { ⌜ e .snapshot .«snapshot_id» .len ≤ 256 ⌝ }
+    ensures { λ r. ⌜ r ≡ length (evidence .enc e) ⌝ }
+{
+    let early = early_cuts(e);
+    let late = late_cuts(e);
+    let cuts = three_cuts_size(early) + three_cuts_size(late);
+    if e.has_snapshot {
+        return 67 + e.snapshot.snapshot_id.len + cuts;
+    }
+    17 + cuts
+}
+
+fn replacement_size(x: VoterReplacementRecord) -> usize
+    requires { ⌜ ReplacementFits x ⌝ }
+    ensures { λ r. ⌜ r ≡ length (replacement .enc x) ⌝ }
+{
+    let a = x.attestation;
+    let predecessor = x.predecessor;
+    let successor = x.successor;
+    let e = x.evidence;
+    let configurations = configuration_size(predecessor) + configuration_size(successor);
+    11 + attestation_size(a) + configurations + evidence_size(e)
+}
+
+pub fn table_size(t: VoterSlotTable) -> usize
+    requires { ⌜ TableFits t ⌝ }
+    ensures { λ r. ⌜ r ≡ length (table .enc t) ⌝ }
+{
+    let places = t.slots;
+    let front = 88 + slots_size(places, t.count);
+    if t.has_replacement {
+        let x = t.replacement;
+        return front + replacement_size(x);
+    }
+    front
+}

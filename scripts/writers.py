@@ -1,0 +1,464 @@
+#!/usr/bin/env python3
+"""Writes the proofs of the writers of crates/writer/src/encode.rt that are chains of puts, of an optional part, or loops over the places.
+
+Run it from the root of the repository, after a change to one of those functions or to what it writes:
+
+    python3 scripts/writers.py [FUNCTION ...]
+
+It writes crates/writer/proofs/encode/FUNCTION/Proof.antt. The leaves (put_be and put_bytes of layout) and the sizes are written by hand.
+A chain is a list of puts. Each has what it writes, and how many steps more than a put of a number of the record it takes to reach:
+a field that is copied out first, a u8 or u16 that is widened, or the answer of another call is 1, a lent array is 3.
+"""
+import os
+import re
+import subprocess
+import sys
+
+PROOFS = 'crates/writer/proofs'
+BY = 'Written by scripts/writers.py.'
+COPIED = WIDENED = ANSWER = 1
+LENT = 3
+
+
+def q(text):
+    """Names with `_` in them, as antt writes them."""
+    return re.sub(r'\b[a-z]\w*_\w*\b', lambda m: '«' + m.group(0) + '»', text)
+
+
+def back(steps):
+    return ' '.join(['c'] + ['.before'] * steps)
+
+
+class Put:
+    """One call. written: its bytes, of the record x; steps: how many more than a number of the record takes; also: its second premise, at
+    the start s; needs: what the checker asks before it, each by `search needs` or with its answer; answer: where what is written is said of
+    another call's answer, that call and what is made of its answer."""
+
+    def __init__(self, call, written, steps=0, also=None, needs=(), answer=None):
+        self.call, self.written, self.steps, self.also, self.needs, self.answer = call, q(written), steps, also, needs, answer
+
+
+def be(width, value, steps=0, needs=(), answer=None):
+    return Put('put_be', f'uint {width} .enc {value}', steps, None, needs, answer)
+
+
+def widened(width, value, steps=WIDENED):
+    return be(width, value, steps, ('cast-put-be',))
+
+
+def lent(value):
+    return Put('put_bytes', f'x .{value}', LENT)
+
+
+class Chain:
+    """record: the type of the value, which the logic calls arg; shut: what to unfold to see the puts in the format; pre: where the contract
+    has the room; same: a law that says the bytes as a chain, where unfolding does not; front: what the proof begins with."""
+
+    def __init__(self, name, record, arg, shut, puts, pre='.pre', same=None, front=''):
+        self.name, self.record, self.arg, self.shut, self.puts, self.pre, self.same, self.front = name, record, arg, shut, puts, pre, same, front
+
+
+def text(name, record, bound, codec):
+    """Text of a length: its length in two bytes, and so many bytes of the place."""
+    return Chain(name, record, 't3', f'{codec} string sized via dep check raw',
+                 [be(2, '(x .len)'), Put('put_bytes', 'take (x .len) (x .bytes)', 4, None,
+                                         (('slice-aggregate-put-bytes', 'sym (length-take-le _ _ (long START))'),))],
+                 '.pre .0', None, f"""-- the text stands within its place
+long : (c : tie.Start) → c .args .t3 .len ≤ length (c .args .t3 .bytes)
+long c =
+    let l : length (c .args .t3 .bytes) ≡ {bound} = search needs in
+    omega (arith, c .pre .1)
+
+""")
+
+
+CHAINS = [
+    text('put_spiffe_id', 'SpiffeId', 2048, 'spiffeId'),
+    text('put_snapshot_id', 'SnapshotId', 256, 'snapshotId'),
+    Chain('put_identity', 'VoterSlotIdentity', 'id', 'identity slotId incarnation via dep check',
+          [widened(2, '(x .slot)'), be(8, '(x .incarnation)')]),
+    Chain('put_log_id', 'VoterSlotLogId', 'id', 'logId via dep', [be(8, '(x .term)'), be(8, '(x .index)')]),
+    Chain('put_binding', 'VoterSlotMember', 't3', 'binding via dep raw',
+          [lent('key_digest'), lent('descriptor_digest'), be(8, '(x .admission_generation)')]),
+    Chain('put_member', 'VoterSlotMember', 'm', 'member via dep',
+          [Put('put_identity', 'identity .enc (x .identity)', COPIED), Put('put_binding', 'binding .enc (bindingOf x)')]),
+    Chain('put_configuration', 'VoterConfiguration', 'c', 'configuration epoch count via dep check',
+          [be(8, '(x .epoch)'), be(1, '(x .count)'), Put('put_members', 'members (x .count) .enc (x .members)', COPIED, 's .pre .1')], '.pre .0'),
+    Chain('put_result_head', 'VoterReplacementResult', 't3', 'resultHead incarnation via dep check raw',
+          [lent('request_id'), lent('request_digest'), be(8, '(x .incarnation)'), be(8, '(x .revision)')]),
+    Chain('put_result', 'VoterReplacementResult', 'x', 'result epoch choice via dep check',
+          [Put('put_result_head', 'resultHead .enc (resultHeadOf x)'), be(8, '(x .configuration_epoch)'), widened(1, '(x .kind)'),
+           Put('put_log_id', 'logId .enc (x .terminal)', COPIED)]),
+    Chain('put_slot_member', 'VoterSlotRecord', 's', 'slotMember via dep',
+          [Put('put_identity', 'identity .enc (x .member .identity)', 2 * COPIED), be(8, '(x .retired_through)'),
+           Put('put_binding', 'binding .enc (bindingOf (x .member))')]),
+    Chain('put_slot', 'VoterSlotRecord', 's', 'slot choice via dep check',
+          [Put('put_slot_member', 'slotMember .enc (slotMemberOf x)'), widened(1, '(x .phase)'),
+           Put('put_optional_result', 'opt result blankVoterReplacementResult .enc (x .has_last_result, x .last_result)', COPIED)]),
+    Chain('put_claims_request', 'LostVoterAttestationV1', 't3', 'claimsRequest version via dep check raw',
+          [be(2, '1'), lent('request_id'), lent('request_digest'), lent('cluster_instance')]),
+    Chain('put_claims_slot', 'LostVoterAttestationV1', 't3', 'claimsSlot via dep raw',
+          [Put('put_identity', 'identity .enc (record { slot = x .slot; incarnation = x .expected_incarnation })'), lent('old_descriptor_digest'),
+           lent('candidate_key_digest'), be(8, '(x .admission_generation)')]),
+    Chain('put_claims_names', 'LostVoterAttestationV1', 't3', 'claimsNames via dep raw',
+          [Put('put_spiffe_id', 'spiffeId .enc (x .candidate_spiffe_id)', COPIED, 's .pre .1 .0'),
+           Put('put_spiffe_id', 'spiffeId .enc (x .controller_spiffe_id)', COPIED, 's .pre .1 .1'), lent('signing_key_digest')], '.pre .0'),
+    Chain('put_times', 'LostVoterAttestationV1', 'a', 'times via dep',
+          [be(8, '(x .observation_start_ms)'), be(8, '(x .decision_ms)'), be(8, '(x .issued_ms)'), be(8, '(x .expires_ms)')]),
+    Chain('put_claims_end', 'LostVoterAttestationV1', 't3', 'claimsEnd choice via dep check raw',
+          [widened(1, '(x .reason)', 0), lent('policy_digest'), Put('put_times', 'times .enc (timesOf x)'), lent('signature')]),
+    Chain('put_attestation', 'LostVoterAttestationV1', 'a', 'claims via dep',
+          [Put('put_claims_request', 'claimsRequest .enc (claimsRequestOf x)'), Put('put_claims_slot', 'claimsSlot .enc (claimsSlotOf x)'),
+           Put('put_claims_names', 'claimsNames .enc (claimsNamesOf x)', 0, 's .pre .1'),
+           Put('put_claims_end', 'claimsEnd .enc (claimsEndOf x)')], '.pre .0'),
+    Chain('put_boxed_attestation', 'LostVoterAttestationV1', 'a', 'attestation check',
+          [be(2, '(length (claims .enc x))', ANSWER, ('attestation-size-requires',), ('attestation-size', 'uint 2 .enc')),
+           Put('put_attestation', 'claims .enc x', 0, 's .pre .1')], '.pre .0', 'boxed-bytes attestation 8192'),
+    Chain('put_snapshot', 'VoterSnapshotEvidence', 't3', 'snapshot via dep raw',
+          [Put('put_log_id', 'logId .enc (x .cut)', COPIED), Put('put_snapshot_id', 'snapshotId .enc (x .snapshot_id)', COPIED, 's .pre .1'),
+           lent('digest')], '.pre .0'),
+    Chain('put_three_cuts', 'ThreeCuts', 'cuts', 'threeCuts via dep',
+          [Put('put_optional_log_id', f'optionalLogId .enc (x .{cut})', COPIED) for cut in ('first', 'second', 'third')]),
+    Chain('put_evidence', 'VoterReplacementEvidence', 'e', 'evidence via dep',
+          [Put('put_log_id', 'logId .enc (x .prepare)', COPIED),
+           Put('put_optional_snapshot', 'opt snapshot blankVoterSnapshotEvidence .enc (x .has_snapshot, x .snapshot)', COPIED, 's .pre .1'),
+           Put('put_three_cuts', 'threeCuts .enc (earlyCuts x)', ANSWER, None, ('early-cuts-requires',), ('early-cuts', 'threeCuts .enc')),
+           Put('put_three_cuts', 'threeCuts .enc (lateCuts x)', ANSWER, None, ('late-cuts-requires',), ('late-cuts', 'threeCuts .enc'))], '.pre .0'),
+    Chain('put_change', 'VoterReplacementRecord', 'x', 'change choice via dep check',
+          [Put('put_configuration', 'configuration .enc (x .predecessor)', COPIED, 's .pre .1 .0'),
+           Put('put_configuration', 'configuration .enc (x .successor)', COPIED, 's .pre .1 .1'), widened(1, '(x .phase)')], '.pre .0'),
+    Chain('put_replacement', 'VoterReplacementRecord', 'x', 'replacement via dep',
+          [be(8, '(x .expected_revision)'),
+           Put('put_boxed_attestation', 'boxed attestation 8192 .enc (x .attestation)', COPIED, '(s .pre .1 .candidate, s .pre .1 .controller)'),
+           Put('put_change', 'change .enc (changeOf x)', 0, '(s .pre .1 .predecessor, s .pre .1 .successor)'),
+           Put('put_evidence', 'evidence .enc (x .evidence)', COPIED, 's .pre .1 .snapshot')], '.pre .0'),
+    Chain('put_head', None, None, 'head via dep check raw',
+          [Put('put_bytes', 'magic', 1, None, ('slice-aggregate-put-bytes',)), be(2, '1')]),
+    Chain('put_table_head', 'VoterSlotTable', 't3', 'tableHead epoch via dep check raw',
+          [lent('cluster_instance'), lent('manifest_digest'), be(8, '(x .revision)'), be(8, '(x .configuration_epoch)')]),
+    Chain('put_table', 'VoterSlotTable', 't', 'table count via dep check',
+          [Put('put_head', 'head .enc tt'), Put('put_table_head', 'tableHead .enc (tableHeadOf x)'), be(1, '(x .count)'),
+           Put('put_slots', 'slots (x .count) .enc (x .slots)', COPIED, 's .pre .1 .count'),
+           Put('put_optional_replacement', 'opt replacement blankVoterReplacementRecord .enc (x .has_replacement, x .replacement)', COPIED,
+               's .pre .1 .replacement')], '.pre .0'),
+]
+
+# ---- what is used from where
+
+TYPES = {'VoterSlotIdentity': 'Rattle.identity.specs.declared.identity.VoterSlotIdentity', 'ThreeCuts': 'Rattle.layout.specs.declared.parts.ThreeCuts'}
+FROM = [
+    ('Prim.Native.Nat', 'ℕ _+_ _-_ _≤_ _<_'),
+    ('native.Mathlib.Omega', 'arith'),
+    ('mathlib.Core.Path', '_≡_ refl sym ap _∙_'),
+    ('mathlib.Core.List', 'List _++_'),
+    ('borrow.Author.Needs', 'needs'),
+    ('lib.ListN', 'length take getD'),
+    ('lib.Seq', 'length-take-le'),
+    ('Rattle.format.specs.Codec', 'dep via check always'),
+    ('Rattle.format.specs.Num', 'uint raw'),
+    ('Rattle.format.specs.List', 'flag either opt'),
+    ('Rattle.format.specs.Through', 'boxed boxed-bytes'),
+    ('Rattle.format.specs.Put', 'Put then room room-left length-put put-nothing'),
+    ('Rattle.records.specs.Blank', 'blankVoterSlotLogId blankVoterSlotMember blankVoterReplacementResult blankVoterSlotRecord blankVoterSnapshotEvidence blankVoterReplacementRecord'),
+    ('Rattle.records.specs.Records', 'noMember noSlotRecord'),
+    ('Rattle.layout.specs.Parts', 'bindingOf resultHeadOf slotMemberOf timesOf claimsRequestOf claimsSlotOf claimsNamesOf claimsEndOf changeOf earlyCuts lateCuts tableHeadOf'),
+    ('Rattle.layout.specs.Format', 'slotId incarnation epoch count choice identity logId optionalLogId sized string spiffeId snapshotId binding member members configuration resultHead result slotMember slot slots version claimsRequest claimsSlot claimsNames times claimsEnd claims attestation snapshot threeCuts evidence change replacement magic head tableHead table'),
+    ('Rattle.writer.specs.SizeLaws', 'getD-any'),
+    ('Rattle.writer.specs.PutLaws', 'put-is room-is opt-flag opt-some opt-none firsts firsts-none firsts-more firsts-within members-firsts slots-firsts'),
+]
+
+
+def used(name, text):
+    name = name.strip('_') if name.startswith('_') else name
+    return re.search(r'(?<![\w·.-])(?<!\. )' + re.escape(name) + r'(?![\w-])', text) is not None
+
+
+def written(name, says, record, body, needs):
+    """The file: what it says, what it uses, the body, and the needs put together."""
+    text = re.sub(r' \.[\w«»]+', '', body)
+    out = [f'-- `writer::encode::{name}` meets its contract: {says}. {BY} Assumes nothing.']
+    for module, names in FROM:
+        found = [n for n in names.split() if used(n, text)]
+        if found:
+            out.append(f'use {module}.{{{", ".join(found)}}}')
+    if record:
+        out.append(f'use {TYPES.get(record, "Rattle.records.specs.declared.records." + record)}.{{{record}}}')
+    own = f'use Rattle.writer.proofs.encode.{name}'
+    out += [own + '.Statement.{statement}', own + '.Tie as tie', '']
+    spec = name.replace('_', '-') + '-spec'
+    end = f'pub {spec} : {{M : Type 1}} → statement M\n{spec} =\n    tie.close\n    (tie.spec\n' + '\n'.join(f'    {n}' for n in needs) + ')\n'
+    path = f'{PROOFS}/encode/{name}'
+    os.makedirs(path, exist_ok=True)
+    with open(f'{path}/Proof.antt', 'w') as file:
+        file.write('\n'.join(out) + '\n' + body + end)
+
+
+# ---- a chain
+
+def chain(f):
+    n = len(f.puts)
+    body, needs, seen, marks, reached, at = '', [], {}, [], [], 2
+    for put in f.puts:
+        hyphened = put.call.replace('_', '-')
+        seen[hyphened] = seen.get(hyphened, 0) + 1
+        many = seen[hyphened]
+        marks.append((hyphened + ('' if many == 1 else str(many)), hyphened + '-requires' + ('' if many == 1 else f'-{many}')))
+        reached.append(at + put.steps)
+        at = reached[-1] + 4
+    x = ' x' if f.record else ''
+    to = f'{f.record} → ' if f.record else ''
+
+    def whole(k, place):
+        return f'(e{k} ({place} .args .{f.arg}))' if f.record else f'e{k}'
+
+    def said(put, place):
+        if not f.record:
+            return put.written
+        arg = f'{place} .args .{f.arg}'
+        return re.sub(r'\bx\b( \.)?', lambda m: arg + m.group(1) if m.group(1) else f'({arg})', put.written)
+
+    def rest(put):
+        return '_' if f.record else f'({put.written})'
+
+    body += f.front + '-- what is written, put by put\n'
+    for k, put in enumerate(f.puts, 1):
+        body += f'abbrev e{k} : {to}List ℕ\ne{k}{x} = ' + (f'e{k - 1}{x} ++ ' if k > 1 else '') + put.written + '\n\n'
+    body += '-- there is room for all of it, and so for each part\n'
+    for k in range(n, 0, -1):
+        body += f'room{k} : (c : tie.Start) → c .args .at + length {whole(k, "c")} ≤ length (c .args .buffer .now)\n'
+        if k == n:
+            start = f'c {f.pre}'
+            if f.same:
+                start = f'room-is _ _ ({f.same} (c .args .{f.arg})) ({start})'
+            body += f'unfolding {f.shut}\nroom{k} c = {start}\n\n'
+        else:
+            body += f'room{k} c = room-left {whole(k, "c")} ({said(f.puts[k], "c")}) _ _ (room{k + 1} c)\n\n'
+    body += '-- where the function began, from behind each put\n'
+    for k, (mark, _) in enumerate(marks, 1):
+        to_last = back(reached[k - 1] - reached[k - 2]) if k > 1 else back(reached[0] + 1)
+        body += f'abbrev start{k} : tie.After-{mark} → tie.Start\nstart{k} c = ' + (f'start{k - 1} ({to_last})' if k > 1 else to_last) + '\n\n'
+    body += '-- what was written after each put\n'
+    for k, (put, (mark, _)) in enumerate(zip(f.puts, marks), 1):
+        s = f'start{k} c'
+        body += f'wrote{k} : (c : tie.After-{mark}) → Put {whole(k, s)} ({s} .args .at) ({s} .args .buffer .now) (c .{mark} .last .0) (c .{mark} .result)\n'
+        ensured = f'c .{mark} .ensures'
+        if put.answer:
+            ensured = f'put-is (ap ({put.answer[1]}) ({back(put_step(put) + 1)} .{put.answer[0]} .ensures)) ({ensured})'
+        if k == 1:
+            body += f'wrote1 c = {ensured}\n\n'
+        else:
+            body += f'wrote{k} c = then {rest(put)} (wrote{k - 1} ({back(reached[k - 1] - reached[k - 2])})) (room{k} ({s})) ({ensured})\n\n'
+    for k, (put, (mark, need)) in enumerate(zip(f.puts, marks), 1):
+        last = back(reached[k - 1] - reached[k - 2] - 1) if k > 1 else ''
+        start = f'(start{k - 1} ({last}))' if k > 1 else f'({back(reached[0])})'
+        for asked in put.needs:
+            asked, by = asked if isinstance(asked, tuple) else (asked, 'search needs')
+            body += f'{asked} : tie.Need-{asked}\n{asked} c{" κs" if asked.endswith("requires") else ""} = {by.replace("START", start)}\n\n'
+            needs.append(asked)
+        has = f'room {rest(put)} (wrote{k - 1} ({last})) (room{k} {start})' if k > 1 else f'room1 {start}'
+        if put.answer:
+            has = f'room-is _ _ (ap ({put.answer[1]}) (sym ({back(put_step(put))} .{put.answer[0]} .ensures))) ({has})'
+        if put.also:
+            has = f'({has}, {re.sub(r"(?<![^( ])s (?=[.])", start[1:-1] + " ", put.also)})'
+        body += f'{need} : tie.Need-{need}\n{need} c κs = {has}\n\n'
+        needs.append(need)
+    body += f'same-length : tie.Need-same-length\nsame-length c = ap length (wrote{n} (c .before .before) .bytes) ∙ length-put _ _ _ (room{n} (start{n} (c .before .before)))\n\n'
+    done = f'wrote{n} (c .before .before)'
+    if f.same:
+        done = f'put-is (sym ({f.same} (start{n} (c .before .before) .args .{f.arg}))) ({done})'
+    body += f'returns : tie.Need-returns\nunfolding {f.shut}\nreturns c = {done}\n\n'
+    written(f.name, 'one put behind the other', f.record, body, needs + ['same-length', 'returns'])
+
+
+def put_step(put):
+    """How far back of a put's need the call stands whose answer it writes."""
+    return 0 if put.call == 'put_be' else 1
+
+
+# ---- an optional part: the flag, and behind a yes the value
+
+class Optional:
+    """The flag and the value, of the arguments; steps: a value that is copied out first; shut: what to unfold to see `opt`."""
+
+    def __init__(self, name, call, codec, blank, flag, value, shut='', steps=0, pre='.pre', also=None):
+        self.name, self.call, self.codec, self.blank, self.flag, self.value = name, call, codec, blank, q(flag), q(value)
+        self.shut, self.steps, self.pre, self.also = shut, steps, pre, also
+
+
+OPTIONALS = [
+    Optional('put_optional_log_id', 'put_log_id', 'logId', 'blankVoterSlotLogId', 'optional .is_some', 'optional .cut', 'optionalLogId via', COPIED),
+    Optional('put_optional_result', 'put_result', 'result', 'blankVoterReplacementResult', 'is-some', 'x'),
+    Optional('put_optional_snapshot', 'put_snapshot', 'snapshot', 'blankVoterSnapshotEvidence', 'is-some', 's', '', 0, '.pre .0', '.pre .1'),
+    Optional('put_optional_replacement', 'put_replacement', 'replacement', 'blankVoterReplacementRecord', 'is-some', 'x', '', 0, '.pre .0', '.pre .1'),
+]
+
+
+def optional(f):
+    mark = f.call.replace('_', '-')
+    unfolding = f'unfolding {f.shut}\n' if f.shut else ''
+
+    def args(place):
+        return f'({place} .args .{f.flag})', f'({place} .args .{f.value})'
+
+    def law(name, place, told=None):
+        b, x = args(place)
+        return f'{name} {f.codec} {f.blank} {x} {b}' + (f' ({told})' if told else '')
+
+    def some(place):
+        b, x = args(place)
+        return f'flag .enc {b} ++ {f.codec} .enc {x}'
+
+    s, t, e, w = 'c', 'start1 c', 'start0 c', 'start2 c'
+    b, x = args(s)
+    has = f'room _ ({back(4 + f.steps)} .put-flag .ensures) (room2 ({back(1 + f.steps)}))'
+    if f.also:
+        has = f'({has}, start1 ({back(1 + f.steps)}) {f.also})'
+    body = f"""-- where the function began, from behind a yes, a no and the value
+abbrev start1 : tie.Then1 → tie.Start
+start1 c = {back(6)}
+
+abbrev start0 : tie.Else1 → tie.Start
+start0 c = {back(6)}
+
+abbrev start2 : tie.After-{mark} → tie.Start
+start2 c = start1 ({back(2 + f.steps)})
+
+-- there is room for the flag, and behind a yes for the value
+room1 : (c : tie.Start) → c .args .at + length (flag .enc {b}) ≤ length (c .args .buffer .now)
+{unfolding}room1 c = room-left (flag .enc {b}) (either {b} {f.codec} (always {f.blank}) .enc {x}) _ _ (room-is _ _ ({law('opt-flag', s)}) (c {f.pre}))
+
+room2 : (c : tie.Then1) → {t} .args .at + length ({some(t)}) ≤ length ({t} .args .buffer .now)
+{unfolding}room2 c = room-is _ _ ({law('opt-some', t, 'c .if1 .taken')}) ({t} {f.pre})
+
+wrote2 : (c : tie.After-{mark}) → Put ({some(w)}) ({w} .args .at) ({w} .args .buffer .now) (c .{mark} .last .0) (c .{mark} .result)
+wrote2 c = then _ ({back(5 + f.steps)} .put-flag .ensures) (room2 ({back(2 + f.steps)})) (c .{mark} .ensures)
+
+put-flag-requires : tie.Need-put-flag-requires
+put-flag-requires c κs = room1 (c .before .before)
+
+{mark}-requires : tie.Need-{mark}-requires
+{mark}-requires c κs = {has}
+
+same-length : tie.Need-same-length
+same-length c = ap length (wrote2 (c .before .before) .bytes) ∙ length-put _ _ _ (room2 ({back(4 + f.steps)}))
+
+returns : tie.Need-returns
+{unfolding}returns c = put-is (sym ({law('opt-some', 'start2 (c .before .before)', back(4 + f.steps) + ' .if1 .taken')})) (wrote2 (c .before .before))
+
+same-length-2 : tie.Need-same-length-2
+same-length-2 c = ap length (c .before .before .before .put-flag .ensures .bytes) ∙ length-put _ _ _ (room1 ({e}))
+
+returns-2 : tie.Need-returns-2
+{unfolding}returns-2 c = put-is (sym ({law('opt-none', e, 'c .if1 .left')})) (c .before .before .before .put-flag .ensures)
+
+"""
+    written(f.name, 'the flag, and behind a yes the value', None, body,
+            ['put-flag-requires', f'{mark}-requires', 'same-length', 'returns', 'same-length-2', 'returns-2'])
+
+
+# ---- the places in use, one behind the other
+
+LOOPS = [
+    ('put_members', 'put_member', 'VoterSlotMember', 'member', 'blankVoterSlotMember', 'noMember', 'members-firsts'),
+    ('put_slots', 'put_slot', 'VoterSlotRecord', 'slot', 'blankVoterSlotRecord', 'noSlotRecord', 'slots-firsts'),
+]
+
+
+def loop(name, call, record, codec, blank, none, law):
+    mark = call.replace('_', '-')
+    firsts = f'firsts {codec} {blank}'
+    a, again = 'start c', back(5)
+    body = f"""abbrev Inv-loop : tie.InvT-loop
+Inv-loop buffer₀ at count places to₀ i₀ buffer to i = (i ≤ count) × Put ({firsts} i places) at buffer₀ buffer to × (length buffer ≡ length buffer₀)
+
+abbrev μ-loop : tie.MeasureT-loop
+μ-loop buffer₀ at count places to₀ i₀ buffer to i = count - i
+
+-- where the function began, from within the loop
+abbrev start : tie.In-loop Inv-loop μ-loop → tie.Start Inv-loop μ-loop
+start c = c .before .before .before
+
+-- a place as the code takes it
+taken-is : (c : tie.In-loop Inv-loop μ-loop) → getD ({a} .args .t3) (c .before .loop .i) {blank} ≡ getD ({a} .args .t3) (c .before .loop .i) {none}
+taken-is c =
+    let l : length ({a} .args .t3) ≡ 9 = search needs in
+    getD-any ({a} .args .t3) (c .before .loop .i) {blank} {none} (omega (arith, l, {a} .pre .1))
+
+-- what is written with one more
+one-more : (c : tie.In-loop Inv-loop μ-loop) → {firsts} (c .before .loop .i + 1) ({a} .args .t3)
+    ≡ {firsts} (c .before .loop .i) ({a} .args .t3) ++ {codec} .enc (getD ({a} .args .t3) (c .before .loop .i) {none})
+one-more c =
+    firsts-more {codec} {blank} (c .before .loop .i) ({a} .args .t3)
+    ∙ ap (λ m. {firsts} (c .before .loop .i) ({a} .args .t3) ++ {codec} .enc m) (taken-is c)
+
+-- there is room for it
+more : (c : tie.In-loop Inv-loop μ-loop) → {a} .args .at + length ({firsts} (c .before .loop .i) ({a} .args .t3) ++ {codec} .enc (getD ({a} .args .t3) (c .before .loop .i) {none})) ≤ length ({a} .args .buffer .now)
+more c =
+    let a = {a} .args in
+    let i = c .before .loop .i in
+    omega (
+      arith,
+      firsts-within {codec} {blank} (i + 1) (a .count) (a .t3) (omega arith),
+      ap length (one-more c),
+      ap length ({law} (a .count) (a .t3)),
+      {a} .pre .0,
+    )
+
+loop-holds : tie.Need-loop-holds Inv-loop μ-loop
+loop-holds c = (omega arith, put-is (sym (firsts-none {codec} {blank} (c .before .args .t3))) (put-nothing _ _), refl)
+
+mul-place : tie.Need-mul-place Inv-loop μ-loop
+mul-place c = omega (arith, {a} .pre .1)
+
+array-copy-out-place : tie.Need-array-copy-out-place Inv-loop μ-loop
+array-copy-out-place c = omega (arith, {a} .pre .1)
+
+{mark}-requires : tie.Need-{mark}-requires Inv-loop μ-loop
+{mark}-requires c κs = room _ (c .before .before .before .loop .inv .1) (more (c .before .before))
+
+add-i : tie.Need-add-i Inv-loop μ-loop
+add-i c = omega (arith, {back(8)} .pre .1)
+
+loop-less : tie.Need-loop-less Inv-loop μ-loop
+loop-less c = omega arith
+
+loop-again : tie.Need-loop-again Inv-loop μ-loop
+loop-again c =
+    let l = {back(6)} .loop in
+    let p = c .before .before .{mark} in
+    let w = then _ (l .inv .1) (more ({again})) (p .ensures) in (
+      omega arith,
+      put-is (sym (one-more ({again}))) w,
+      ap length (w .bytes) ∙ length-put _ _ _ (more ({again})),
+    )
+
+same-length : tie.Need-same-length Inv-loop μ-loop
+same-length c = c .before .loop .inv .2
+
+returns : tie.Need-returns Inv-loop μ-loop
+returns c =
+    let a = c .before .before .before .args in
+    let l = c .before .loop in
+    let e : l .i ≡ a .count = omega arith in
+    put-is (ap (λ n. {firsts} n (a .t3)) e ∙ sym ({law} (a .count) (a .t3))) (l .inv .1)
+
+"""
+    written(name, 'what is written so far are the places passed', record, body, ['Inv-loop', 'μ-loop', 'loop-holds', 'mul-place', 'array-copy-out-place', f'{mark}-requires', 'add-i', 'loop-less',
+                                 'loop-again', 'same-length', 'returns'])
+
+
+def main():
+    only = sys.argv[1:]
+    for f in CHAINS:
+        if not only or f.name in only:
+            chain(f)
+    for f in OPTIONALS:
+        if not only or f.name in only:
+            optional(f)
+    for f in LOOPS:
+        if not only or f[0] in only:
+            loop(*f)
+    subprocess.run(['rt', 'fmt'], check=True)
+
+
+main()
