@@ -38,7 +38,14 @@ enum Work {
     Encode,
     Command(Box<Body>),
     Retired(u64),
+    /// The least that a call on a value of the port's size takes: its bytes are read, and are zero.
+    Zeros,
+    /// The least that a call that gives such a value takes: its bytes are cleared and handed on.
+    Made,
 }
+
+/// The bytes of the port's table, as a value.
+const VALUE: usize = 8456;
 
 /// Something that can be timed.
 trait Subject {
@@ -70,7 +77,8 @@ pub fn run(mut line: impl FnMut(&str) -> Result<(), String>) -> Result<(), Strin
     let unit = format!("(ns, median of {BATCHES} batches of {CALLS} calls)");
     line(&format!("{call:<22}{slots:>6}  {state:<26}{names}  {unit}"))?;
     let of_slots = [3, 5, 9].into_iter().flat_map(tasks);
-    for task in bytes_tasks().into_iter().chain(of_slots) {
+    let all = least_tasks().into_iter().chain(bytes_tasks());
+    for task in all.chain(of_slots) {
         line(&measured(&subjects, &task))?;
     }
     Ok(())
@@ -102,6 +110,20 @@ fn measured(subjects: &[Box<dyn Subject>], task: &Task) -> String {
 fn median(times: &mut [u128]) -> f64 {
     times.sort_unstable();
     times[times.len() / 2] as f64
+}
+
+/// What no call on the port's value can go below, whatever its table.
+fn least_tasks() -> [Task; 2] {
+    let task = |name, work| Task {
+        name,
+        state: format!("{VALUE} bytes"),
+        table: idle(1),
+        work,
+    };
+    [
+        task("least: read", Work::Zeros),
+        task("least: made", Work::Made),
+    ]
 }
 
 /// Reading and writing, by the size of the table.
@@ -257,6 +279,14 @@ impl Subject for Original {
                 let node = call::held_node(*node).expect("an id that can be held");
                 timed(|| black_box(&task.table).is_retired(black_box(node)))
             }
+            Work::Zeros => {
+                let value = vec![0_u8; VALUE];
+                timed(|| black_box(&value).iter().fold(0, |all, byte| all | byte))
+            }
+            Work::Made => {
+                let mut places = [vec![1_u8; VALUE], vec![1_u8; VALUE]];
+                made(&mut places)
+            }
             Work::Command(body) => {
                 let Ok(call) = call::held(body) else {
                     unreachable!("values that can be held")
@@ -274,7 +304,7 @@ impl Subject for Original {
 mod port {
     use std::time::Instant;
 
-    use super::{bytes_of, Subject, Task, Work, CALLS};
+    use super::{bytes_of, Subject, Task, Work, CALLS, VALUE};
     use crate::raw;
 
     extern "C" {
@@ -286,6 +316,7 @@ mod port {
             old_len: usize,
             turns: u64,
         ) -> u64;
+        fn bench_zeros(bytes: *const u8, len: usize, turns: u64) -> u64;
         fn bench_decode(bytes: *const u8, len: usize, turns: u64) -> u64;
         fn bench_encode(
             raw: *const u8,
@@ -330,15 +361,21 @@ mod port {
                     }))
                 }
                 Work::Encode => Some(encoded(task, &table, turns)),
+                Work::Zeros => {
+                    let value = vec![0_u8; VALUE];
+                    Some(timed(|| unsafe {
+                        bench_zeros(value.as_ptr(), value.len(), turns)
+                    }))
+                }
                 _ => None,
             }
         }
     }
 
-    /// One batch of writing; the last bytes are those of the original.
+    /// One batch of writing, in which two revisions take turns; the last bytes are those of the original.
     fn encoded(task: &Task, raw: &[u8], turns: u64) -> u128 {
         let mut last = task.table.clone();
-        last.revision += turns;
+        last.revision += (turns + 1) % 2;
         let expected = bytes_of(&last);
         let mut buffer = vec![0xEE; expected.len()];
         let (place, room) = (buffer.as_mut_ptr(), buffer.len());
@@ -363,6 +400,17 @@ fn timed<T>(work: impl Fn() -> T) -> u128 {
     let start = Instant::now();
     for _ in 0..CALLS {
         black_box(work());
+    }
+    start.elapsed().as_nanos()
+}
+
+/// A value is made in one place and copied to another.
+fn made(places: &mut [Vec<u8>; 2]) -> u128 {
+    let [first, second] = places;
+    let start = Instant::now();
+    for _ in 0..CALLS {
+        black_box(&mut *first).fill(0);
+        black_box(&mut *second).copy_from_slice(black_box(first));
     }
     start.elapsed().as_nanos()
 }

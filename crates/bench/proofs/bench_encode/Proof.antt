@@ -8,19 +8,22 @@ use Rattle.bench.proofs.bench_encode.Statement.{statement}
 use Rattle.bench.proofs.bench_encode.Tie as tie
 
 abbrev Inv-loop : tie.InvT-loop
-Inv-loop raw buffer₀ turns table₀ answers₀ i₀ buffer table answers i = (turns < 2 ^ 64) × (length buffer ≡ length buffer₀)
+Inv-loop raw buffer₀ turns even odd answers₀ i₀ buffer answers i = (turns < 2 ^ 64) × (length buffer ≡ length buffer₀)
 
 abbrev μ-loop : tie.MeasureT-loop
-μ-loop raw buffer₀ turns table₀ answers₀ i₀ buffer table answers i = turns - i
+μ-loop raw buffer₀ turns even odd answers₀ i₀ buffer answers i = turns - i
 
 table-of-bytes-requires : tie.Need-table-of-bytes-requires Inv-loop μ-loop
 table-of-bytes-requires c κs = search needs
 
+later-requires : tie.Need-later-requires Inv-loop μ-loop
+later-requires c κs = search needs
+
 loop-holds : tie.Need-loop-holds Inv-loop μ-loop
 loop-holds c = search needs
 
-add-table : tie.Need-add-table Inv-loop μ-loop
-add-table c = search needs
+pick-requires : tie.Need-pick-requires Inv-loop μ-loop
+pick-requires c κs = search needs
 
 encode-voter-slot-table-requires : tie.Need-encode-voter-slot-table-requires Inv-loop μ-loop
 encode-voter-slot-table-requires c κs = search needs
@@ -50,8 +53,9 @@ bench-encode-spec =
     Inv-loop
     μ-loop
     table-of-bytes-requires
+    later-requires
     loop-holds
-    add-table
+    pick-requires
     encode-voter-slot-table-requires
     refusal-of-requires
     add-i
