@@ -16,6 +16,11 @@ def proofs_of(module):
     return os.path.join(ROOT, "crates", crate_of(module), "proofs", module)
 
 
+def first_need(text):
+    """Where the answers to the needs begin, behind the definitions."""
+    return re.search(r"^\S+ : tie\.Need-", text, re.M).start()
+
+
 def crate_of(module):
     return "layout" if module == "reading" else "reader"
 
@@ -84,11 +89,11 @@ READERS = [
     ("decode", "read_slot", "slot", "blankVoterSlotRecord", None,
      [("head", "slot_member"), ("phase", "phase"), ("last_result", "optional_result")]),
     ("decode", "read_claims_request", "claimsRequest", "blankClaimsRequest", None,
-     [("version", "version"), ("request_id", "array16"), ("request_digest", "array32"), ("cluster_instance", "array32")]),
+     [("version", "version"), ("request_id", "array16"), ("request_digest", "array32")]),
     ("decode", "read_claims_slot", "claimsSlot", "blankClaimsSlot", None,
-     [("identity", "identity"), ("old_descriptor_digest", "array32"), ("candidate_key_digest", "array32"), ("admission_generation", "u64")]),
+     [("cluster_instance", "array32"), ("identity", "identity"), ("old_descriptor_digest", "array32"), ("candidate_key_digest", "array32")]),
     ("decode", "read_claims_names", "claimsNames", "blankClaimsNames", None,
-     [("candidate_spiffe_id", "spiffe_id"), ("controller_spiffe_id", "spiffe_id"), ("signing_key_digest", "array32")]),
+     [("admission_generation", "u64"), ("candidate_spiffe_id", "spiffe_id"), ("controller_spiffe_id", "spiffe_id"), ("signing_key_digest", "array32")]),
     ("decode", "read_claims_end", "claimsEnd", "blankClaimsEnd", None,
      [("reason", "reason"), ("policy_digest", "array32"), ("times", "times"), ("signature", "array64")]),
     ("decode", "read_attestation", "claims", "blankLostVoterAttestationV1", "attestation_of",
@@ -291,8 +296,8 @@ def fill(text, need, body, unfolding=""):
 def write(r):
     path = os.path.join(proofs_of(r.module), r.name, "Proof.antt")
     text = open(path).read()
-    skeleton = text[text.index("-- src/"):] if "-- after each field" not in text else text[text.index("\n-- src/") + 1:]
-    old = [l for l in text[:text.index("-- src/")].split("\n") if "·proofs.proofs" in l or ".proofs." in l and l.startswith("use ")]
+    skeleton = text[first_need(text):]
+    old = [l for l in text[:first_need(text)].split("\n") if "·proofs.proofs" in l or ".proofs." in l and l.startswith("use ")]
     n = r.n
     defs = "-- after each field: what was read so far, and up to where\n"
     for k in range(n):
@@ -418,7 +423,7 @@ def refill(module, name, uses, defs, bodies):
     path = os.path.join(proofs_of(module), name, "Proof.antt")
     text = open(path).read()
     old = [l for l in text.split("\n") if l.startswith("use ") and "·proofs.proofs" in l or l.startswith("use ") and ".proofs." in l]
-    s = text[text.index("-- src/"):]
+    s = text[first_need(text):]
     for need, answer in bodies.items():
         body, unfolding = answer if isinstance(answer, tuple) else (answer, "")
         s = fill(s, need, body, unfolding)

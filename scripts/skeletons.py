@@ -17,5 +17,7 @@ for m in re.finditer(r"help: write (\S+) with these lines[^\n]*\n((?:    [^\n]*\
     if not os.path.exists(path):
         os.makedirs(os.path.dirname(path), exist_ok=True)
         with open(path, "w") as file:
-            file.write("\n".join(line[4:] for line in lines).rstrip() + "\n")
+            # The places in the source that it names would soon be wrong.
+            kept = [line[4:] for line in lines if not re.match(r"    -- src/", line)]
+            file.write("\n".join(kept).rstrip() + "\n")
         print("wrote", os.path.relpath(path))

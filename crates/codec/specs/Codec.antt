@@ -15,15 +15,12 @@ use Rattle.records.specs.Blank.{blankVoterSlotTable}
 use Rattle.records.specs.Validation.{validity, validate}
 use Rattle.records.specs.declared.records.LostVoterAttestationV1.{LostVoterAttestationV1}
 use Rattle.records.specs.declared.records.VoterSlotTable.{VoterSlotTable}
-use Rattle.layout.specs.Format.{attestation, table}
+use Rattle.layout.specs.Format.{maxAttestationBytes, attestation, table}
 use Rattle.layout.specs.Reading.{outcome}
 
--- `MAX_VOTER_SLOT_TABLE_BYTES`, `MAX_LOST_VOTER_ATTESTATION_BYTES`
+-- `MAX_VOTER_SLOT_TABLE_BYTES`
 abbrev pub maxTableBytes : ℕ
 maxTableBytes = 65536
-
-abbrev pub maxAttestationBytes : ℕ
-maxAttestationBytes = 8192
 
 -- at most so many bytes, refused by 5
 unfoldable pub bounded : {A : Type 0} → ℕ → List ℕ → Res A → Res A

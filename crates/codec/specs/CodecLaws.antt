@@ -23,8 +23,8 @@ use Rattle.records.specs.Representable.{representableAttestation}
 use Rattle.records.specs.Validation.{validAttestation, validity, validate}
 use Rattle.records.specs.declared.records.LostVoterAttestationV1.{LostVoterAttestationV1}
 use Rattle.records.specs.declared.records.VoterSlotTable.{VoterSlotTable}
-use Rattle.layout.specs.Format.{attestation, table}
-use Rattle.codec.specs.Codec.{maxTableBytes, maxAttestationBytes, bounded, decodeVoterSlotTable, decodeLostVoterAttestation, tableBytes, encodeVoterSlotTable, restarted}
+use Rattle.layout.specs.Format.{maxAttestationBytes, attestation, table}
+use Rattle.codec.specs.Codec.{maxTableBytes, bounded, decodeVoterSlotTable, decodeLostVoterAttestation, tableBytes, encodeVoterSlotTable, restarted}
 use Rattle.codec.specs.ValidLaws.{validate-says, validate-passes, count-some, valid-count}
 use Rattle.writer.specs.SizeLaws.{attestation-long, table-long, table-bounds}
 use Rattle.codec.specs.GoodLaws.{attestation-good, table-good}

@@ -304,10 +304,7 @@ module _ (a : LostVoterAttestationV1) (h : HeldLostVoterAttestationV1 a) where
   pub claimsRequest-good : claimsRequest .Good (claimsRequestOf a)
   unfolding claimsRequest via dep
   claimsRequest-good = (
-    (
-      ((version-good, raw-good 16 (a .«request_id») (h .«request_id»)), raw-good 32 (a .«request_digest») (h .«request_digest»)),
-      raw-good 32 (a .«cluster_instance») (h .«cluster_instance»),
-    ),
+    ((version-good, raw-good 16 (a .«request_id») (h .«request_id»)), raw-good 32 (a .«request_digest») (h .«request_digest»)),
     refl,
   )
 
@@ -334,12 +331,12 @@ module _ (a : LostVoterAttestationV1) (h : HeldLostVoterAttestationV1 a) where
           (
             (
               (
+                raw-good 32 (a .«cluster_instance») (h .«cluster_instance»),
                 identity-good (claimsSlotOf a .identity) (record { slot = h .slot; incarnation = h .«expected_incarnation» }) (s .0) (s .1 .0),
-                raw-good 32 (a .«old_descriptor_digest») (h .«old_descriptor_digest»),
               ),
-              raw-good 32 (a .«candidate_key_digest») (h .«candidate_key_digest»),
+              raw-good 32 (a .«old_descriptor_digest») (h .«old_descriptor_digest»),
             ),
-            uint-good 8 (a .«admission_generation») (h .«admission_generation»),
+            raw-good 32 (a .«candidate_key_digest») (h .«candidate_key_digest»),
           ),
           refl,
         )
@@ -351,7 +348,10 @@ module _ (a : LostVoterAttestationV1) (h : HeldLostVoterAttestationV1 a) where
         let s = attestation-says a r in (
           (
             (
-              spiffeId-good (a .«candidate_spiffe_id») (h .«candidate_spiffe_id») (s .1 .1 .0),
+              (
+                uint-good 8 (a .«admission_generation») (h .«admission_generation»),
+                spiffeId-good (a .«candidate_spiffe_id») (h .«candidate_spiffe_id») (s .1 .1 .0),
+              ),
               spiffeId-good (a .«controller_spiffe_id») (h .«controller_spiffe_id») (s .1 .1 .1 .0),
             ),
             raw-good 32 (a .«signing_key_digest») (h .«signing_key_digest»),
@@ -426,9 +426,9 @@ claims-written : Written claims
 unfolding claims claimsRequest claimsSlot claimsNames claimsEnd times version choice
 claims-written =
     via-written _ _ _ (dep-written (dep-written (dep-written
-    (via-written _ _ _ (dep-written (dep-written (dep-written (via-written _ _ _ (check-written _ (uint-written 2))) (λ a. raw-written 16)) (λ a. raw-written 32)) (λ a. raw-written 32)))
-    (λ a. via-written _ _ _ (dep-written (dep-written (dep-written identity-written (λ a. raw-written 32)) (λ a. raw-written 32)) (λ a. uint-written 8))))
-    (λ a. via-written _ _ _ (dep-written (dep-written spiffeId-written (λ a. spiffeId-written)) (λ a. raw-written 32))))
+    (via-written _ _ _ (dep-written (dep-written (via-written _ _ _ (check-written _ (uint-written 2))) (λ a. raw-written 16)) (λ a. raw-written 32)))
+    (λ a. via-written _ _ _ (dep-written (dep-written (dep-written (raw-written 32) (λ a. identity-written)) (λ a. raw-written 32)) (λ a. raw-written 32))))
+    (λ a. via-written _ _ _ (dep-written (dep-written (dep-written (uint-written 8) (λ a. spiffeId-written)) (λ a. spiffeId-written)) (λ a. raw-written 32))))
     (λ a. via-written _ _ _ (dep-written (dep-written (dep-written (check-written _ (uint-written 1)) (λ a. raw-written 32))
     (λ a. via-written _ _ _ (dep-written (dep-written (dep-written (uint-written 8) (λ a. uint-written 8)) (λ a. uint-written 8)) (λ a. uint-written 8)))) (λ a. raw-written 64))))
 

@@ -215,13 +215,13 @@ slot-tests s g =
 claims-tests : (a : LostVoterAttestationV1) → claims .Good a → representableAttestation a ≡ true
 unfolding claims claimsSlot claimsNames claimsEnd via dep
 claims-tests a g =
-    let i = identity-tests (record { slot = a .slot; incarnation = a .«expected_incarnation» }) (g .0 .0 .0 .1 .0 .0 .0 .0) in
+    let i = identity-tests (record { slot = a .slot; incarnation = a .«expected_incarnation» }) (g .0 .0 .0 .1 .0 .0 .0 .1) in
     attestation-passes a (
       i .0,
       (
         i .1,
         (
-          spiffeId-tests (a .«candidate_spiffe_id») (g .0 .0 .1 .0 .0 .0),
+          spiffeId-tests (a .«candidate_spiffe_id») (g .0 .0 .1 .0 .0 .0 .1),
           (spiffeId-tests (a .«controller_spiffe_id») (g .0 .0 .1 .0 .0 .1), choice-tests 1 2 (a .reason) (g .0 .1 .0 .0 .0 .0)),
         ),
       ),

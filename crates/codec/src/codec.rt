@@ -11,6 +11,7 @@ ghost use Rattle.layout.specs.Reading.{report, outcome};
 ghost use Rattle.codec.specs.Codec.{decoded, decodeVoterSlotTable, decodeLostVoterAttestation, encodeVoterSlotTable, restartOutcome};
 use identity::answer::Answer;
 use identity::answer::accepted;
+use layout::parts::MAX_LOST_VOTER_ATTESTATION_BYTES;
 use layout::reading::Reading;
 use layout::reading::why;
 use reader::decode::read_table;
@@ -24,10 +25,8 @@ use records::validation::validate_table;
 use writer::encode::put_table;
 use writer::encode::table_size;
 
-// Most bytes of a table, and of an attestation.
+// Most bytes of a table.
 pub const MAX_VOTER_SLOT_TABLE_BYTES: usize = 65536;
-
-pub const MAX_LOST_VOTER_ATTESTATION_BYTES: usize = 8192;
 
 pub struct DecodedTable {
     pub answer: Answer,

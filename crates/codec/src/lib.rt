@@ -1,2 +1,2 @@
-// Layer three: the bytes of a table and of an attestation.
+// Layer three, its entry points: the bytes of a table and of an attestation.
 pub mod codec;

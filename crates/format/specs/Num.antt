@@ -78,11 +78,12 @@ val-lt (suc k) l e h =
     subst (λ n. n < 256 ^ suc k) (sym (ap (val 0) (snoc-of k l e) ∙ val-snoc 0 (take k l) (getD l k 0)))
     (rw pow-suc (digits-lt (val-lt k (take k l) (length-take-le k l (omega arith)) (bytes-take k l h)) (h k)))
 
--- n bytes as they stand; too few of them are refused by 6
+-- the first where the test holds, else the second: `cond`, shut until it is named
 unfoldable pub pick : {A : Type 0} → Bool → A → A → A
 pick true a b = a
 pick false a b = b
 
+-- n bytes as they stand; too few of them are refused by 6
 unfoldable pub decRaw : ℕ → List ℕ → Res (List ℕ)
 decRaw n bs = pick (leb n (length bs)) (ok (take n bs) n) (no 6)
 

@@ -1,6 +1,6 @@
 -- The bytes of a table (`OPVI` version 1) and of an attestation, field by field, in the order of codec.rs.
 -- A format here has its writer, its reader and the laws that tie them (crate `format`). From codec.rs; document 01, "Refusals from the input":
--- 1 and 2 for a slot or incarnation, 4 for another version, 5 for a name or attestation that is too long, 6 for any other bad bytes.
+-- 1 and 2 for a slot or incarnation, 4 for another version, 5 for a name, snapshot id or attestation that is too long, 6 for any other bad bytes.
 -- Assumes nothing.
 use Prim.Native.Nat.{ℕ, _-_}
 use mathlib.Core.Path.{_≡_, refl, ap, ap₂, sym}
@@ -13,7 +13,7 @@ use lib.Dec.{eqb, leb}
 use borrow.Author.Tests.{eqb-true}
 use Rattle.identity.specs.Answer.{numberOf}
 use Rattle.identity.specs.Identity.{isConfigurationEpoch, validateSlotId, validateVoterIncarnation}
-use Rattle.identity.specs.Text.{isUtf8}
+use Rattle.identity.specs.Text.{isUtf8, maxSpiffeIdBytes, maxSnapshotIdBytes}
 use Rattle.identity.specs.declared.identity.VoterSlotIdentity.{VoterSlotIdentity}
 use Rattle.format.specs.Codec.{Codec, dep, check, via, tested}
 use Rattle.format.specs.Num.{uint, raw, raw-long, pick, pick-zero}
@@ -22,6 +22,7 @@ use Rattle.format.specs.Through.{boxed}
 use Rattle.records.specs.Blank.{blankVoterSlotLogId, blankVoterSlotMember, blankVoterReplacementResult, blankVoterSlotRecord, blankVoterSnapshotEvidence, blankVoterReplacementRecord}
 use Rattle.records.specs.Equality.{eqBytes}
 use Rattle.records.specs.EqualityLaws.{eqBytes-true}
+use Rattle.records.specs.Records.{pending, voting, prepared, uniform, completed, superseded, storageLost, timeBoundLoss}
 use Rattle.records.specs.Validation.{validCount, validAttestation}
 use Rattle.records.specs.declared.records.SpiffeId.{SpiffeId}
 use Rattle.records.specs.declared.records.SnapshotId.{SnapshotId}
@@ -104,11 +105,11 @@ placed-back bound p g = ap (λ l. (p .0, l)) (take-at (p .1) (replicate (bound -
 
 unfoldable pub spiffeId : Codec SpiffeId
 spiffeId =
-    via (string 2048) (λ p. record { len = p .0; bytes = placed 2048 p }) (λ t. (t .len, take (t .len) (t .bytes))) (λ p g. placed-back 2048 p g)
+    via (string maxSpiffeIdBytes) (λ p. record { len = p .0; bytes = placed maxSpiffeIdBytes p }) (λ t. (t .len, take (t .len) (t .bytes))) (λ p g. placed-back maxSpiffeIdBytes p g)
 
 unfoldable pub snapshotId : Codec SnapshotId
 snapshotId =
-    via (string 256) (λ p. record { len = p .0; bytes = placed 256 p }) (λ t. (t .len, take (t .len) (t .bytes))) (λ p g. placed-back 256 p g)
+    via (string maxSnapshotIdBytes) (λ p. record { len = p .0; bytes = placed maxSnapshotIdBytes p }) (λ t. (t .len, take (t .len) (t .bytes))) (λ p g. placed-back maxSnapshotIdBytes p g)
 
 -- ---- members and configurations
 
@@ -140,7 +141,7 @@ resultHead =
 
 unfoldable pub result : Codec VoterReplacementResult
 result =
-    via (dep (dep (dep resultHead (λ a. epoch)) (λ a. choice 0 1)) (λ a. logId)) (λ p. resultOf (p .0 .0 .0) (p .0 .0 .1) (p .0 .1) (p .1))
+    via (dep (dep (dep resultHead (λ a. epoch)) (λ a. choice completed superseded)) (λ a. logId)) (λ p. resultOf (p .0 .0 .0) (p .0 .0 .1) (p .0 .1) (p .1))
     (λ r. (((resultHeadOf r, r .«configuration_epoch»), r .kind), r .terminal)) (λ a g. refl)
 
 -- the retired number stands between the identity and the binding
@@ -151,7 +152,7 @@ slotMember =
 
 unfoldable pub slot : Codec VoterSlotRecord
 slot =
-    via (dep (dep slotMember (λ a. choice 0 2)) (λ a. opt result blankVoterReplacementResult))
+    via (dep (dep slotMember (λ a. choice pending voting)) (λ a. opt result blankVoterReplacementResult))
     (λ p. record {
       member = p .0 .0 .member;
       «retired_through» = p .0 .0 .«retired_through»;
@@ -175,26 +176,26 @@ unfoldable pub version : Codec (Unit {0})
 version = via (check (uint 2) (λ x. require (eqb x 1))) (λ x. tt) (λ u. 1)
     (λ x g. sym (eqb-true x 1 (require-is (eqb x 1) (tested (uint 2) (λ x. require (eqb x 1)) x g))))
 
--- the request: version, request id, request digest, installation
+-- the request: version, request id, request digest
 unfoldable pub claimsRequest : Codec ClaimsRequest
 claimsRequest =
-    via (dep (dep (dep version (λ a. raw 16)) (λ a. raw 32)) (λ a. raw 32))
-    (λ p. record { «request_id» = p .0 .0 .1; «request_digest» = p .0 .1; «cluster_instance» = p .1 })
-    (λ r. (((tt, r .«request_id»), r .«request_digest»), r .«cluster_instance»)) (λ a g. refl)
+    via (dep (dep version (λ a. raw 16)) (λ a. raw 32))
+    (λ p. record { «request_id» = p .0 .1; «request_digest» = p .1 })
+    (λ r. ((tt, r .«request_id»), r .«request_digest»)) (λ a g. refl)
 
--- the slot with the incarnation that was lost, and its candidate
+-- the installation, the slot with the incarnation that was lost, its descriptor, and the candidate's key
 unfoldable pub claimsSlot : Codec ClaimsSlot
 claimsSlot =
-    via (dep (dep (dep identity (λ a. raw 32)) (λ a. raw 32)) (λ a. uint 8))
-    (λ p. record { identity = p .0 .0 .0; «old_descriptor_digest» = p .0 .0 .1; «candidate_key_digest» = p .0 .1; «admission_generation» = p .1 })
-    (λ s. (((s .identity, s .«old_descriptor_digest»), s .«candidate_key_digest»), s .«admission_generation»)) (λ a g. refl)
+    via (dep (dep (dep (raw 32) (λ a. identity)) (λ a. raw 32)) (λ a. raw 32))
+    (λ p. record { «cluster_instance» = p .0 .0 .0; identity = p .0 .0 .1; «old_descriptor_digest» = p .0 .1; «candidate_key_digest» = p .1 })
+    (λ s. (((s .«cluster_instance», s .identity), s .«old_descriptor_digest»), s .«candidate_key_digest»)) (λ a g. refl)
 
--- the names, and the key that signs
+-- the generation of the admission, the names, and the key that signs
 unfoldable pub claimsNames : Codec ClaimsNames
 claimsNames =
-    via (dep (dep spiffeId (λ a. spiffeId)) (λ a. raw 32))
-    (λ p. record { «candidate_spiffe_id» = p .0 .0; «controller_spiffe_id» = p .0 .1; «signing_key_digest» = p .1 })
-    (λ n. ((n .«candidate_spiffe_id», n .«controller_spiffe_id»), n .«signing_key_digest»)) (λ a g. refl)
+    via (dep (dep (dep (uint 8) (λ a. spiffeId)) (λ a. spiffeId)) (λ a. raw 32))
+    (λ p. record { «admission_generation» = p .0 .0 .0; «candidate_spiffe_id» = p .0 .0 .1; «controller_spiffe_id» = p .0 .1; «signing_key_digest» = p .1 })
+    (λ n. (((n .«admission_generation», n .«candidate_spiffe_id»), n .«controller_spiffe_id»), n .«signing_key_digest»)) (λ a g. refl)
 
 unfoldable pub times : Codec Times
 times =
@@ -202,18 +203,23 @@ times =
     (λ p. record { «observation_start_ms» = p .0 .0 .0; «decision_ms» = p .0 .0 .1; «issued_ms» = p .0 .1; «expires_ms» = p .1 })
     (λ t. (((t .«observation_start_ms», t .«decision_ms»), t .«issued_ms»), t .«expires_ms»)) (λ a g. refl)
 
--- the reason, its policy, the times, the signature
+-- the reason, its policy, the times, and the signature
 unfoldable pub claimsEnd : Codec ClaimsEnd
 claimsEnd =
-    via (dep (dep (dep (choice 1 2) (λ a. raw 32)) (λ a. times)) (λ a. raw 64))
+    via (dep (dep (dep (choice storageLost timeBoundLoss) (λ a. raw 32)) (λ a. times)) (λ a. raw 64))
     (λ p. record { reason = p .0 .0 .0; «policy_digest» = p .0 .0 .1; times = p .0 .1; signature = p .1 })
     (λ e. (((e .reason, e .«policy_digest»), e .times), e .signature)) (λ a g. refl)
 
+-- all of it
 unfoldable pub claims : Codec LostVoterAttestationV1
 claims =
     via (dep (dep (dep claimsRequest (λ a. claimsSlot)) (λ a. claimsNames)) (λ a. claimsEnd))
     (λ p. attestationOf (p .0 .0 .0) (p .0 .0 .1) (p .0 .1) (p .1))
     (λ a. (((claimsRequestOf a, claimsSlotOf a), claimsNamesOf a), claimsEndOf a)) (λ a g. refl)
+
+-- `MAX_LOST_VOTER_ATTESTATION_BYTES`
+abbrev pub maxAttestationBytes : ℕ
+maxAttestationBytes = 8192
 
 -- The rule of validation.rs is refused by 6 as bytes left over are, so it may come before them.
 unfoldable pub attestation : Codec LostVoterAttestationV1
@@ -240,12 +246,12 @@ evidence =
 
 unfoldable pub change : Codec Change
 change =
-    via (dep (dep configuration (λ a. configuration)) (λ a. choice 0 6))
+    via (dep (dep configuration (λ a. configuration)) (λ a. choice prepared uniform))
     (λ p. record { predecessor = p .0 .0; successor = p .0 .1; phase = p .1 }) (λ c. ((c .predecessor, c .successor), c .phase)) (λ a g. refl)
 
 unfoldable pub replacement : Codec VoterReplacementRecord
 replacement =
-    via (dep (dep (dep (uint 8) (λ a. boxed attestation 8192)) (λ a. change)) (λ a. evidence))
+    via (dep (dep (dep (uint 8) (λ a. boxed attestation maxAttestationBytes)) (λ a. change)) (λ a. evidence))
     (λ p. replacementOf (p .0 .0 .0) (p .0 .0 .1) (p .0 .1) (p .1))
     (λ r. (((r .«expected_revision», r .attestation), changeOf r), r .evidence)) (λ a g. refl)
 

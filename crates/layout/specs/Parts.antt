@@ -41,20 +41,20 @@ unfoldable pub blankSlotMember : SlotMember
 blankSlotMember = record { member = blankVoterSlotMember; «retired_through» = 0 }
 
 unfoldable pub blankClaimsRequest : ClaimsRequest
-blankClaimsRequest = record { «request_id» = zeros 16; «request_digest» = zeros 32; «cluster_instance» = zeros 32 }
+blankClaimsRequest = record { «request_id» = zeros 16; «request_digest» = zeros 32 }
 
 unfoldable pub blankClaimsSlot : ClaimsSlot
 blankClaimsSlot =
     record {
+      «cluster_instance» = zeros 32;
       identity = blankVoterSlotIdentity;
       «old_descriptor_digest» = zeros 32;
       «candidate_key_digest» = zeros 32;
-      «admission_generation» = 0;
     }
 
 unfoldable pub blankClaimsNames : ClaimsNames
 blankClaimsNames =
-    record { «candidate_spiffe_id» = blankSpiffeId; «controller_spiffe_id» = blankSpiffeId; «signing_key_digest» = zeros 32 }
+    record { «admission_generation» = 0; «candidate_spiffe_id» = blankSpiffeId; «controller_spiffe_id» = blankSpiffeId; «signing_key_digest» = zeros 32 }
 
 unfoldable pub blankTimes : Times
 blankTimes = record { «observation_start_ms» = 0; «decision_ms» = 0; «issued_ms» = 0; «expires_ms» = 0 }
@@ -129,12 +129,12 @@ attestationOf r s n e =
     record {
       «request_id» = r .«request_id»;
       «request_digest» = r .«request_digest»;
-      «cluster_instance» = r .«cluster_instance»;
+      «cluster_instance» = s .«cluster_instance»;
       slot = s .identity .slot;
       «expected_incarnation» = s .identity .incarnation;
       «old_descriptor_digest» = s .«old_descriptor_digest»;
       «candidate_key_digest» = s .«candidate_key_digest»;
-      «admission_generation» = s .«admission_generation»;
+      «admission_generation» = n .«admission_generation»;
       «candidate_spiffe_id» = n .«candidate_spiffe_id»;
       «controller_spiffe_id» = n .«controller_spiffe_id»;
       «signing_key_digest» = n .«signing_key_digest»;
@@ -149,20 +149,21 @@ attestationOf r s n e =
 
 abbrev pub claimsRequestOf : LostVoterAttestationV1 → ClaimsRequest
 claimsRequestOf a =
-    record { «request_id» = a .«request_id»; «request_digest» = a .«request_digest»; «cluster_instance» = a .«cluster_instance» }
+    record { «request_id» = a .«request_id»; «request_digest» = a .«request_digest» }
 
 abbrev pub claimsSlotOf : LostVoterAttestationV1 → ClaimsSlot
 claimsSlotOf a =
     record {
+      «cluster_instance» = a .«cluster_instance»;
       identity = record { slot = a .slot; incarnation = a .«expected_incarnation» };
       «old_descriptor_digest» = a .«old_descriptor_digest»;
       «candidate_key_digest» = a .«candidate_key_digest»;
-      «admission_generation» = a .«admission_generation»;
     }
 
 abbrev pub claimsNamesOf : LostVoterAttestationV1 → ClaimsNames
 claimsNamesOf a =
     record {
+      «admission_generation» = a .«admission_generation»;
       «candidate_spiffe_id» = a .«candidate_spiffe_id»;
       «controller_spiffe_id» = a .«controller_spiffe_id»;
       «signing_key_digest» = a .«signing_key_digest»;

@@ -43,11 +43,12 @@ abbrev pub report : Reading → Res (Unit {0})
 report (reading.To n) = ok tt n
 report (reading.Refused a) = no (numberOf a)
 
--- the report of a reading, and its value, or the blank beside a refusal
+-- the report of a reading, and its value, or the blank beside a refusal; of a writing, and the buffer, as it was beside a refusal
 unfoldable pub outcome : {A : Type 0} → A → Res A → Res (Unit {0}) × A
 outcome blank (ok a n) = (ok tt n, a)
 outcome blank (no k) = (no k, blank)
 
+-- the refusal; of what was not refused, which nobody asks, some refusal (this and each `why..` below)
 abbrev pub whyOf : Reading → Answer
 whyOf (reading.To n) = InvalidRecord
 whyOf (reading.Refused a) = a

@@ -52,29 +52,35 @@ pub struct ThreeCuts {
     pub third: OptionalLogId,
 }
 
-// The four groups of an attestation: what is asked,
+// Most bytes of an attestation.
+pub const MAX_LOST_VOTER_ATTESTATION_BYTES: usize = 8192;
+
+// The version of a table and of an attestation.
+pub const VERSION: u64 = 1;
+
+// The groups of an attestation. In front its request, and the digest of the claims behind it:
 pub struct ClaimsRequest {
     pub request_id: ConsensusRequestId,
     pub request_digest: [u8; 32],
-    pub cluster_instance: ConsensusClusterId,
 }
 
 // of which slot and for which candidate,
 pub struct ClaimsSlot {
+    pub cluster_instance: ConsensusClusterId,
     pub identity: VoterSlotIdentity,
     pub old_descriptor_digest: [u8; 32],
     pub candidate_key_digest: [u8; 32],
-    pub admission_generation: u64,
 }
 
-// by whom,
+// who is admitted, and by whom,
 pub struct ClaimsNames {
+    pub admission_generation: u64,
     pub candidate_spiffe_id: SpiffeId,
     pub controller_spiffe_id: SpiffeId,
     pub signing_key_digest: [u8; 32],
 }
 
-// and why and when.
+// and why and when; last the signature.
 pub struct ClaimsEnd {
     pub reason: u8,
     pub policy_digest: [u8; 32],
@@ -142,7 +148,6 @@ pub fn blank_claims_request() -> ClaimsRequest
     ClaimsRequest {
         request_id: [0; 16],
         request_digest: [0; 32],
-        cluster_instance: [0; 32],
     }
 }
 
@@ -151,10 +156,10 @@ pub fn blank_claims_slot() -> ClaimsSlot
 {
     let identity = blank_voter_slot_identity();
     ClaimsSlot {
+        cluster_instance: [0; 32],
         identity,
         old_descriptor_digest: [0; 32],
         candidate_key_digest: [0; 32],
-        admission_generation: 0,
     }
 }
 
@@ -163,6 +168,7 @@ pub fn blank_claims_names() -> ClaimsNames
 {
     let spiffe_id = blank_spiffe_id();
     ClaimsNames {
+        admission_generation: 0,
         candidate_spiffe_id: spiffe_id,
         controller_spiffe_id: spiffe_id,
         signing_key_digest: [0; 32],
@@ -244,7 +250,7 @@ pub fn result_of(
     }
 }
 
-// An attestation of its four groups.
+// An attestation of its groups.
 pub fn attestation_of(
     request: ClaimsRequest,
     slot: ClaimsSlot,
@@ -255,7 +261,7 @@ pub fn attestation_of(
 {
     let request_id = request.request_id;
     let request_digest = request.request_digest;
-    let cluster_instance = request.cluster_instance;
+    let cluster_instance = slot.cluster_instance;
     let old_descriptor_digest = slot.old_descriptor_digest;
     let candidate_key_digest = slot.candidate_key_digest;
     let candidate_spiffe_id = names.candidate_spiffe_id;
@@ -271,7 +277,7 @@ pub fn attestation_of(
         expected_incarnation: slot.identity.incarnation,
         old_descriptor_digest,
         candidate_key_digest,
-        admission_generation: slot.admission_generation,
+        admission_generation: names.admission_generation,
         candidate_spiffe_id,
         controller_spiffe_id,
         signing_key_digest,

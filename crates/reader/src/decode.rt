@@ -36,6 +36,7 @@ use layout::parts::ClaimsEnd;
 use layout::parts::ClaimsNames;
 use layout::parts::ClaimsRequest;
 use layout::parts::ClaimsSlot;
+use layout::parts::MAX_LOST_VOTER_ATTESTATION_BYTES;
 use layout::parts::ResultHead;
 use layout::parts::SlotMember;
 use layout::parts::TableHead;
@@ -414,7 +415,7 @@ fn read_slots(bytes: &[u8], count: usize) -> SlotsRead
     }
 }
 
-// The four groups of an attestation.
+// The groups of an attestation.
 pub fn read_claims_request(bytes: &[u8]) -> ClaimsRequestRead
     ensures { λ r. ⌜ (report (r .answer), r .value) ≡ outcome blankClaimsRequest (claimsRequest .dec (now (bytes .entry))) ⌝ }
 {
@@ -435,19 +436,11 @@ pub fn read_claims_request(bytes: &[u8]) -> ClaimsRequestRead
         return refused_claims_request(why(request_digest_to));
     };
     let request_digest = request_digest_read.value;
-    let at = at + n;
-    let cluster_instance_read = read_array32(&bytes[at..]);
-    let cluster_instance_to = cluster_instance_read.answer;
-    let Reading::To(n) = cluster_instance_to else {
-        return refused_claims_request(why(cluster_instance_to));
-    };
-    let cluster_instance = cluster_instance_read.value;
     ClaimsRequestRead {
         answer: Reading::To(at + n),
         value: ClaimsRequest {
             request_id,
             request_digest,
-            cluster_instance,
         },
     }
 }
@@ -455,10 +448,17 @@ pub fn read_claims_request(bytes: &[u8]) -> ClaimsRequestRead
 pub fn read_claims_slot(bytes: &[u8]) -> ClaimsSlotRead
     ensures { λ r. ⌜ (report (r .answer), r .value) ≡ outcome blankClaimsSlot (claimsSlot .dec (now (bytes .entry))) ⌝ }
 {
-    let identity_read = read_identity(bytes);
-    let IdentityRead::Read(identity, at) = identity_read else {
+    let cluster_instance_read = read_array32(bytes);
+    let cluster_instance_to = cluster_instance_read.answer;
+    let Reading::To(at) = cluster_instance_to else {
+        return refused_claims_slot(why(cluster_instance_to));
+    };
+    let cluster_instance = cluster_instance_read.value;
+    let identity_read = read_identity(&bytes[at..]);
+    let IdentityRead::Read(identity, n) = identity_read else {
         return refused_claims_slot(why_identity(identity_read));
     };
+    let at = at + n;
     let old_descriptor_digest_read = read_array32(&bytes[at..]);
     let old_descriptor_digest_to = old_descriptor_digest_read.answer;
     let Reading::To(n) = old_descriptor_digest_to else {
@@ -472,18 +472,13 @@ pub fn read_claims_slot(bytes: &[u8]) -> ClaimsSlotRead
         return refused_claims_slot(why(candidate_key_digest_to));
     };
     let candidate_key_digest = candidate_key_digest_read.value;
-    let at = at + n;
-    let admission_generation_read = read_u64(&bytes[at..]);
-    let U64Read::Read(admission_generation, n) = admission_generation_read else {
-        return refused_claims_slot(why_u64(admission_generation_read));
-    };
     ClaimsSlotRead {
         answer: Reading::To(at + n),
         value: ClaimsSlot {
+            cluster_instance,
             identity,
             old_descriptor_digest,
             candidate_key_digest,
-            admission_generation,
         },
     }
 }
@@ -491,12 +486,17 @@ pub fn read_claims_slot(bytes: &[u8]) -> ClaimsSlotRead
 pub fn read_claims_names(bytes: &[u8]) -> ClaimsNamesRead
     ensures { λ r. ⌜ (report (r .answer), r .value) ≡ outcome blankClaimsNames (claimsNames .dec (now (bytes .entry))) ⌝ }
 {
-    let candidate_spiffe_id_read = read_spiffe_id(bytes);
+    let admission_generation_read = read_u64(bytes);
+    let U64Read::Read(admission_generation, at) = admission_generation_read else {
+        return refused_claims_names(why_u64(admission_generation_read));
+    };
+    let candidate_spiffe_id_read = read_spiffe_id(&bytes[at..]);
     let candidate_spiffe_id_to = candidate_spiffe_id_read.answer;
-    let Reading::To(at) = candidate_spiffe_id_to else {
+    let Reading::To(n) = candidate_spiffe_id_to else {
         return refused_claims_names(why(candidate_spiffe_id_to));
     };
     let candidate_spiffe_id = candidate_spiffe_id_read.value;
+    let at = at + n;
     let controller_spiffe_id_read = read_spiffe_id(&bytes[at..]);
     let controller_spiffe_id_to = controller_spiffe_id_read.answer;
     let Reading::To(n) = controller_spiffe_id_to else {
@@ -513,6 +513,7 @@ pub fn read_claims_names(bytes: &[u8]) -> ClaimsNamesRead
     ClaimsNamesRead {
         answer: Reading::To(at + n),
         value: ClaimsNames {
+            admission_generation,
             candidate_spiffe_id,
             controller_spiffe_id,
             signing_key_digest,
@@ -612,7 +613,7 @@ pub fn read_whole_attestation(bytes: &[u8]) -> AttestationRead
 fn read_boxed_attestation(bytes: &[u8]) -> AttestationRead
     ensures { λ r. ⌜ (report (r .answer), r .value) ≡ outcome blankLostVoterAttestationV1 (boxed attestation 8192 .dec (now (bytes .entry))) ⌝ }
 {
-    let size = read_sized(bytes, 8192);
+    let size = read_sized(bytes, MAX_LOST_VOTER_ATTESTATION_BYTES);
     let SizedRead::Read(len) = size else {
         return refused_attestation(why_sized(size));
     };

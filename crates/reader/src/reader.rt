@@ -20,6 +20,7 @@ use identity::identity::validate_voter_incarnation;
 use identity::text::is_utf8;
 use layout::parts::ThreeCuts;
 use layout::parts::Times;
+use layout::parts::VERSION;
 use layout::put::put_bytes;
 use layout::reading::Array16Read;
 use layout::reading::Array32Read;
@@ -54,9 +55,6 @@ use records::records::SnapshotId;
 use records::records::SpiffeId;
 use records::records::VoterSlotLogId;
 use records::validation::is_valid_count;
-
-// The version of a table and of an attestation.
-const VERSION: u64 = 1;
 
 // A number of so many bytes, the highest first.
 fn read_be(bytes: &[u8], width: usize) -> U64Read

@@ -93,10 +93,11 @@ retains new old oldPhase =
     && ((not (old .«has_snapshot») || (new .«has_snapshot» && sameVoterSnapshotEvidence (new .snapshot) (old .snapshot)))
     && (retainsMarker (new .«caught_up») (old .«caught_up») oldPhase && retainsCuts new old))
 
--- `VoterReplacementEvidence::latest`: of two cuts of one index the earlier in the order of the evidence
+-- of two cuts the one of the higher index; of one index the first
 unfoldable pub laterOf : VoterSlotLogId → OptionalLogId → VoterSlotLogId
 laterOf latest stage = cond (stage .«is_some» && ltb (latest .index) (stage .cut .index)) (stage .cut) latest
 
+-- `VoterReplacementEvidence::latest`, in the order of the evidence
 unfoldable pub latest : VoterReplacementEvidence → VoterSlotLogId
 latest e =
     laterOf (laterOf (laterOf (laterOf (laterOf (laterOf (laterOf (e .prepare) (snapshotCut e)) (e .learner)) (e .«caught_up»)) (e .continuation)) (e .fence)) (e .joint))

@@ -17,16 +17,17 @@ use Rattle.records.specs.declared.records.OptionalLogId.{OptionalLogId}
 use Rattle.records.specs.declared.records.VoterSlotMember.{VoterSlotMember}
 use Rattle.records.specs.declared.records.VoterReplacementResult.{VoterReplacementResult}
 use Rattle.records.specs.declared.records.VoterSlotRecord.{VoterSlotRecord}
+use Rattle.records.specs.declared.records.VoterSnapshotEvidence.{VoterSnapshotEvidence}
 use Rattle.records.specs.declared.records.VoterConfiguration.{VoterConfiguration}
 use Rattle.records.specs.declared.records.LostVoterAttestationV1.{LostVoterAttestationV1}
 use Rattle.records.specs.declared.records.VoterReplacementEvidence.{VoterReplacementEvidence}
 use Rattle.records.specs.declared.records.VoterReplacementRecord.{VoterReplacementRecord}
 use Rattle.records.specs.declared.records.VoterSlotTable.{VoterSlotTable}
 
--- "2,048 or 256 bytes and a length, zero behind it"; a Rust String is UTF-8
 abbrev pub isZero : ℕ → Bool
 isZero b = eqb b 0
 
+-- "2,048 or 256 bytes and a length, zero behind it"; a Rust String is UTF-8
 unfoldable pub isText : ℕ → ℕ → List ℕ → Bool
 isText most len bytes = leb len most && (isUtf8 (take len bytes) && all isZero (drop len bytes))
 
@@ -74,8 +75,11 @@ representableAttestation a =
     && (representableSpiffeId (a .«controller_spiffe_id»)
     && (leb storageLost (a .reason) && leb (a .reason) timeBoundLoss))))
 
+abbrev pub representableSnapshot : VoterSnapshotEvidence → Bool
+representableSnapshot s = representableSnapshotId (s .«snapshot_id»)
+
 abbrev pub snapshotPart : VoterReplacementEvidence → Bool
-snapshotPart e = cond (e .«has_snapshot») (representableSnapshotId (e .snapshot .«snapshot_id»)) (sameVoterSnapshotEvidence (e .snapshot) blankVoterSnapshotEvidence)
+snapshotPart e = cond (e .«has_snapshot») (representableSnapshot (e .snapshot)) (sameVoterSnapshotEvidence (e .snapshot) blankVoterSnapshotEvidence)
 
 unfoldable pub representableEvidence : VoterReplacementEvidence → Bool
 representableEvidence e =

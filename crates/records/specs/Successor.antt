@@ -70,6 +70,8 @@ slotIndex t slot = firstFrom (λ i. eqb (slotAt t i .member .identity .slot) slo
 abbrev pub orRegression : Bool → Answer → Answer
 orRegression kept next = cond kept next Regression
 
+-- The request that was open is open no more: its slot has the receipt. (3 as in the Rust, which asks for the next incarnation here; an old table
+-- that is valid has none of 2^47 attested, so 3 does not come out.)
 unfoldable pub endedSucceeds : VoterSlotTable → VoterReplacementRecord → Answer
 endedSucceeds new old =
     let s = slotAt new (slotIndex new (old .attestation .slot)) in

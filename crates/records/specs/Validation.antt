@@ -39,10 +39,11 @@ validConfiguration c =
     && (allBelow (λ i. ltb 0 (memberAt c i .«admission_generation»)) (c .count)
     && allBelow (λ i. ltb (memberAt c i .identity .slot) (memberAt c (i + 1) .identity .slot)) (c .count - 1))
 
--- `LostVoterAttestationV1::validate`
+-- the text of a name, without the zeros behind it
 abbrev pub textOf : SpiffeId → List ℕ
 textOf s = take (s .len) (s .bytes)
 
+-- `LostVoterAttestationV1::validate`
 unfoldable pub validAttestation : LostVoterAttestationV1 → Bool
 validAttestation a =
     isName (textOf (a .«candidate_spiffe_id»))

@@ -8,7 +8,7 @@ ghost use lib.Dec.{leb};
 ghost use Rattle.identity.specs.Identity.{isVoterIncarnation};
 ghost use Rattle.identity.specs.Text.{all, isUtf8};
 ghost use Rattle.records.specs.Records.{allBelow, slotAt, memberAt};
-ghost use Rattle.records.specs.Representable.{isZero, representableSpiffeId, representableSnapshotId, representableOptionalLogId, representableMember, representableResult, memberPlace, slotPlace, snapshotPart, representableSlotRecord, representableConfiguration, representableAttestation, representableEvidence, representableReplacement, representable};
+ghost use Rattle.records.specs.Representable.{isZero, representableSpiffeId, representableSnapshotId, representableOptionalLogId, representableMember, representableResult, memberPlace, slotPlace, representableSnapshot, snapshotPart, representableSlotRecord, representableConfiguration, representableAttestation, representableEvidence, representableReplacement, representable};
 use crate::records::LostVoterAttestationV1;
 use crate::records::MAX_FIXED_VOTER_SLOTS;
 use crate::records::OptionalLogId;
@@ -26,6 +26,7 @@ use crate::records::VoterReplacementResult;
 use crate::records::VoterSlotMember;
 use crate::records::VoterSlotRecord;
 use crate::records::VoterSlotTable;
+use crate::records::VoterSnapshotEvidence;
 use crate::zero::is_blank_voter_replacement_record;
 use crate::zero::is_blank_voter_replacement_result;
 use crate::zero::is_blank_voter_slot_log_id;
@@ -246,10 +247,17 @@ fn is_snapshot_part(evidence: VoterReplacementEvidence) -> bool
 {
     let snapshot = evidence.snapshot;
     if evidence.has_snapshot {
-        let snapshot_id = snapshot.snapshot_id;
-        return is_representable_snapshot_id(snapshot_id);
+        return is_representable_snapshot(snapshot);
     }
     is_blank_voter_snapshot_evidence(snapshot)
+}
+
+// Whether the Rust types can hold the snapshot's evidence.
+pub fn is_representable_snapshot(snapshot: VoterSnapshotEvidence) -> bool
+    ensures { λ r. ⌜ r ≡ representableSnapshot snapshot ⌝ }
+{
+    let snapshot_id = snapshot.snapshot_id;
+    is_representable_snapshot_id(snapshot_id)
 }
 
 // Whether the cut is there, or blank.

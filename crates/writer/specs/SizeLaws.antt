@@ -204,15 +204,15 @@ unfolding version via check
 version-long u = uint-long 2 1
 
 module _ (a : LostVoterAttestationV1) (h : HeldLostVoterAttestationV1 a) where
-  -- version, request id, two digests
-  pub claimsRequest-long : length (claimsRequest .enc (claimsRequestOf a)) ≡ 82
+  -- version, request id, request digest
+  pub claimsRequest-long : length (claimsRequest .enc (claimsRequestOf a)) ≡ 50
   unfolding claimsRequest via dep
-  claimsRequest-long = simp (length-append, version-long, raw-same, h .«request_id» .count, h .«request_digest» .count, h .«cluster_instance» .count)
+  claimsRequest-long = simp (length-append, version-long, raw-same, h .«request_id» .count, h .«request_digest» .count)
 
-  -- identity, two digests, generation
-  pub claimsSlot-long : length (claimsSlot .enc (claimsSlotOf a)) ≡ 82
+  -- installation, identity, two digests
+  pub claimsSlot-long : length (claimsSlot .enc (claimsSlotOf a)) ≡ 106
   unfolding claimsSlot via dep
-  claimsSlot-long = simp (length-append, identity-long, uint-long, raw-same, h .«old_descriptor_digest» .count, h .«candidate_key_digest» .count)
+  claimsSlot-long = simp (length-append, identity-long, raw-same, h .«cluster_instance» .count, h .«old_descriptor_digest» .count, h .«candidate_key_digest» .count)
 
   -- reason, policy, four times, signature
   pub claimsEnd-long : length (claimsEnd .enc (claimsEndOf a)) ≡ 129
@@ -220,11 +220,11 @@ module _ (a : LostVoterAttestationV1) (h : HeldLostVoterAttestationV1 a) where
   claimsEnd-long = simp (length-append, uint-long, raw-same, h .«policy_digest» .count, h .signature .count)
 
   module _ (k : a .«candidate_spiffe_id» .len ≤ 2048) (l : a .«controller_spiffe_id» .len ≤ 2048) where
-    -- both names, and the key that signs
-    pub claimsNames-long : length (claimsNames .enc (claimsNamesOf a)) ≡ 36 + a .«candidate_spiffe_id» .len + a .«controller_spiffe_id» .len
+    -- generation, both names, and the key that signs
+    pub claimsNames-long : length (claimsNames .enc (claimsNamesOf a)) ≡ 44 + a .«candidate_spiffe_id» .len + a .«controller_spiffe_id» .len
     unfolding claimsNames via dep
     claimsNames-long =
-        simp (length-append, spiffeId-long (a .«candidate_spiffe_id») (h .«candidate_spiffe_id») k, spiffeId-long (a .«controller_spiffe_id») (h .«controller_spiffe_id») l, raw-same, h .«signing_key_digest» .count)
+        simp (length-append, uint-long, spiffeId-long (a .«candidate_spiffe_id») (h .«candidate_spiffe_id») k, spiffeId-long (a .«controller_spiffe_id») (h .«controller_spiffe_id») l, raw-same, h .«signing_key_digest» .count)
         (omega arith)
 
     -- all four groups: 329, and both names

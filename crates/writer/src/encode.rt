@@ -14,6 +14,7 @@ ghost use Rattle.layout.specs.Parts.{ReplacementFits, TableFits, bindingOf, res
 ghost use Rattle.layout.specs.Format.{identity, logId, optionalLogId, threeCuts, binding, member, members, configuration, resultHead, result, slotMember, slot, slots, spiffeId, snapshotId, claimsRequest, claimsSlot, claimsNames, times, claimsEnd, claims, attestation, snapshot, evidence, change, replacement, head, tableHead, table};
 use identity::identity::VoterSlotIdentity;
 use layout::parts::ThreeCuts;
+use layout::parts::VERSION;
 use layout::parts::early_cuts;
 use layout::parts::late_cuts;
 use layout::put::put_be;
@@ -210,35 +211,35 @@ fn put_snapshot_id(buffer: &mut [u8], at: usize, id: SnapshotId) -> usize
     put_bytes(buffer, at, &bytes[..len])
 }
 
-// `unsigned_claims`, and the signature: in four groups.
+// `unsigned_claims` and the signature, in four groups.
 fn put_claims_request(buffer: &mut [u8], at: usize, a: LostVoterAttestationV1) -> usize
     requires { ⌜ at + length (claimsRequest .enc (claimsRequestOf a)) ≤ length (now buffer) ⌝ }
     ensures { λ r. ⌜ Put (claimsRequest .enc (claimsRequestOf a)) at (now (buffer .entry)) (now (buffer .exit)) r ⌝ }
 {
-    let at = put_be(buffer, at, 2, 1);
+    let at = put_be(buffer, at, 2, VERSION);
     let at = put_bytes(buffer, at, &a.request_id);
-    let at = put_bytes(buffer, at, &a.request_digest);
-    put_bytes(buffer, at, &a.cluster_instance)
+    put_bytes(buffer, at, &a.request_digest)
 }
 
 fn put_claims_slot(buffer: &mut [u8], at: usize, a: LostVoterAttestationV1) -> usize
     requires { ⌜ at + length (claimsSlot .enc (claimsSlotOf a)) ≤ length (now buffer) ⌝ }
     ensures { λ r. ⌜ Put (claimsSlot .enc (claimsSlotOf a)) at (now (buffer .entry)) (now (buffer .exit)) r ⌝ }
 {
+    let at = put_bytes(buffer, at, &a.cluster_instance);
     let id = VoterSlotIdentity {
         slot: a.slot,
         incarnation: a.expected_incarnation,
     };
     let at = put_identity(buffer, at, id);
     let at = put_bytes(buffer, at, &a.old_descriptor_digest);
-    let at = put_bytes(buffer, at, &a.candidate_key_digest);
-    put_be(buffer, at, 8, a.admission_generation)
+    put_bytes(buffer, at, &a.candidate_key_digest)
 }
 
 fn put_claims_names(buffer: &mut [u8], at: usize, a: LostVoterAttestationV1) -> usize
     requires { ⌜ (at + length (claimsNames .enc (claimsNamesOf a)) ≤ length (now buffer)) × ((a .«candidate_spiffe_id» .len ≤ 2048) × (a .«controller_spiffe_id» .len ≤ 2048)) ⌝ }
     ensures { λ r. ⌜ Put (claimsNames .enc (claimsNamesOf a)) at (now (buffer .entry)) (now (buffer .exit)) r ⌝ }
 {
+    let at = put_be(buffer, at, 8, a.admission_generation);
     let candidate = a.candidate_spiffe_id;
     let at = put_spiffe_id(buffer, at, candidate);
     let controller = a.controller_spiffe_id;
@@ -392,7 +393,7 @@ fn put_head(buffer: &mut [u8], at: usize) -> usize
     ensures { λ r. ⌜ Put (head .enc tt) at (now (buffer .entry)) (now (buffer .exit)) r ⌝ }
 {
     let at = put_bytes(buffer, at, b"OPVI");
-    put_be(buffer, at, 2, 1)
+    put_be(buffer, at, 2, VERSION)
 }
 
 fn put_table_head(buffer: &mut [u8], at: usize, t: VoterSlotTable) -> usize

@@ -14,39 +14,30 @@ Inv-loop bytes turns refused₀ i₀ refused i = turns < 2 ^ 64
 abbrev μ-loop : tie.MeasureT-loop
 μ-loop bytes turns refused₀ i₀ refused i = turns - i
 
--- src/lib.rt:43:5
 loop-holds : tie.Need-loop-holds Inv-loop μ-loop
 loop-holds c = omega arith
 
--- src/lib.rt:45:42
 sub-zeros : tie.Need-sub-zeros Inv-loop μ-loop
 sub-zeros c = search needs
 
--- src/lib.rt:45:42
 part-zeros-start : tie.Need-part-zeros-start Inv-loop μ-loop
 part-zeros-start c = omega arith
 
--- src/lib.rt:45:42
 part-zeros-end : tie.Need-part-zeros-end Inv-loop μ-loop
 part-zeros-end c = omega arith
 
--- src/lib.rt:45:36
 zeros-requires : tie.Need-zeros-requires Inv-loop μ-loop
 zeros-requires c κs = search needs
 
--- src/lib.rt:48:9
 add-i : tie.Need-add-i Inv-loop μ-loop
 add-i c = omega arith
 
--- src/lib.rt:43:5
 loop-less : tie.Need-loop-less Inv-loop μ-loop
 loop-less c = omega arith
 
--- src/lib.rt:43:5
 loop-again : tie.Need-loop-again Inv-loop μ-loop
 loop-again c = omega arith
 
--- src/lib.rt:39:1
 returns : tie.Need-returns Inv-loop μ-loop
 returns c = search needs
 

@@ -4,7 +4,8 @@ use native.Mathlib.Omega.{arith}
 use Rattle.format.specs.Res.Res.{no}
 use Rattle.identity.specs.Answer.{numberOf}
 use Rattle.records.specs.Blank.{blankLostVoterAttestationV1}
-use Rattle.codec.specs.Codec.{decoded, decodeLostVoterAttestation, maxAttestationBytes}
+use Rattle.codec.specs.Codec.{decoded, decodeLostVoterAttestation}
+use Rattle.layout.specs.Format.{maxAttestationBytes}
 use Rattle.codec.specs.EntryLaws.{bounded-in, bounded-out, decoded-no, decoded-ok}
 use Rattle.layout.specs.Reading.{whyOf}
 use Rattle.layout.specs.ReadingLaws.{told, told-not}
@@ -12,35 +13,28 @@ use borrow.Author.Needs.{needs}
 use Rattle.codec.proofs.codec.decode_lost_voter_attestation.Statement.{statement}
 use Rattle.codec.proofs.codec.decode_lost_voter_attestation.Tie as tie
 
--- src/codec.rt:77:9
 refused-attestation-requires : tie.Need-refused-attestation-requires
 refused-attestation-requires c κs = search needs
 
--- src/codec.rt:77:9
 returns : tie.Need-returns
 unfolding decodeLostVoterAttestation
 returns c = decoded-no _ (c .refused-attestation .ensures) (bounded-out maxAttestationBytes _ _ (c .before .if1 .taken))
 
--- src/codec.rt:79:9
 read-whole-attestation-requires : tie.Need-read-whole-attestation-requires
 read-whole-attestation-requires c κs = search needs
 
 enum-told : tie.Need-enum-told
 enum-told c = search needs
 
--- src/codec.rt:82:36
 enum-told-2 : tie.Need-enum-told-2
 enum-told-2 c = search needs
 
--- src/codec.rt:82:36
 why-requires : tie.Need-why-requires
 why-requires c κs = search needs
 
--- src/codec.rt:82:9
 refused-attestation-requires-2 : tie.Need-refused-attestation-requires-2
 refused-attestation-requires-2 c κs = search needs
 
--- src/codec.rt:82:9
 returns-2 : tie.Need-returns-2
 unfolding decodeLostVoterAttestation
 returns-2 c =
@@ -48,7 +42,6 @@ returns-2 c =
     decoded-no _ (c .refused-attestation2 .ensures ∙ ap (λ a. decoded blankLostVoterAttestationV1 (no (numberOf a))) (c .before .why .ensures ∙ ap whyOf (c .before .before .enum-told2 .given .1)))
     (bounded-in maxAttestationBytes s _ (omega arith) ∙ told-not blankLostVoterAttestationV1 _ (c .before .before .before .before .read-whole-attestation .ensures) (c .before .before .enum-told2 .given .1))
 
--- src/codec.rt:73:1
 returns-3 : tie.Need-returns-3
 unfolding decodeLostVoterAttestation
 returns-3 c =

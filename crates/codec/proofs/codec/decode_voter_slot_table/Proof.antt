@@ -29,67 +29,53 @@ bytes : (c : tie.After-shared-slice-known) → Bytes (c .before .args .bytes .no
 unfolding Bytes
 bytes c i = omega (arith, c .shared-slice-known .given i)
 
--- src/codec.rt:46:9
 refused-table-requires : tie.Need-refused-table-requires
 refused-table-requires c κs = search needs
 
--- src/codec.rt:46:9
 returns : tie.Need-returns
 unfolding decodeVoterSlotTable
 returns c = decoded-no _ (c .refused-table .ensures) (bounded-out maxTableBytes _ _ (c .before .if1 .taken))
 
--- src/codec.rt:48:9
 read-table-requires : tie.Need-read-table-requires
 read-table-requires c κs = search needs
 
--- src/codec.rt:50:21
 enum-known-to : tie.Need-enum-known-to
 enum-known-to c = search needs
 
--- src/codec.rt:51:30
 enum-told : tie.Need-enum-told
 enum-told c = search needs
 
--- src/codec.rt:51:30
 why-requires : tie.Need-why-requires
 why-requires c κs = search needs
 
--- src/codec.rt:51:9
 refused-table-requires-2 : tie.Need-refused-table-requires-2
 refused-table-requires-2 c κs = search needs
 
--- src/codec.rt:51:9
 returns-2 : tie.Need-returns-2
 returns-2 c =
     let s = c .before .before .before .before .before .before .before .args .bytes .now in
     decoded-no _ (c .refused-table2 .ensures ∙ ap (λ a. decoded blankVoterSlotTable (no (numberOf a))) (c .before .why .ensures ∙ ap whyOf (c .before .before .enum-told .given .1)))
     (decode-no s (omega arith) (told-not blankVoterSlotTable _ (c .before .before .before .before .read-table .ensures) (c .before .before .enum-told .given .1)))
 
--- src/codec.rt:54:9
 refused-table-requires-3 : tie.Need-refused-table-requires-3
 refused-table-requires-3 c κs = search needs
 
--- src/codec.rt:54:9
 returns-3 : tie.Need-returns-3
 returns-3 c =
     let s = c .before .before .before .before .before .before .before .before .args .bytes .now in
     decoded-no _ (c .refused-table3 .ensures) (decode-left s (omega arith) (is (c .before .before)) (ne-eqb _ _ (c .before .if2 .taken)))
 
--- src/codec.rt:57:9
 validate-representable-requires : tie.Need-validate-representable-requires
 validate-representable-requires c κs =
     let t = c .before .before .before .before .before .read-table .result .value in
     table-fits t (table-tests t (table .good _ (bytes (c .before .before .before .before .before .before .before)) (is (c .before .before)))) .count
 
--- src/codec.rt:58:9
 accepted-requires : tie.Need-accepted-requires
 accepted-requires c κs = search needs
 
--- src/codec.rt:59:9
 refused-table-requires-4 : tie.Need-refused-table-requires-4
 refused-table-requires-4 c κs = search needs
 
--- src/codec.rt:59:9
 returns-4 : tie.Need-returns-4
 returns-4 c =
     let s = c .before .before .before .before .before .before .before .before .before .before .before .before .args .bytes .now in
@@ -101,7 +87,6 @@ returns-4 c =
     ∙ gate-refused (numberOf (validity t)) t n (ap isAccepted (sym v) ∙ failed (c .before .before .accepted .ensures) (c .before .if3 .taken))
     ∙ ap (λ a. no (numberOf a)) (sym v))
 
--- src/codec.rt:42:1
 returns-5 : tie.Need-returns-5
 unfolding gate
 returns-5 c =

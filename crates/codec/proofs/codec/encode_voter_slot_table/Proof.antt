@@ -29,15 +29,12 @@ valid c = sym (c .before .before .validate-table .ensures) ∙ is-accepted _ (he
 fits : (c : tie.Else1) → TableFits (c .before .before .before .before .args .table)
 fits c = table-fits _ (validate-says _ (valid c) .0)
 
--- src/codec.rt:104:9
 validate-table-requires : tie.Need-validate-table-requires
 validate-table-requires c κs = search needs
 
--- src/codec.rt:105:9
 accepted-requires : tie.Need-accepted-requires
 accepted-requires c κs = search needs
 
--- src/codec.rt:106:9
 returns : tie.Need-returns
 unfolding outcome
 returns c =
@@ -45,11 +42,9 @@ returns c =
     let v = c .before .before .validate-table .ensures in
     ap (λ a. (no (numberOf a), b)) v ∙ ap (outcome b) (sym (encode-refused _ b (ap isAccepted (sym v) ∙ failed (c .before .accepted .ensures) (c .if1 .taken))))
 
--- src/codec.rt:108:23
 table-size-requires : tie.Need-table-size-requires
 table-size-requires c κs = fits c
 
--- src/codec.rt:109:9
 returns-2 : tie.Need-returns-2
 unfolding outcome tableBytes
 returns-2 c =
@@ -57,15 +52,12 @@ returns-2 c =
     let t = c .before .before .before .before .before .before .args .table in
     ap (outcome b) (sym (encode-short t b (valid (c .before .before)) (omega (arith, c .before .table-size .ensures))))
 
--- src/codec.rt:111:17
 put-table-requires : tie.Need-put-table-requires
 put-table-requires c κs = (omega (arith, c .before .before .table-size .ensures), fits (c .before .before .before))
 
--- src/codec.rt:101:1
 same-length : tie.Need-same-length
 same-length c = search needs
 
--- src/codec.rt:101:1
 returns-3 : tie.Need-returns-3
 unfolding tableBytes
 returns-3 c =

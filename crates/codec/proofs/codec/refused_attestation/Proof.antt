@@ -6,11 +6,9 @@ use borrow.Author.Needs.{needs}
 use Rattle.codec.proofs.codec.refused_attestation.Statement.{statement}
 use Rattle.codec.proofs.codec.refused_attestation.Tie as tie
 
--- src/codec.rt:96:22
 blank-lost-voter-attestation-v1-requires : tie.Need-blank-lost-voter-attestation-v1-requires
 blank-lost-voter-attestation-v1-requires c κs = search needs
 
--- src/codec.rt:91:1
 returns : tie.Need-returns
 unfolding decoded
 returns c = ap (λ v. (numberOf (c .before .args .answer), v)) (c .blank-lost-voter-attestation-v1 .ensures)

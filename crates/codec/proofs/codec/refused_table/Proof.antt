@@ -6,11 +6,9 @@ use borrow.Author.Needs.{needs}
 use Rattle.codec.proofs.codec.refused_table.Statement.{statement}
 use Rattle.codec.proofs.codec.refused_table.Tie as tie
 
--- src/codec.rt:69:16
 blank-voter-slot-table-requires : tie.Need-blank-voter-slot-table-requires
 blank-voter-slot-table-requires c κs = search needs
 
--- src/codec.rt:64:1
 returns : tie.Need-returns
 unfolding decoded
 returns c = ap (λ v. (numberOf (c .before .args .answer), v)) (c .blank-voter-slot-table .ensures)

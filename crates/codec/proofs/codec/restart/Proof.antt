@@ -17,31 +17,24 @@ written : (c : tie.After-known-told) → encodeVoterSlotTable (c .before .before
     ≡ ok (c .before .before .before .before .before .encode-voter-slot-table .last .0) (c .before .written .given .0 .0)
 written c = told (c .before .before .before .before .before .before .before .before .args .buffer .now) _ (c .before .before .before .before .before .encode-voter-slot-table .ensures) (c .before .written .given .1)
 
--- src/codec.rt:118:9
 encode-voter-slot-table-requires : tie.Need-encode-voter-slot-table-requires
 encode-voter-slot-table-requires c κs = search needs
 
--- src/codec.rt:119:21
 enum-known-written : tie.Need-enum-known-written
 enum-known-written c = search needs
 
--- src/codec.rt:120:30
 enum-told : tie.Need-enum-told
 enum-told c = search needs
 
--- src/codec.rt:120:30
 why-requires : tie.Need-why-requires
 why-requires c κs = search needs
 
--- src/codec.rt:120:9
 refused-table-requires : tie.Need-refused-table-requires
 refused-table-requires c κs = search needs
 
--- src/codec.rt:120:9
 same-length : tie.Need-same-length
 same-length c = search needs
 
--- src/codec.rt:120:9
 returns : tie.Need-returns
 unfolding restartOutcome
 returns c =
@@ -51,25 +44,20 @@ returns c =
     let p = decoded-no blankVoterSlotTable (c .refused-table .ensures ∙ ap (λ a. decoded blankVoterSlotTable (no (numberOf a))) (c .before .why .ensures ∙ ap whyOf (c .before .before .enum-told .given .1))) (restarted-no t b (told-not b _ w (c .before .before .enum-told .given .1))) in
     λ i. (p i, w i .1)
 
--- src/codec.rt:122:29
 slice-reshare-prefix-decode-voter-slot-table : tie.Need-slice-reshare-prefix-decode-voter-slot-table
 slice-reshare-prefix-decode-voter-slot-table c =
     encode-within (c .before .before .before .before .before .before .before .before .args .table) (c .before .before .before .before .before .before .before .before .args .buffer .now) (written c)
 
--- src/codec.rt:122:29
 slice-aggregate-decode-voter-slot-table : tie.Need-slice-aggregate-decode-voter-slot-table
 slice-aggregate-decode-voter-slot-table c =
     sym (length-take-le _ _ (encode-within (c .before .before .before .before .before .before .before .before .before .args .table) (c .before .before .before .before .before .before .before .before .before .args .buffer .now) (written (c .before))))
 
--- src/codec.rt:122:5
 decode-voter-slot-table-requires : tie.Need-decode-voter-slot-table-requires
 decode-voter-slot-table-requires c κs = search needs
 
--- src/codec.rt:115:1
 same-length-2 : tie.Need-same-length-2
 same-length-2 c = search needs
 
--- src/codec.rt:115:1
 returns-2 : tie.Need-returns-2
 unfolding restartOutcome
 returns-2 c =

@@ -6,11 +6,9 @@ use borrow.Author.Needs.{needs}
 use Rattle.layout.proofs.reading.blank_voter_slot_members.Statement.{statement}
 use Rattle.layout.proofs.reading.blank_voter_slot_members.Tie as tie
 
--- src/reading.rt:620:9
 blank-voter-slot-member-requires : tie.Need-blank-voter-slot-member-requires
 blank-voter-slot-member-requires c κs = search needs
 
--- src/reading.rt:617:1
 returns : tie.Need-returns
 unfolding blankVoterSlotMembers
 returns c = ap (λ x. replicate 9 x) (c .blank-voter-slot-member .ensures)

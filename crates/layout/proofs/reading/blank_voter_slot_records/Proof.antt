@@ -6,11 +6,9 @@ use borrow.Author.Needs.{needs}
 use Rattle.layout.proofs.reading.blank_voter_slot_records.Statement.{statement}
 use Rattle.layout.proofs.reading.blank_voter_slot_records.Tie as tie
 
--- src/reading.rt:627:9
 blank-voter-slot-record-requires : tie.Need-blank-voter-slot-record-requires
 blank-voter-slot-record-requires c κs = search needs
 
--- src/reading.rt:624:1
 returns : tie.Need-returns
 unfolding blankVoterSlotRecords
 returns c = ap (λ x. replicate 9 x) (c .blank-voter-slot-record .ensures)

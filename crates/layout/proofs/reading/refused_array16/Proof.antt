@@ -5,7 +5,6 @@ use mathlib.Core.Path.{refl}
 use Rattle.layout.proofs.reading.refused_array16.Statement.{statement}
 use Rattle.layout.proofs.reading.refused_array16.Tie as tie
 
--- src/reading.rt:362:1
 returns : tie.Need-returns
 unfolding outcome zeros
 returns c = refl

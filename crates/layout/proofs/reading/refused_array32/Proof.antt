@@ -5,7 +5,6 @@ use mathlib.Core.Path.{refl}
 use Rattle.layout.proofs.reading.refused_array32.Statement.{statement}
 use Rattle.layout.proofs.reading.refused_array32.Tie as tie
 
--- src/reading.rt:371:1
 returns : tie.Need-returns
 unfolding outcome zeros
 returns c = refl

@@ -7,11 +7,9 @@ use borrow.Author.Needs.{needs}
 use Rattle.layout.proofs.reading.refused_attestation.Statement.{statement}
 use Rattle.layout.proofs.reading.refused_attestation.Tie as tie
 
--- src/reading.rt:539:16
 blank-lost-voter-attestation-v1-requires : tie.Need-blank-lost-voter-attestation-v1-requires
 blank-lost-voter-attestation-v1-requires c κs = search needs
 
--- src/reading.rt:534:1
 returns : tie.Need-returns
 unfolding outcome
 returns c = ap (λ v. (no (numberOf (c .before .args .answer)), v)) (c .blank-lost-voter-attestation-v1 .ensures)

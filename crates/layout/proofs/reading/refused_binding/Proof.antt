@@ -7,11 +7,9 @@ use borrow.Author.Needs.{needs}
 use Rattle.layout.proofs.reading.refused_binding.Statement.{statement}
 use Rattle.layout.proofs.reading.refused_binding.Tie as tie
 
--- src/reading.rt:412:16
 blank-binding-requires : tie.Need-blank-binding-requires
 blank-binding-requires c κs = search needs
 
--- src/reading.rt:407:1
 returns : tie.Need-returns
 unfolding outcome
 returns c = ap (λ v. (no (numberOf (c .before .args .answer)), v)) (c .blank-binding .ensures)

@@ -7,11 +7,9 @@ use borrow.Author.Needs.{needs}
 use Rattle.layout.proofs.reading.refused_change.Statement.{statement}
 use Rattle.layout.proofs.reading.refused_change.Tie as tie
 
--- src/reading.rt:576:16
 blank-change-requires : tie.Need-blank-change-requires
 blank-change-requires c κs = search needs
 
--- src/reading.rt:571:1
 returns : tie.Need-returns
 unfolding outcome
 returns c = ap (λ v. (no (numberOf (c .before .args .answer)), v)) (c .blank-change .ensures)

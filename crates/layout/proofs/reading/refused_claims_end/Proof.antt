@@ -7,11 +7,9 @@ use borrow.Author.Needs.{needs}
 use Rattle.layout.proofs.reading.refused_claims_end.Statement.{statement}
 use Rattle.layout.proofs.reading.refused_claims_end.Tie as tie
 
--- src/reading.rt:530:16
 blank-claims-end-requires : tie.Need-blank-claims-end-requires
 blank-claims-end-requires c κs = search needs
 
--- src/reading.rt:525:1
 returns : tie.Need-returns
 unfolding outcome
 returns c = ap (λ v. (no (numberOf (c .before .args .answer)), v)) (c .blank-claims-end .ensures)

@@ -7,11 +7,9 @@ use borrow.Author.Needs.{needs}
 use Rattle.layout.proofs.reading.refused_claims_names.Statement.{statement}
 use Rattle.layout.proofs.reading.refused_claims_names.Tie as tie
 
--- src/reading.rt:521:16
 blank-claims-names-requires : tie.Need-blank-claims-names-requires
 blank-claims-names-requires c κs = search needs
 
--- src/reading.rt:516:1
 returns : tie.Need-returns
 unfolding outcome
 returns c = ap (λ v. (no (numberOf (c .before .args .answer)), v)) (c .blank-claims-names .ensures)

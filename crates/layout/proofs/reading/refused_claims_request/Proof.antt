@@ -7,11 +7,9 @@ use borrow.Author.Needs.{needs}
 use Rattle.layout.proofs.reading.refused_claims_request.Statement.{statement}
 use Rattle.layout.proofs.reading.refused_claims_request.Tie as tie
 
--- src/reading.rt:503:16
 blank-claims-request-requires : tie.Need-blank-claims-request-requires
 blank-claims-request-requires c κs = search needs
 
--- src/reading.rt:498:1
 returns : tie.Need-returns
 unfolding outcome
 returns c = ap (λ v. (no (numberOf (c .before .args .answer)), v)) (c .blank-claims-request .ensures)

@@ -7,11 +7,9 @@ use borrow.Author.Needs.{needs}
 use Rattle.layout.proofs.reading.refused_claims_slot.Statement.{statement}
 use Rattle.layout.proofs.reading.refused_claims_slot.Tie as tie
 
--- src/reading.rt:512:16
 blank-claims-slot-requires : tie.Need-blank-claims-slot-requires
 blank-claims-slot-requires c κs = search needs
 
--- src/reading.rt:507:1
 returns : tie.Need-returns
 unfolding outcome
 returns c = ap (λ v. (no (numberOf (c .before .args .answer)), v)) (c .blank-claims-slot .ensures)

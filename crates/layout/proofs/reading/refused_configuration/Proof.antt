@@ -7,11 +7,9 @@ use borrow.Author.Needs.{needs}
 use Rattle.layout.proofs.reading.refused_configuration.Statement.{statement}
 use Rattle.layout.proofs.reading.refused_configuration.Tie as tie
 
--- src/reading.rt:439:16
 blank-voter-configuration-requires : tie.Need-blank-voter-configuration-requires
 blank-voter-configuration-requires c κs = search needs
 
--- src/reading.rt:434:1
 returns : tie.Need-returns
 unfolding outcome
 returns c = ap (λ v. (no (numberOf (c .before .args .answer)), v)) (c .blank-voter-configuration .ensures)

@@ -7,11 +7,9 @@ use borrow.Author.Needs.{needs}
 use Rattle.layout.proofs.reading.refused_evidence.Statement.{statement}
 use Rattle.layout.proofs.reading.refused_evidence.Tie as tie
 
--- src/reading.rt:567:16
 blank-voter-replacement-evidence-requires : tie.Need-blank-voter-replacement-evidence-requires
 blank-voter-replacement-evidence-requires c κs = search needs
 
--- src/reading.rt:562:1
 returns : tie.Need-returns
 unfolding outcome
 returns c = ap (λ v. (no (numberOf (c .before .args .answer)), v)) (c .blank-voter-replacement-evidence .ensures)

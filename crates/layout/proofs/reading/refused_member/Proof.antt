@@ -7,11 +7,9 @@ use borrow.Author.Needs.{needs}
 use Rattle.layout.proofs.reading.refused_member.Statement.{statement}
 use Rattle.layout.proofs.reading.refused_member.Tie as tie
 
--- src/reading.rt:421:16
 blank-voter-slot-member-requires : tie.Need-blank-voter-slot-member-requires
 blank-voter-slot-member-requires c κs = search needs
 
--- src/reading.rt:416:1
 returns : tie.Need-returns
 unfolding outcome
 returns c = ap (λ v. (no (numberOf (c .before .args .answer)), v)) (c .blank-voter-slot-member .ensures)

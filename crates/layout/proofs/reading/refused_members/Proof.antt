@@ -7,11 +7,9 @@ use borrow.Author.Needs.{needs}
 use Rattle.layout.proofs.reading.refused_members.Statement.{statement}
 use Rattle.layout.proofs.reading.refused_members.Tie as tie
 
--- src/reading.rt:430:16
 blank-voter-slot-members-requires : tie.Need-blank-voter-slot-members-requires
 blank-voter-slot-members-requires c κs = search needs
 
--- src/reading.rt:425:1
 returns : tie.Need-returns
 unfolding outcome
 returns c = ap (λ v. (no (numberOf (c .before .args .answer)), v)) (c .blank-voter-slot-members .ensures)

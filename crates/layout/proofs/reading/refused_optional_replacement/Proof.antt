@@ -8,11 +8,9 @@ use borrow.Author.Needs.{needs}
 use Rattle.layout.proofs.reading.refused_optional_replacement.Statement.{statement}
 use Rattle.layout.proofs.reading.refused_optional_replacement.Tie as tie
 
--- src/reading.rt:595:16
 blank-voter-replacement-record-requires : tie.Need-blank-voter-replacement-record-requires
 blank-voter-replacement-record-requires c κs = search needs
 
--- src/reading.rt:589:1
 returns : tie.Need-returns
 unfolding outcome
 returns c = ap (λ v. (no (numberOf (c .before .args .answer)), (false, v))) (c .blank-voter-replacement-record .ensures)

@@ -8,11 +8,9 @@ use borrow.Author.Needs.{needs}
 use Rattle.layout.proofs.reading.refused_optional_result.Statement.{statement}
 use Rattle.layout.proofs.reading.refused_optional_result.Tie as tie
 
--- src/reading.rt:467:16
 blank-voter-replacement-result-requires : tie.Need-blank-voter-replacement-result-requires
 blank-voter-replacement-result-requires c κs = search needs
 
--- src/reading.rt:461:1
 returns : tie.Need-returns
 unfolding outcome
 returns c = ap (λ v. (no (numberOf (c .before .args .answer)), (false, v))) (c .blank-voter-replacement-result .ensures)

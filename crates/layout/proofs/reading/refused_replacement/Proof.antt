@@ -7,11 +7,9 @@ use borrow.Author.Needs.{needs}
 use Rattle.layout.proofs.reading.refused_replacement.Statement.{statement}
 use Rattle.layout.proofs.reading.refused_replacement.Tie as tie
 
--- src/reading.rt:585:16
 blank-voter-replacement-record-requires : tie.Need-blank-voter-replacement-record-requires
 blank-voter-replacement-record-requires c κs = search needs
 
--- src/reading.rt:580:1
 returns : tie.Need-returns
 unfolding outcome
 returns c = ap (λ v. (no (numberOf (c .before .args .answer)), v)) (c .blank-voter-replacement-record .ensures)

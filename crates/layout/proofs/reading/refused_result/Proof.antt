@@ -7,11 +7,9 @@ use borrow.Author.Needs.{needs}
 use Rattle.layout.proofs.reading.refused_result.Statement.{statement}
 use Rattle.layout.proofs.reading.refused_result.Tie as tie
 
--- src/reading.rt:457:16
 blank-voter-replacement-result-requires : tie.Need-blank-voter-replacement-result-requires
 blank-voter-replacement-result-requires c κs = search needs
 
--- src/reading.rt:452:1
 returns : tie.Need-returns
 unfolding outcome
 returns c = ap (λ v. (no (numberOf (c .before .args .answer)), v)) (c .blank-voter-replacement-result .ensures)

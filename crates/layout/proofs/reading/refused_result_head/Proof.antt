@@ -7,11 +7,9 @@ use borrow.Author.Needs.{needs}
 use Rattle.layout.proofs.reading.refused_result_head.Statement.{statement}
 use Rattle.layout.proofs.reading.refused_result_head.Tie as tie
 
--- src/reading.rt:448:16
 blank-result-head-requires : tie.Need-blank-result-head-requires
 blank-result-head-requires c κs = search needs
 
--- src/reading.rt:443:1
 returns : tie.Need-returns
 unfolding outcome
 returns c = ap (λ v. (no (numberOf (c .before .args .answer)), v)) (c .blank-result-head .ensures)

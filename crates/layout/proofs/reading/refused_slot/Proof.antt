@@ -7,11 +7,9 @@ use borrow.Author.Needs.{needs}
 use Rattle.layout.proofs.reading.refused_slot.Statement.{statement}
 use Rattle.layout.proofs.reading.refused_slot.Tie as tie
 
--- src/reading.rt:485:16
 blank-voter-slot-record-requires : tie.Need-blank-voter-slot-record-requires
 blank-voter-slot-record-requires c κs = search needs
 
--- src/reading.rt:480:1
 returns : tie.Need-returns
 unfolding outcome
 returns c = ap (λ v. (no (numberOf (c .before .args .answer)), v)) (c .blank-voter-slot-record .ensures)

@@ -7,11 +7,9 @@ use borrow.Author.Needs.{needs}
 use Rattle.layout.proofs.reading.refused_slot_member.Statement.{statement}
 use Rattle.layout.proofs.reading.refused_slot_member.Tie as tie
 
--- src/reading.rt:476:16
 blank-slot-member-requires : tie.Need-blank-slot-member-requires
 blank-slot-member-requires c κs = search needs
 
--- src/reading.rt:471:1
 returns : tie.Need-returns
 unfolding outcome
 returns c = ap (λ v. (no (numberOf (c .before .args .answer)), v)) (c .blank-slot-member .ensures)

@@ -7,11 +7,9 @@ use borrow.Author.Needs.{needs}
 use Rattle.layout.proofs.reading.refused_slots.Statement.{statement}
 use Rattle.layout.proofs.reading.refused_slots.Tie as tie
 
--- src/reading.rt:494:16
 blank-voter-slot-records-requires : tie.Need-blank-voter-slot-records-requires
 blank-voter-slot-records-requires c κs = search needs
 
--- src/reading.rt:489:1
 returns : tie.Need-returns
 unfolding outcome
 returns c = ap (λ v. (no (numberOf (c .before .args .answer)), v)) (c .blank-voter-slot-records .ensures)

@@ -7,11 +7,9 @@ use borrow.Author.Needs.{needs}
 use Rattle.layout.proofs.reading.refused_snapshot.Statement.{statement}
 use Rattle.layout.proofs.reading.refused_snapshot.Tie as tie
 
--- src/reading.rt:548:16
 blank-voter-snapshot-evidence-requires : tie.Need-blank-voter-snapshot-evidence-requires
 blank-voter-snapshot-evidence-requires c κs = search needs
 
--- src/reading.rt:543:1
 returns : tie.Need-returns
 unfolding outcome
 returns c = ap (λ v. (no (numberOf (c .before .args .answer)), v)) (c .blank-voter-snapshot-evidence .ensures)

@@ -7,11 +7,9 @@ use borrow.Author.Needs.{needs}
 use Rattle.layout.proofs.reading.refused_snapshot_id.Statement.{statement}
 use Rattle.layout.proofs.reading.refused_snapshot_id.Tie as tie
 
--- src/reading.rt:403:16
 blank-snapshot-id-requires : tie.Need-blank-snapshot-id-requires
 blank-snapshot-id-requires c κs = search needs
 
--- src/reading.rt:398:1
 returns : tie.Need-returns
 unfolding outcome
 returns c = ap (λ v. (no (numberOf (c .before .args .answer)), v)) (c .blank-snapshot-id .ensures)

@@ -7,11 +7,9 @@ use borrow.Author.Needs.{needs}
 use Rattle.layout.proofs.reading.refused_spiffe_id.Statement.{statement}
 use Rattle.layout.proofs.reading.refused_spiffe_id.Tie as tie
 
--- src/reading.rt:394:16
 blank-spiffe-id-requires : tie.Need-blank-spiffe-id-requires
 blank-spiffe-id-requires c κs = search needs
 
--- src/reading.rt:389:1
 returns : tie.Need-returns
 unfolding outcome
 returns c = ap (λ v. (no (numberOf (c .before .args .answer)), v)) (c .blank-spiffe-id .ensures)

@@ -7,11 +7,9 @@ use borrow.Author.Needs.{needs}
 use Rattle.layout.proofs.reading.refused_table.Statement.{statement}
 use Rattle.layout.proofs.reading.refused_table.Tie as tie
 
--- src/reading.rt:613:16
 blank-voter-slot-table-requires : tie.Need-blank-voter-slot-table-requires
 blank-voter-slot-table-requires c κs = search needs
 
--- src/reading.rt:608:1
 returns : tie.Need-returns
 unfolding outcome
 returns c = ap (λ v. (no (numberOf (c .before .args .answer)), v)) (c .blank-voter-slot-table .ensures)

@@ -7,11 +7,9 @@ use borrow.Author.Needs.{needs}
 use Rattle.layout.proofs.reading.refused_table_head.Statement.{statement}
 use Rattle.layout.proofs.reading.refused_table_head.Tie as tie
 
--- src/reading.rt:604:16
 blank-table-head-requires : tie.Need-blank-table-head-requires
 blank-table-head-requires c κs = search needs
 
--- src/reading.rt:599:1
 returns : tie.Need-returns
 unfolding outcome
 returns c = ap (λ v. (no (numberOf (c .before .args .answer)), v)) (c .blank-table-head .ensures)

@@ -5,19 +5,15 @@ use borrow.Author.Needs.{needs}
 use Rattle.layout.proofs.reading.why.Statement.{statement}
 use Rattle.layout.proofs.reading.why.Tie as tie
 
--- src/reading.rt:266:27
 enum-told : tie.Need-enum-told
 enum-told c = search needs
 
--- src/reading.rt:267:26
 enum-known-answer : tie.Need-enum-known-answer
 enum-known-answer c = search needs
 
--- src/reading.rt:262:1
 returns : tie.Need-returns
 returns c = search needs
 
--- src/reading.rt:262:1
 returns-2 : tie.Need-returns-2
 returns-2 c = sym (ap whyOf (c .before .answer .given .1))
 

@@ -5,19 +5,15 @@ use borrow.Author.Needs.{needs}
 use Rattle.layout.proofs.reading.why_identity.Statement.{statement}
 use Rattle.layout.proofs.reading.why_identity.Tie as tie
 
--- src/reading.rt:320:37
 enum-told : tie.Need-enum-told
 enum-told c = search needs
 
--- src/reading.rt:321:31
 enum-known-answer : tie.Need-enum-known-answer
 enum-known-answer c = search needs
 
--- src/reading.rt:316:1
 returns : tie.Need-returns
 returns c = search needs
 
--- src/reading.rt:316:1
 returns-2 : tie.Need-returns-2
 returns-2 c = sym (ap whyIdentity (c .before .answer .given .1))
 

@@ -5,19 +5,15 @@ use borrow.Author.Needs.{needs}
 use Rattle.layout.proofs.reading.why_log_id.Statement.{statement}
 use Rattle.layout.proofs.reading.why_log_id.Tie as tie
 
--- src/reading.rt:329:34
 enum-told : tie.Need-enum-told
 enum-told c = search needs
 
--- src/reading.rt:330:28
 enum-known-answer : tie.Need-enum-known-answer
 enum-known-answer c = search needs
 
--- src/reading.rt:325:1
 returns : tie.Need-returns
 returns c = search needs
 
--- src/reading.rt:325:1
 returns-2 : tie.Need-returns-2
 returns-2 c = sym (ap whyLogId (c .before .answer .given .1))
 

@@ -5,19 +5,15 @@ use borrow.Author.Needs.{needs}
 use Rattle.layout.proofs.reading.why_u8.Statement.{statement}
 use Rattle.layout.proofs.reading.why_u8.Tie as tie
 
--- src/reading.rt:293:31
 enum-told : tie.Need-enum-told
 enum-told c = search needs
 
--- src/reading.rt:294:25
 enum-known-answer : tie.Need-enum-known-answer
 enum-known-answer c = search needs
 
--- src/reading.rt:289:1
 returns : tie.Need-returns
 returns c = search needs
 
--- src/reading.rt:289:1
 returns-2 : tie.Need-returns-2
 returns-2 c = sym (ap whyU8 (c .before .answer .given .1))
 

@@ -43,167 +43,129 @@ got-3 c = dep-ok _ _ _ (got-2 (c .before .before .before .before .before .before
 got-4 : (c : tie.After-end) → c4 .dec (c .before .before .before .before .before .before .before .before .before .before .before .before .before .before .before .before .before .before .before .before .before .before .before .before .args .bytes .now) ≡ ok (((c .before .before .before .before .before .before .before .before .before .before .before .before .before .before .before .before .before .before .before .before .before .before .read-claims-request .result .value, c .before .before .before .before .before .before .before .before .before .before .before .before .before .before .before .before .read-claims-slot .result .value), c .before .before .before .before .before .before .before .before .before .before .read-claims-names .result .value), c .before .before .before .before .read-claims-end .result .value) (((c .before .before .before .before .before .before .before .before .before .before .before .before .before .before .before .before .before .before .before .before .request-to .given .0 .0 + c .before .before .before .before .before .before .before .before .before .before .before .before .before .before .slot-to .given .0 .0) + c .before .before .before .before .before .before .before .before .names-to .given .0 .0) + c .before .before .end-to .given .0 .0)
 got-4 c = dep-ok _ _ _ (got-3 (c .before .before .before .before .before .before)) (told blankClaimsEnd _ (c .before .before .before .before .read-claims-end .ensures ∙ ap (λ l. outcome blankClaimsEnd (claimsEnd .dec l)) (rest (c .before .before .before .before .before .before .before .before .before .before .before .before .before .before .before .before .before .before .before .before .before .before .before .before .args .bytes .now) _)) (c .before .before .end-to .given .1))
 
--- src/decode.rt:564:9
 read-claims-request-requires : tie.Need-read-claims-request-requires
 read-claims-request-requires c κs = search needs
 
--- src/decode.rt:566:21
 enum-known-request-to : tie.Need-enum-known-request-to
 enum-known-request-to c = search needs
 
--- src/decode.rt:567:36
 enum-told : tie.Need-enum-told
 enum-told c = search needs
 
--- src/decode.rt:567:36
 why-requires : tie.Need-why-requires
 why-requires c κs = search needs
 
--- src/decode.rt:567:9
 refused-attestation-requires : tie.Need-refused-attestation-requires
 refused-attestation-requires c κs = search needs
 
--- src/decode.rt:567:9
 returns : tie.Need-returns
 unfolding claims
 returns c =
     outcome-no _ (c .refused-attestation .ensures ∙ ap (λ a. outcome blankLostVoterAttestationV1 (no (numberOf a))) (c .before .why .ensures ∙ ap whyOf (c .before .before .enum-told .given .1)))
     (via-no _ _ _ _ _ (dep-no-1 _ _ _ (dep-no-1 _ _ _ (dep-no-1 _ _ _ (told-not blankClaimsRequest _ (c .before .before .before .before .read-claims-request .ensures) (c .before .before .enum-told .given .1))))))
 
--- src/decode.rt:570:38
 sub-read-claims-slot : tie.Need-sub-read-claims-slot
 sub-read-claims-slot c = c1 .within _ (got-1 c)
 
--- src/decode.rt:570:38
 part-read-claims-slot-start : tie.Need-part-read-claims-slot-start
 part-read-claims-slot-start c = c1 .within _ (got-1 c)
 
--- src/decode.rt:570:38
 part-read-claims-slot-end : tie.Need-part-read-claims-slot-end
 part-read-claims-slot-end c = search needs
 
--- src/decode.rt:570:9
 read-claims-slot-requires : tie.Need-read-claims-slot-requires
 read-claims-slot-requires c κs = search needs
 
--- src/decode.rt:572:21
 enum-known-slot-to : tie.Need-enum-known-slot-to
 enum-known-slot-to c = search needs
 
--- src/decode.rt:573:36
 enum-told-2 : tie.Need-enum-told-2
 enum-told-2 c = search needs
 
--- src/decode.rt:573:36
 why-requires-2 : tie.Need-why-requires-2
 why-requires-2 c κs = search needs
 
--- src/decode.rt:573:9
 refused-attestation-requires-2 : tie.Need-refused-attestation-requires-2
 refused-attestation-requires-2 c κs = search needs
 
--- src/decode.rt:573:9
 returns-2 : tie.Need-returns-2
 unfolding claims
 returns-2 c =
     outcome-no _ (c .refused-attestation2 .ensures ∙ ap (λ a. outcome blankLostVoterAttestationV1 (no (numberOf a))) (c .before .why2 .ensures ∙ ap whyOf (c .before .before .enum-told2 .given .1)))
     (via-no _ _ _ _ _ (dep-no-1 _ _ _ (dep-no-1 _ _ _ (dep-no-2 _ _ _ (got-1 (c .before .before .before .before .before .before)) (told-not blankClaimsSlot _ (c .before .before .before .before .read-claims-slot .ensures ∙ ap (λ l. outcome blankClaimsSlot (claimsSlot .dec l)) (rest (c .before .before .before .before .before .before .before .before .before .before .before .before .args .bytes .now) _)) (c .before .before .enum-told2 .given .1))))))
 
--- src/decode.rt:576:14
 add-at : tie.Need-add-at
 add-at c = record { fits = lt-of-le-of-lt (c2 .within _ (got-2 c)) (c .before .before .before .before .before .before .before .before .before .before .before .before .good .0 .0) }
 
--- src/decode.rt:577:40
 sub-read-claims-names : tie.Need-sub-read-claims-names
 sub-read-claims-names c = c2 .within _ (got-2 c)
 
--- src/decode.rt:577:40
 part-read-claims-names-start : tie.Need-part-read-claims-names-start
 part-read-claims-names-start c = c2 .within _ (got-2 c)
 
--- src/decode.rt:577:40
 part-read-claims-names-end : tie.Need-part-read-claims-names-end
 part-read-claims-names-end c = search needs
 
--- src/decode.rt:577:9
 read-claims-names-requires : tie.Need-read-claims-names-requires
 read-claims-names-requires c κs = search needs
 
--- src/decode.rt:579:21
 enum-known-names-to : tie.Need-enum-known-names-to
 enum-known-names-to c = search needs
 
--- src/decode.rt:580:36
 enum-told-3 : tie.Need-enum-told-3
 enum-told-3 c = search needs
 
--- src/decode.rt:580:36
 why-requires-3 : tie.Need-why-requires-3
 why-requires-3 c κs = search needs
 
--- src/decode.rt:580:9
 refused-attestation-requires-3 : tie.Need-refused-attestation-requires-3
 refused-attestation-requires-3 c κs = search needs
 
--- src/decode.rt:580:9
 returns-3 : tie.Need-returns-3
 unfolding claims
 returns-3 c =
     outcome-no _ (c .refused-attestation3 .ensures ∙ ap (λ a. outcome blankLostVoterAttestationV1 (no (numberOf a))) (c .before .why3 .ensures ∙ ap whyOf (c .before .before .enum-told3 .given .1)))
     (via-no _ _ _ _ _ (dep-no-1 _ _ _ (dep-no-2 _ _ _ (got-2 (c .before .before .before .before .before .before)) (told-not blankClaimsNames _ (c .before .before .before .before .read-claims-names .ensures ∙ ap (λ l. outcome blankClaimsNames (claimsNames .dec l)) (rest (c .before .before .before .before .before .before .before .before .before .before .before .before .before .before .before .before .before .before .args .bytes .now) _)) (c .before .before .enum-told3 .given .1)))))
 
--- src/decode.rt:583:14
 add-at-2 : tie.Need-add-at-2
 add-at-2 c = record { fits = lt-of-le-of-lt (c3 .within _ (got-3 c)) (c .before .before .before .before .before .before .before .before .before .before .before .before .before .before .before .before .before .before .good .0 .0) }
 
--- src/decode.rt:584:36
 sub-read-claims-end : tie.Need-sub-read-claims-end
 sub-read-claims-end c = c3 .within _ (got-3 c)
 
--- src/decode.rt:584:36
 part-read-claims-end-start : tie.Need-part-read-claims-end-start
 part-read-claims-end-start c = c3 .within _ (got-3 c)
 
--- src/decode.rt:584:36
 part-read-claims-end-end : tie.Need-part-read-claims-end-end
 part-read-claims-end-end c = search needs
 
--- src/decode.rt:584:9
 read-claims-end-requires : tie.Need-read-claims-end-requires
 read-claims-end-requires c κs = search needs
 
--- src/decode.rt:586:21
 enum-known-end-to : tie.Need-enum-known-end-to
 enum-known-end-to c = search needs
 
--- src/decode.rt:587:36
 enum-told-4 : tie.Need-enum-told-4
 enum-told-4 c = search needs
 
--- src/decode.rt:587:36
 why-requires-4 : tie.Need-why-requires-4
 why-requires-4 c κs = search needs
 
--- src/decode.rt:587:9
 refused-attestation-requires-4 : tie.Need-refused-attestation-requires-4
 refused-attestation-requires-4 c κs = search needs
 
--- src/decode.rt:587:9
 returns-4 : tie.Need-returns-4
 unfolding claims
 returns-4 c =
     outcome-no _ (c .refused-attestation4 .ensures ∙ ap (λ a. outcome blankLostVoterAttestationV1 (no (numberOf a))) (c .before .why4 .ensures ∙ ap whyOf (c .before .before .enum-told4 .given .1)))
     (via-no _ _ _ _ _ (dep-no-2 _ _ _ (got-3 (c .before .before .before .before .before .before)) (told-not blankClaimsEnd _ (c .before .before .before .before .read-claims-end .ensures ∙ ap (λ l. outcome blankClaimsEnd (claimsEnd .dec l)) (rest (c .before .before .before .before .before .before .before .before .before .before .before .before .before .before .before .before .before .before .before .before .before .before .before .before .args .bytes .now) _)) (c .before .before .enum-told4 .given .1))))
 
--- src/decode.rt:591:29
 add-t22 : tie.Need-add-t22
 add-t22 c = record { fits = lt-of-le-of-lt (c4 .within _ (got-4 (c))) (c .before .before .before .before .before .before .before .before .before .before .before .before .before .before .before .before .before .before .before .before .before .before .before .before .good .0 .0) }
 
--- src/decode.rt:592:16
 attestation-of-requires : tie.Need-attestation-of-requires
 attestation-of-requires c κs = search needs
 
--- src/decode.rt:561:1
 returns-5 : tie.Need-returns-5
 unfolding claims
 returns-5 c = outcome-ok _ (via-ok _ _ _ _ _ (got-4 (c .before)) ∙ ap (λ v. ok v (((c .before .before .before .before .before .before .before .before .before .before .before .before .before .before .before .before .before .before .before .before .before .request-to .given .0 .0 + c .before .before .before .before .before .before .before .before .before .before .before .before .before .before .before .slot-to .given .0 .0) + c .before .before .before .before .before .before .before .before .before .names-to .given .0 .0) + c .before .before .before .end-to .given .0 .0)) (sym (c .attestation-of .ensures)))

@@ -35,120 +35,93 @@ got-2 c = dep-ok _ _ _ (got-1 (c .before .before .before .before .before .before
 got-3 : (c : tie.After-known-told3) → c3 .dec (c .before .before .before .before .before .before .before .before .before .before .before .before .before .before .before .before .before .args .bytes .now) ≡ ok ((c .before .before .before .before .before .before .before .before .before .before .before .before .before .before .before .read-array32 .result .value, c .before .before .before .before .before .before .before .before .before .read-array322 .result .value), c .before .admission-generation-read .given .0 .0) ((c .before .before .before .before .before .before .before .before .before .before .before .before .before .key-digest-to .given .0 .0 + c .before .before .before .before .before .before .before .descriptor-digest-to .given .0 .0) + c .before .admission-generation-read .given .0 .1 .0)
 got-3 c = dep-ok _ _ _ (got-2 (c .before .before .before .before .before)) (got u64Read (c .before .before .before .read-u64 .ensures ∙ ap ((uint 8) .dec) (rest (c .before .before .before .before .before .before .before .before .before .before .before .before .before .before .before .before .before .args .bytes .now) _)) (c .before .admission-generation-read .given .1))
 
--- src/decode.rt:135:9
 read-array32-requires : tie.Need-read-array32-requires
 read-array32-requires c κs = search needs
 
--- src/decode.rt:137:21
 enum-known-key-digest-to : tie.Need-enum-known-key-digest-to
 enum-known-key-digest-to c = search needs
 
--- src/decode.rt:138:32
 enum-told : tie.Need-enum-told
 enum-told c = search needs
 
--- src/decode.rt:138:32
 why-requires : tie.Need-why-requires
 why-requires c κs = search needs
 
--- src/decode.rt:138:9
 refused-binding-requires : tie.Need-refused-binding-requires
 refused-binding-requires c κs = search needs
 
--- src/decode.rt:138:9
 returns : tie.Need-returns
 unfolding binding
 returns c =
     outcome-no _ (c .refused-binding .ensures ∙ ap (λ a. outcome blankBinding (no (numberOf a))) (c .before .why .ensures ∙ ap whyOf (c .before .before .enum-told .given .1)))
     (via-no _ _ _ _ _ (dep-no-1 _ _ _ (dep-no-1 _ _ _ (told-not (zeros 32) _ (c .before .before .before .before .read-array32 .ensures) (c .before .before .enum-told .given .1)))))
 
--- src/decode.rt:141:47
 sub-read-array32 : tie.Need-sub-read-array32
 sub-read-array32 c = c1 .within _ (got-1 c)
 
--- src/decode.rt:141:47
 part-read-array32-start : tie.Need-part-read-array32-start
 part-read-array32-start c = c1 .within _ (got-1 c)
 
--- src/decode.rt:141:47
 part-read-array32-end : tie.Need-part-read-array32-end
 part-read-array32-end c = search needs
 
--- src/decode.rt:141:9
 read-array32-requires-2 : tie.Need-read-array32-requires-2
 read-array32-requires-2 c κs = search needs
 
--- src/decode.rt:143:21
 enum-known-descriptor-digest-to : tie.Need-enum-known-descriptor-digest-to
 enum-known-descriptor-digest-to c = search needs
 
--- src/decode.rt:144:32
 enum-told-2 : tie.Need-enum-told-2
 enum-told-2 c = search needs
 
--- src/decode.rt:144:32
 why-requires-2 : tie.Need-why-requires-2
 why-requires-2 c κs = search needs
 
--- src/decode.rt:144:9
 refused-binding-requires-2 : tie.Need-refused-binding-requires-2
 refused-binding-requires-2 c κs = search needs
 
--- src/decode.rt:144:9
 returns-2 : tie.Need-returns-2
 unfolding binding
 returns-2 c =
     outcome-no _ (c .refused-binding2 .ensures ∙ ap (λ a. outcome blankBinding (no (numberOf a))) (c .before .why2 .ensures ∙ ap whyOf (c .before .before .enum-told2 .given .1)))
     (via-no _ _ _ _ _ (dep-no-1 _ _ _ (dep-no-2 _ _ _ (got-1 (c .before .before .before .before .before .before)) (told-not (zeros 32) _ (c .before .before .before .before .read-array322 .ensures ∙ ap (λ l. outcome (zeros 32) ((raw 32) .dec l)) (rest (c .before .before .before .before .before .before .before .before .before .before .before .before .args .bytes .now) _)) (c .before .before .enum-told2 .given .1)))))
 
--- src/decode.rt:147:14
 add-at : tie.Need-add-at
 add-at c = record { fits = lt-of-le-of-lt (c2 .within _ (got-2 c)) (c .before .before .before .before .before .before .before .before .before .before .before .before .good .0 .0) }
 
--- src/decode.rt:148:46
 sub-read-u64 : tie.Need-sub-read-u64
 sub-read-u64 c = c2 .within _ (got-2 c)
 
--- src/decode.rt:148:46
 part-read-u64-start : tie.Need-part-read-u64-start
 part-read-u64-start c = c2 .within _ (got-2 c)
 
--- src/decode.rt:148:46
 part-read-u64-end : tie.Need-part-read-u64-end
 part-read-u64-end c = search needs
 
--- src/decode.rt:148:9
 read-u64-requires : tie.Need-read-u64-requires
 read-u64-requires c κs = search needs
 
--- src/decode.rt:149:23
 enum-known-admission-generation-read : tie.Need-enum-known-admission-generation-read
 enum-known-admission-generation-read c = search needs
 
--- src/decode.rt:150:32
 enum-told-3 : tie.Need-enum-told-3
 enum-told-3 c = search needs
 
--- src/decode.rt:150:32
 why-u64-requires : tie.Need-why-u64-requires
 why-u64-requires c κs = search needs
 
--- src/decode.rt:150:9
 refused-binding-requires-3 : tie.Need-refused-binding-requires-3
 refused-binding-requires-3 c κs = search needs
 
--- src/decode.rt:150:9
 returns-3 : tie.Need-returns-3
 unfolding binding
 returns-3 c =
     outcome-no _ (c .refused-binding3 .ensures ∙ ap (λ a. outcome blankBinding (no (numberOf a))) (c .before .why-u64 .ensures ∙ ap whyU64 (c .before .before .enum-told3 .given .1)))
     (via-no _ _ _ _ _ (dep-no-2 _ _ _ (got-2 (c .before .before .before .before .before .before)) (got u64Read (c .before .before .before .before .read-u64 .ensures ∙ ap ((uint 8) .dec) (rest (c .before .before .before .before .before .before .before .before .before .before .before .before .before .before .before .before .before .before .args .bytes .now) _)) (c .before .before .enum-told3 .given .1))))
 
--- src/decode.rt:153:29
 add-t16 : tie.Need-add-t16
 add-t16 c = record { fits = lt-of-le-of-lt (c3 .within _ (got-3 (c))) (c .before .before .before .before .before .before .before .before .before .before .before .before .before .before .before .before .before .good .0 .0) }
 
--- src/decode.rt:132:1
 returns-4 : tie.Need-returns-4
 unfolding binding
 returns-4 c = outcome-ok _ (via-ok _ _ _ _ _ (got-3 (c)))

@@ -28,27 +28,21 @@ fits c = sized 8192 .within _ (is c)
 bytes : (n : ℕ) (s : List ℕ) → take (2 + n - 2) (drop 2 s) ≡ take n (drop 2 s)
 bytes n s = let e : 2 + n - 2 ≡ n = omega arith in ap (λ m. take m (drop 2 s)) e
 
--- src/decode.rt:616:9
 read-sized-requires : tie.Need-read-sized-requires
 read-sized-requires c κs = search needs
 
--- src/decode.rt:617:25
 enum-known-size : tie.Need-enum-known-size
 enum-known-size c = search needs
 
--- src/decode.rt:618:36
 enum-told : tie.Need-enum-told
 enum-told c = search needs
 
--- src/decode.rt:618:36
 why-sized-requires : tie.Need-why-sized-requires
 why-sized-requires c κs = search needs
 
--- src/decode.rt:618:9
 refused-attestation-requires : tie.Need-refused-attestation-requires
 refused-attestation-requires c κs = search needs
 
--- src/decode.rt:618:9
 returns : tie.Need-returns
 unfolding sized
 returns c =
@@ -56,34 +50,27 @@ returns c =
     outcome-no blankLostVoterAttestationV1 (c .refused-attestation .ensures ∙ ap (λ a. outcome blankLostVoterAttestationV1 (no (numberOf a))) (c .before .why-sized .ensures ∙ ap whySized (c .before .before .enum-told .given .1)))
     (boxed-no-1 _ _ s (got (λ r. sizedRead r s) (c .before .before .before .before .read-sized .ensures) (c .before .before .enum-told .given .1)))
 
--- src/decode.rt:620:49
 add-read-whole-attestation : tie.Need-add-read-whole-attestation
 add-read-whole-attestation c = record { fits = lt-of-le-of-lt (fits c) (c .before .before .before .before .before .good .0 .0) }
 
--- src/decode.rt:620:39
 sub-read-whole-attestation : tie.Need-sub-read-whole-attestation
 sub-read-whole-attestation c = search needs
 
--- src/decode.rt:620:39
 part-read-whole-attestation-start : tie.Need-part-read-whole-attestation-start
 part-read-whole-attestation-start c = search needs
 
--- src/decode.rt:620:39
 part-read-whole-attestation-end : tie.Need-part-read-whole-attestation-end
 part-read-whole-attestation-end c = fits c
 
--- src/decode.rt:620:9
 read-whole-attestation-requires : tie.Need-read-whole-attestation-requires
 read-whole-attestation-requires c κs = search needs
 
 enum-told-2 : tie.Need-enum-told-2
 enum-told-2 c = search needs
 
--- src/decode.rt:623:9
 enum-told-3 : tie.Need-enum-told-3
 enum-told-3 c = search needs
 
--- src/decode.rt:623:9
 returns-2 : tie.Need-returns-2
 unfolding sized
 returns-2 c =
@@ -92,11 +79,9 @@ returns-2 c =
     let e = told-not blankLostVoterAttestationV1 _ p (c .enum-told3 .given .1) in
     p ∙ ap (outcome blankLostVoterAttestationV1) (e ∙ sym (boxed-no-2 _ _ s (is (c .before .before .before .before)) e))
 
--- src/decode.rt:627:29
 add-t8 : tie.Need-add-t8
 add-t8 c = record { fits = lt-of-le-of-lt (fits (c .before .before .before .before .before)) (c .before .before .before .before .before .before .before .before .before .before .good .0 .0) }
 
--- src/decode.rt:613:1
 returns-3 : tie.Need-returns-3
 unfolding sized
 returns-3 c =

@@ -34,120 +34,93 @@ got-2 c = dep-ok _ _ _ (got-1 (c .before .before .before .before .before .before
 got-3 : (c : tie.After-known-told3) → c3 .dec (c .before .before .before .before .before .before .before .before .before .before .before .before .before .before .before .before .before .args .bytes .now) ≡ ok ((c .before .before .before .before .before .before .before .before .before .before .before .before .before .before .before .read-configuration .result .value, c .before .before .before .before .before .before .before .before .before .read-configuration2 .result .value), c .before .phase-read .given .0 .0) ((c .before .before .before .before .before .before .before .before .before .before .before .before .before .predecessor-to .given .0 .0 + c .before .before .before .before .before .before .before .successor-to .given .0 .0) + c .before .phase-read .given .0 .1 .0)
 got-3 c = dep-ok _ _ _ (got-2 (c .before .before .before .before .before)) (got u8Read (c .before .before .before .read-choice .ensures ∙ ap ((choice 0 6) .dec) (rest (c .before .before .before .before .before .before .before .before .before .before .before .before .before .before .before .before .before .args .bytes .now) _)) (c .before .phase-read .given .1))
 
--- src/decode.rt:725:9
 read-configuration-requires : tie.Need-read-configuration-requires
 read-configuration-requires c κs = search needs
 
--- src/decode.rt:727:21
 enum-known-predecessor-to : tie.Need-enum-known-predecessor-to
 enum-known-predecessor-to c = search needs
 
--- src/decode.rt:728:31
 enum-told : tie.Need-enum-told
 enum-told c = search needs
 
--- src/decode.rt:728:31
 why-requires : tie.Need-why-requires
 why-requires c κs = search needs
 
--- src/decode.rt:728:9
 refused-change-requires : tie.Need-refused-change-requires
 refused-change-requires c κs = search needs
 
--- src/decode.rt:728:9
 returns : tie.Need-returns
 unfolding change
 returns c =
     outcome-no _ (c .refused-change .ensures ∙ ap (λ a. outcome blankChange (no (numberOf a))) (c .before .why .ensures ∙ ap whyOf (c .before .before .enum-told .given .1)))
     (via-no _ _ _ _ _ (dep-no-1 _ _ _ (dep-no-1 _ _ _ (told-not blankVoterConfiguration _ (c .before .before .before .before .read-configuration .ensures) (c .before .before .enum-told .given .1)))))
 
--- src/decode.rt:731:45
 sub-read-configuration : tie.Need-sub-read-configuration
 sub-read-configuration c = c1 .within _ (got-1 c)
 
--- src/decode.rt:731:45
 part-read-configuration-start : tie.Need-part-read-configuration-start
 part-read-configuration-start c = c1 .within _ (got-1 c)
 
--- src/decode.rt:731:45
 part-read-configuration-end : tie.Need-part-read-configuration-end
 part-read-configuration-end c = search needs
 
--- src/decode.rt:731:9
 read-configuration-requires-2 : tie.Need-read-configuration-requires-2
 read-configuration-requires-2 c κs = search needs
 
--- src/decode.rt:733:21
 enum-known-successor-to : tie.Need-enum-known-successor-to
 enum-known-successor-to c = search needs
 
--- src/decode.rt:734:31
 enum-told-2 : tie.Need-enum-told-2
 enum-told-2 c = search needs
 
--- src/decode.rt:734:31
 why-requires-2 : tie.Need-why-requires-2
 why-requires-2 c κs = search needs
 
--- src/decode.rt:734:9
 refused-change-requires-2 : tie.Need-refused-change-requires-2
 refused-change-requires-2 c κs = search needs
 
--- src/decode.rt:734:9
 returns-2 : tie.Need-returns-2
 unfolding change
 returns-2 c =
     outcome-no _ (c .refused-change2 .ensures ∙ ap (λ a. outcome blankChange (no (numberOf a))) (c .before .why2 .ensures ∙ ap whyOf (c .before .before .enum-told2 .given .1)))
     (via-no _ _ _ _ _ (dep-no-1 _ _ _ (dep-no-2 _ _ _ (got-1 (c .before .before .before .before .before .before)) (told-not blankVoterConfiguration _ (c .before .before .before .before .read-configuration2 .ensures ∙ ap (λ l. outcome blankVoterConfiguration (configuration .dec l)) (rest (c .before .before .before .before .before .before .before .before .before .before .before .before .args .bytes .now) _)) (c .before .before .enum-told2 .given .1)))))
 
--- src/decode.rt:737:14
 add-at : tie.Need-add-at
 add-at c = record { fits = lt-of-le-of-lt (c2 .within _ (got-2 c)) (c .before .before .before .before .before .before .before .before .before .before .before .before .good .0 .0) }
 
--- src/decode.rt:738:34
 sub-read-choice : tie.Need-sub-read-choice
 sub-read-choice c = c2 .within _ (got-2 c)
 
--- src/decode.rt:738:34
 part-read-choice-start : tie.Need-part-read-choice-start
 part-read-choice-start c = c2 .within _ (got-2 c)
 
--- src/decode.rt:738:34
 part-read-choice-end : tie.Need-part-read-choice-end
 part-read-choice-end c = search needs
 
--- src/decode.rt:738:9
 read-choice-requires : tie.Need-read-choice-requires
 read-choice-requires c κs = search needs
 
--- src/decode.rt:739:22
 enum-known-phase-read : tie.Need-enum-known-phase-read
 enum-known-phase-read c = search needs
 
--- src/decode.rt:740:31
 enum-told-3 : tie.Need-enum-told-3
 enum-told-3 c = search needs
 
--- src/decode.rt:740:31
 why-u8-requires : tie.Need-why-u8-requires
 why-u8-requires c κs = search needs
 
--- src/decode.rt:740:9
 refused-change-requires-3 : tie.Need-refused-change-requires-3
 refused-change-requires-3 c κs = search needs
 
--- src/decode.rt:740:9
 returns-3 : tie.Need-returns-3
 unfolding change
 returns-3 c =
     outcome-no _ (c .refused-change3 .ensures ∙ ap (λ a. outcome blankChange (no (numberOf a))) (c .before .why-u8 .ensures ∙ ap whyU8 (c .before .before .enum-told3 .given .1)))
     (via-no _ _ _ _ _ (dep-no-2 _ _ _ (got-2 (c .before .before .before .before .before .before)) (got u8Read (c .before .before .before .before .read-choice .ensures ∙ ap ((choice 0 6) .dec) (rest (c .before .before .before .before .before .before .before .before .before .before .before .before .before .before .before .before .before .before .args .bytes .now) _)) (c .before .before .enum-told3 .given .1))))
 
--- src/decode.rt:743:29
 add-t16 : tie.Need-add-t16
 add-t16 c = record { fits = lt-of-le-of-lt (c3 .within _ (got-3 (c))) (c .before .before .before .before .before .before .before .before .before .before .before .before .before .before .before .before .before .good .0 .0) }
 
--- src/decode.rt:722:1
 returns-4 : tie.Need-returns-4
 unfolding change
 returns-4 c = outcome-ok _ (via-ok _ _ _ _ _ (got-3 (c)))

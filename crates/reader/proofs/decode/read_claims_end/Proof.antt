@@ -42,163 +42,126 @@ got-3 c = dep-ok _ _ _ (got-2 (c .before .before .before .before .before)) (got 
 got-4 : (c : tie.After-signature) → c4 .dec (c .before .before .before .before .before .before .before .before .before .before .before .before .before .before .before .before .before .before .before .before .before .before .args .bytes .now) ≡ ok (((c .before .before .before .before .before .before .before .before .before .before .before .before .before .before .before .before .before .before .reason-read .given .0 .0, c .before .before .before .before .before .before .before .before .before .before .before .before .before .before .before .read-array32 .result .value), c .before .before .before .before .before .before .before .times-read .given .0 .0), c .before .before .before .before .read-array64 .result .value) (((c .before .before .before .before .before .before .before .before .before .before .before .before .before .before .before .before .before .before .reason-read .given .0 .1 .0 + c .before .before .before .before .before .before .before .before .before .before .before .before .before .policy-digest-to .given .0 .0) + c .before .before .before .before .before .before .before .times-read .given .0 .1 .0) + c .before .before .signature-to .given .0 .0)
 got-4 c = dep-ok _ _ _ (got-3 (c .before .before .before .before .before .before)) (told (zeros 64) _ (c .before .before .before .before .read-array64 .ensures ∙ ap (λ l. outcome (zeros 64) ((raw 64) .dec l)) (rest (c .before .before .before .before .before .before .before .before .before .before .before .before .before .before .before .before .before .before .before .before .before .before .args .bytes .now) _)) (c .before .before .signature-to .given .1))
 
--- src/decode.rt:527:9
 read-choice-requires : tie.Need-read-choice-requires
 read-choice-requires c κs = search needs
 
--- src/decode.rt:528:22
 enum-known-reason-read : tie.Need-enum-known-reason-read
 enum-known-reason-read c = search needs
 
--- src/decode.rt:529:35
 enum-told : tie.Need-enum-told
 enum-told c = search needs
 
--- src/decode.rt:529:35
 why-u8-requires : tie.Need-why-u8-requires
 why-u8-requires c κs = search needs
 
--- src/decode.rt:529:9
 refused-claims-end-requires : tie.Need-refused-claims-end-requires
 refused-claims-end-requires c κs = search needs
 
--- src/decode.rt:529:9
 returns : tie.Need-returns
 unfolding claimsEnd
 returns c =
     outcome-no _ (c .refused-claims-end .ensures ∙ ap (λ a. outcome blankClaimsEnd (no (numberOf a))) (c .before .why-u8 .ensures ∙ ap whyU8 (c .before .before .enum-told .given .1)))
     (via-no _ _ _ _ _ (dep-no-1 _ _ _ (dep-no-1 _ _ _ (dep-no-1 _ _ _ (got u8Read (c .before .before .before .before .read-choice .ensures) (c .before .before .enum-told .given .1))))))
 
--- src/decode.rt:531:43
 sub-read-array32 : tie.Need-sub-read-array32
 sub-read-array32 c = c1 .within _ (got-1 c)
 
--- src/decode.rt:531:43
 part-read-array32-start : tie.Need-part-read-array32-start
 part-read-array32-start c = c1 .within _ (got-1 c)
 
--- src/decode.rt:531:43
 part-read-array32-end : tie.Need-part-read-array32-end
 part-read-array32-end c = search needs
 
--- src/decode.rt:531:9
 read-array32-requires : tie.Need-read-array32-requires
 read-array32-requires c κs = search needs
 
--- src/decode.rt:533:21
 enum-known-policy-digest-to : tie.Need-enum-known-policy-digest-to
 enum-known-policy-digest-to c = search needs
 
--- src/decode.rt:534:35
 enum-told-2 : tie.Need-enum-told-2
 enum-told-2 c = search needs
 
--- src/decode.rt:534:35
 why-requires : tie.Need-why-requires
 why-requires c κs = search needs
 
--- src/decode.rt:534:9
 refused-claims-end-requires-2 : tie.Need-refused-claims-end-requires-2
 refused-claims-end-requires-2 c κs = search needs
 
--- src/decode.rt:534:9
 returns-2 : tie.Need-returns-2
 unfolding claimsEnd
 returns-2 c =
     outcome-no _ (c .refused-claims-end2 .ensures ∙ ap (λ a. outcome blankClaimsEnd (no (numberOf a))) (c .before .why .ensures ∙ ap whyOf (c .before .before .enum-told2 .given .1)))
     (via-no _ _ _ _ _ (dep-no-1 _ _ _ (dep-no-1 _ _ _ (dep-no-2 _ _ _ (got-1 (c .before .before .before .before .before .before)) (told-not (zeros 32) _ (c .before .before .before .before .read-array32 .ensures ∙ ap (λ l. outcome (zeros 32) ((raw 32) .dec l)) (rest (c .before .before .before .before .before .before .before .before .before .before .before .args .bytes .now) _)) (c .before .before .enum-told2 .given .1))))))
 
--- src/decode.rt:537:14
 add-at : tie.Need-add-at
 add-at c = record { fits = lt-of-le-of-lt (c2 .within _ (got-2 c)) (c .before .before .before .before .before .before .before .before .before .before .before .good .0 .0) }
 
--- src/decode.rt:538:33
 sub-read-times : tie.Need-sub-read-times
 sub-read-times c = c2 .within _ (got-2 c)
 
--- src/decode.rt:538:33
 part-read-times-start : tie.Need-part-read-times-start
 part-read-times-start c = c2 .within _ (got-2 c)
 
--- src/decode.rt:538:33
 part-read-times-end : tie.Need-part-read-times-end
 part-read-times-end c = search needs
 
--- src/decode.rt:538:9
 read-times-requires : tie.Need-read-times-requires
 read-times-requires c κs = search needs
 
--- src/decode.rt:539:25
 enum-known-times-read : tie.Need-enum-known-times-read
 enum-known-times-read c = search needs
 
--- src/decode.rt:540:35
 enum-told-3 : tie.Need-enum-told-3
 enum-told-3 c = search needs
 
--- src/decode.rt:540:35
 why-times-requires : tie.Need-why-times-requires
 why-times-requires c κs = search needs
 
--- src/decode.rt:540:9
 refused-claims-end-requires-3 : tie.Need-refused-claims-end-requires-3
 refused-claims-end-requires-3 c κs = search needs
 
--- src/decode.rt:540:9
 returns-3 : tie.Need-returns-3
 unfolding claimsEnd
 returns-3 c =
     outcome-no _ (c .refused-claims-end3 .ensures ∙ ap (λ a. outcome blankClaimsEnd (no (numberOf a))) (c .before .why-times .ensures ∙ ap whyTimes (c .before .before .enum-told3 .given .1)))
     (via-no _ _ _ _ _ (dep-no-1 _ _ _ (dep-no-2 _ _ _ (got-2 (c .before .before .before .before .before .before)) (got timesRead (c .before .before .before .before .read-times .ensures ∙ ap (times .dec) (rest (c .before .before .before .before .before .before .before .before .before .before .before .before .before .before .before .before .before .args .bytes .now) _)) (c .before .before .enum-told3 .given .1)))))
 
--- src/decode.rt:542:14
 add-at-2 : tie.Need-add-at-2
 add-at-2 c = record { fits = lt-of-le-of-lt (c3 .within _ (got-3 c)) (c .before .before .before .before .before .before .before .before .before .before .before .before .before .before .before .before .good .0 .0) }
 
--- src/decode.rt:543:39
 sub-read-array64 : tie.Need-sub-read-array64
 sub-read-array64 c = c3 .within _ (got-3 c)
 
--- src/decode.rt:543:39
 part-read-array64-start : tie.Need-part-read-array64-start
 part-read-array64-start c = c3 .within _ (got-3 c)
 
--- src/decode.rt:543:39
 part-read-array64-end : tie.Need-part-read-array64-end
 part-read-array64-end c = search needs
 
--- src/decode.rt:543:9
 read-array64-requires : tie.Need-read-array64-requires
 read-array64-requires c κs = search needs
 
--- src/decode.rt:545:21
 enum-known-signature-to : tie.Need-enum-known-signature-to
 enum-known-signature-to c = search needs
 
--- src/decode.rt:546:35
 enum-told-4 : tie.Need-enum-told-4
 enum-told-4 c = search needs
 
--- src/decode.rt:546:35
 why-requires-2 : tie.Need-why-requires-2
 why-requires-2 c κs = search needs
 
--- src/decode.rt:546:9
 refused-claims-end-requires-4 : tie.Need-refused-claims-end-requires-4
 refused-claims-end-requires-4 c κs = search needs
 
--- src/decode.rt:546:9
 returns-4 : tie.Need-returns-4
 unfolding claimsEnd
 returns-4 c =
     outcome-no _ (c .refused-claims-end4 .ensures ∙ ap (λ a. outcome blankClaimsEnd (no (numberOf a))) (c .before .why2 .ensures ∙ ap whyOf (c .before .before .enum-told4 .given .1)))
     (via-no _ _ _ _ _ (dep-no-2 _ _ _ (got-3 (c .before .before .before .before .before .before)) (told-not (zeros 64) _ (c .before .before .before .before .read-array64 .ensures ∙ ap (λ l. outcome (zeros 64) ((raw 64) .dec l)) (rest (c .before .before .before .before .before .before .before .before .before .before .before .before .before .before .before .before .before .before .before .before .before .before .args .bytes .now) _)) (c .before .before .enum-told4 .given .1))))
 
--- src/decode.rt:550:29
 add-t20 : tie.Need-add-t20
 add-t20 c = record { fits = lt-of-le-of-lt (c4 .within _ (got-4 (c))) (c .before .before .before .before .before .before .before .before .before .before .before .before .before .before .before .before .before .before .before .before .before .before .good .0 .0) }
 
--- src/decode.rt:524:1
 returns-5 : tie.Need-returns-5
 unfolding claimsEnd
 returns-5 c = outcome-ok _ (via-ok _ _ _ _ _ (got-4 (c)))

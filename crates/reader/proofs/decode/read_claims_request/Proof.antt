@@ -26,9 +26,6 @@ c2 = dep c1 (λ a. raw 16)
 abbrev c3 : Codec ((Unit {0} × List ℕ) × List ℕ)
 c3 = dep c2 (λ a. raw 32)
 
-abbrev c4 : Codec (((Unit {0} × List ℕ) × List ℕ) × List ℕ)
-c4 = dep c3 (λ a. raw 32)
-
 got-1 : (c : tie.After-known-told) → c1 .dec (c .before .before .before .before .before .args .bytes .now) ≡ ok tt (c .before .version .given .0 .0)
 got-1 c = got report (c .before .before .before .read-version .ensures) (c .before .version .given .1)
 
@@ -38,169 +35,96 @@ got-2 c = dep-ok _ _ _ (got-1 (c .before .before .before .before .before .before
 got-3 : (c : tie.After-request-digest) → c3 .dec (c .before .before .before .before .before .before .before .before .before .before .before .before .before .before .before .before .before .args .bytes .now) ≡ ok ((tt, c .before .before .before .before .before .before .before .before .before .before .read-array16 .result .value), c .before .before .before .before .read-array32 .result .value) ((c .before .before .before .before .before .before .before .before .before .before .before .before .before .version .given .0 .0 + c .before .before .before .before .before .before .before .before .request-id-to .given .0 .0) + c .before .before .request-digest-to .given .0 .0)
 got-3 c = dep-ok _ _ _ (got-2 (c .before .before .before .before .before .before)) (told (zeros 32) _ (c .before .before .before .before .read-array32 .ensures ∙ ap (λ l. outcome (zeros 32) ((raw 32) .dec l)) (rest (c .before .before .before .before .before .before .before .before .before .before .before .before .before .before .before .before .before .args .bytes .now) _)) (c .before .before .request-digest-to .given .1))
 
-got-4 : (c : tie.After-cluster-instance) → c4 .dec (c .before .before .before .before .before .before .before .before .before .before .before .before .before .before .before .before .before .before .before .before .before .before .before .args .bytes .now) ≡ ok (((tt, c .before .before .before .before .before .before .before .before .before .before .before .before .before .before .before .before .read-array16 .result .value), c .before .before .before .before .before .before .before .before .before .before .read-array32 .result .value), c .before .before .before .before .read-array322 .result .value) (((c .before .before .before .before .before .before .before .before .before .before .before .before .before .before .before .before .before .before .before .version .given .0 .0 + c .before .before .before .before .before .before .before .before .before .before .before .before .before .before .request-id-to .given .0 .0) + c .before .before .before .before .before .before .before .before .request-digest-to .given .0 .0) + c .before .before .cluster-instance-to .given .0 .0)
-got-4 c = dep-ok _ _ _ (got-3 (c .before .before .before .before .before .before)) (told (zeros 32) _ (c .before .before .before .before .read-array322 .ensures ∙ ap (λ l. outcome (zeros 32) ((raw 32) .dec l)) (rest (c .before .before .before .before .before .before .before .before .before .before .before .before .before .before .before .before .before .before .before .before .before .before .before .args .bytes .now) _)) (c .before .before .cluster-instance-to .given .1))
-
--- src/decode.rt:422:9
 read-version-requires : tie.Need-read-version-requires
 read-version-requires c κs = search needs
 
--- src/decode.rt:423:21
 enum-known-version : tie.Need-enum-known-version
 enum-known-version c = search needs
 
--- src/decode.rt:424:39
 enum-told : tie.Need-enum-told
 enum-told c = search needs
 
--- src/decode.rt:424:39
 why-requires : tie.Need-why-requires
 why-requires c κs = search needs
 
--- src/decode.rt:424:9
 refused-claims-request-requires : tie.Need-refused-claims-request-requires
 refused-claims-request-requires c κs = search needs
 
--- src/decode.rt:424:9
 returns : tie.Need-returns
 unfolding claimsRequest
 returns c =
     outcome-no _ (c .refused-claims-request .ensures ∙ ap (λ a. outcome blankClaimsRequest (no (numberOf a))) (c .before .why .ensures ∙ ap whyOf (c .before .before .enum-told .given .1)))
-    (via-no _ _ _ _ _ (dep-no-1 _ _ _ (dep-no-1 _ _ _ (dep-no-1 _ _ _ (got report (c .before .before .before .before .read-version .ensures) (c .before .before .enum-told .given .1))))))
+    (via-no _ _ _ _ _ (dep-no-1 _ _ _ (dep-no-1 _ _ _ (got report (c .before .before .before .before .read-version .ensures) (c .before .before .enum-told .given .1)))))
 
--- src/decode.rt:426:40
 sub-read-array16 : tie.Need-sub-read-array16
 sub-read-array16 c = c1 .within _ (got-1 c)
 
--- src/decode.rt:426:40
 part-read-array16-start : tie.Need-part-read-array16-start
 part-read-array16-start c = c1 .within _ (got-1 c)
 
--- src/decode.rt:426:40
 part-read-array16-end : tie.Need-part-read-array16-end
 part-read-array16-end c = search needs
 
--- src/decode.rt:426:9
 read-array16-requires : tie.Need-read-array16-requires
 read-array16-requires c κs = search needs
 
--- src/decode.rt:428:21
 enum-known-request-id-to : tie.Need-enum-known-request-id-to
 enum-known-request-id-to c = search needs
 
--- src/decode.rt:429:39
 enum-told-2 : tie.Need-enum-told-2
 enum-told-2 c = search needs
 
--- src/decode.rt:429:39
 why-requires-2 : tie.Need-why-requires-2
 why-requires-2 c κs = search needs
 
--- src/decode.rt:429:9
 refused-claims-request-requires-2 : tie.Need-refused-claims-request-requires-2
 refused-claims-request-requires-2 c κs = search needs
 
--- src/decode.rt:429:9
 returns-2 : tie.Need-returns-2
 unfolding claimsRequest
 returns-2 c =
     outcome-no _ (c .refused-claims-request2 .ensures ∙ ap (λ a. outcome blankClaimsRequest (no (numberOf a))) (c .before .why2 .ensures ∙ ap whyOf (c .before .before .enum-told2 .given .1)))
-    (via-no _ _ _ _ _ (dep-no-1 _ _ _ (dep-no-1 _ _ _ (dep-no-2 _ _ _ (got-1 (c .before .before .before .before .before .before)) (told-not (zeros 16) _ (c .before .before .before .before .read-array16 .ensures ∙ ap (λ l. outcome (zeros 16) ((raw 16) .dec l)) (rest (c .before .before .before .before .before .before .before .before .before .before .before .args .bytes .now) _)) (c .before .before .enum-told2 .given .1))))))
+    (via-no _ _ _ _ _ (dep-no-1 _ _ _ (dep-no-2 _ _ _ (got-1 (c .before .before .before .before .before .before)) (told-not (zeros 16) _ (c .before .before .before .before .read-array16 .ensures ∙ ap (λ l. outcome (zeros 16) ((raw 16) .dec l)) (rest (c .before .before .before .before .before .before .before .before .before .before .before .args .bytes .now) _)) (c .before .before .enum-told2 .given .1)))))
 
--- src/decode.rt:432:14
 add-at : tie.Need-add-at
 add-at c = record { fits = lt-of-le-of-lt (c2 .within _ (got-2 c)) (c .before .before .before .before .before .before .before .before .before .before .before .good .0 .0) }
 
--- src/decode.rt:433:44
 sub-read-array32 : tie.Need-sub-read-array32
 sub-read-array32 c = c2 .within _ (got-2 c)
 
--- src/decode.rt:433:44
 part-read-array32-start : tie.Need-part-read-array32-start
 part-read-array32-start c = c2 .within _ (got-2 c)
 
--- src/decode.rt:433:44
 part-read-array32-end : tie.Need-part-read-array32-end
 part-read-array32-end c = search needs
 
--- src/decode.rt:433:9
 read-array32-requires : tie.Need-read-array32-requires
 read-array32-requires c κs = search needs
 
--- src/decode.rt:435:21
 enum-known-request-digest-to : tie.Need-enum-known-request-digest-to
 enum-known-request-digest-to c = search needs
 
--- src/decode.rt:436:39
 enum-told-3 : tie.Need-enum-told-3
 enum-told-3 c = search needs
 
--- src/decode.rt:436:39
 why-requires-3 : tie.Need-why-requires-3
 why-requires-3 c κs = search needs
 
--- src/decode.rt:436:9
 refused-claims-request-requires-3 : tie.Need-refused-claims-request-requires-3
 refused-claims-request-requires-3 c κs = search needs
 
--- src/decode.rt:436:9
 returns-3 : tie.Need-returns-3
 unfolding claimsRequest
 returns-3 c =
     outcome-no _ (c .refused-claims-request3 .ensures ∙ ap (λ a. outcome blankClaimsRequest (no (numberOf a))) (c .before .why3 .ensures ∙ ap whyOf (c .before .before .enum-told3 .given .1)))
-    (via-no _ _ _ _ _ (dep-no-1 _ _ _ (dep-no-2 _ _ _ (got-2 (c .before .before .before .before .before .before)) (told-not (zeros 32) _ (c .before .before .before .before .read-array32 .ensures ∙ ap (λ l. outcome (zeros 32) ((raw 32) .dec l)) (rest (c .before .before .before .before .before .before .before .before .before .before .before .before .before .before .before .before .before .args .bytes .now) _)) (c .before .before .enum-told3 .given .1)))))
+    (via-no _ _ _ _ _ (dep-no-2 _ _ _ (got-2 (c .before .before .before .before .before .before)) (told-not (zeros 32) _ (c .before .before .before .before .read-array32 .ensures ∙ ap (λ l. outcome (zeros 32) ((raw 32) .dec l)) (rest (c .before .before .before .before .before .before .before .before .before .before .before .before .before .before .before .before .before .args .bytes .now) _)) (c .before .before .enum-told3 .given .1))))
 
--- src/decode.rt:439:14
-add-at-2 : tie.Need-add-at-2
-add-at-2 c = record { fits = lt-of-le-of-lt (c3 .within _ (got-3 c)) (c .before .before .before .before .before .before .before .before .before .before .before .before .before .before .before .before .before .good .0 .0) }
+add-t15 : tie.Need-add-t15
+add-t15 c = record { fits = lt-of-le-of-lt (c3 .within _ (got-3 (c))) (c .before .before .before .before .before .before .before .before .before .before .before .before .before .before .before .before .before .good .0 .0) }
 
--- src/decode.rt:440:46
-sub-read-array32-2 : tie.Need-sub-read-array32-2
-sub-read-array32-2 c = c3 .within _ (got-3 c)
-
--- src/decode.rt:440:46
-part-read-array32-start-2 : tie.Need-part-read-array32-start-2
-part-read-array32-start-2 c = c3 .within _ (got-3 c)
-
--- src/decode.rt:440:46
-part-read-array32-end-2 : tie.Need-part-read-array32-end-2
-part-read-array32-end-2 c = search needs
-
--- src/decode.rt:440:9
-read-array32-requires-2 : tie.Need-read-array32-requires-2
-read-array32-requires-2 c κs = search needs
-
--- src/decode.rt:442:21
-enum-known-cluster-instance-to : tie.Need-enum-known-cluster-instance-to
-enum-known-cluster-instance-to c = search needs
-
--- src/decode.rt:443:39
-enum-told-4 : tie.Need-enum-told-4
-enum-told-4 c = search needs
-
--- src/decode.rt:443:39
-why-requires-4 : tie.Need-why-requires-4
-why-requires-4 c κs = search needs
-
--- src/decode.rt:443:9
-refused-claims-request-requires-4 : tie.Need-refused-claims-request-requires-4
-refused-claims-request-requires-4 c κs = search needs
-
--- src/decode.rt:443:9
 returns-4 : tie.Need-returns-4
 unfolding claimsRequest
-returns-4 c =
-    outcome-no _ (c .refused-claims-request4 .ensures ∙ ap (λ a. outcome blankClaimsRequest (no (numberOf a))) (c .before .why4 .ensures ∙ ap whyOf (c .before .before .enum-told4 .given .1)))
-    (via-no _ _ _ _ _ (dep-no-2 _ _ _ (got-3 (c .before .before .before .before .before .before)) (told-not (zeros 32) _ (c .before .before .before .before .read-array322 .ensures ∙ ap (λ l. outcome (zeros 32) ((raw 32) .dec l)) (rest (c .before .before .before .before .before .before .before .before .before .before .before .before .before .before .before .before .before .before .before .before .before .before .before .args .bytes .now) _)) (c .before .before .enum-told4 .given .1))))
-
--- src/decode.rt:447:29
-add-t20 : tie.Need-add-t20
-add-t20 c = record { fits = lt-of-le-of-lt (c4 .within _ (got-4 (c))) (c .before .before .before .before .before .before .before .before .before .before .before .before .before .before .before .before .before .before .before .before .before .before .before .good .0 .0) }
-
--- src/decode.rt:419:1
-returns-5 : tie.Need-returns-5
-unfolding claimsRequest
-returns-5 c = outcome-ok _ (via-ok _ _ _ _ _ (got-4 (c)))
+returns-4 c = outcome-ok _ (via-ok _ _ _ _ _ (got-3 (c)))
 
 pub read-claims-request-spec : {M : Type 1} → statement M
 read-claims-request-spec =
@@ -231,15 +155,5 @@ read-claims-request-spec =
     why-requires-3
     refused-claims-request-requires-3
     returns-3
-    add-at-2
-    sub-read-array32-2
-    part-read-array32-start-2
-    part-read-array32-end-2
-    read-array32-requires-2
-    enum-known-cluster-instance-to
-    enum-told-4
-    why-requires-4
-    refused-claims-request-requires-4
-    returns-4
-    add-t20
-    returns-5)
+    add-t15
+    returns-4)

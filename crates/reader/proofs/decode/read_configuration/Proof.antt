@@ -40,128 +40,99 @@ got-3 c = dep-ok _ _ _ (got-2 (c .before .before .before .before .before .before
 counted : (c : tie.After-known-told2) → count .dec (drop (c .before .before .before .before .before .before .epoch-read .given .0 .1 .0) (c .before .before .before .before .before .before .before .before .before .before .args .bytes .now)) ≡ ok (c .before .count-read .given .0 .0) (c .before .count-read .given .0 .1 .0)
 counted c = got u8Read (c .before .before .before .read-count .ensures ∙ ap (count .dec) (rest (c .before .before .before .before .before .before .before .before .before .before .args .bytes .now) _)) (c .before .count-read .given .1)
 
--- src/decode.rt:211:9
 read-epoch-requires : tie.Need-read-epoch-requires
 read-epoch-requires c κs = search needs
 
--- src/decode.rt:212:23
 enum-known-epoch-read : tie.Need-enum-known-epoch-read
 enum-known-epoch-read c = search needs
 
--- src/decode.rt:213:38
 enum-told : tie.Need-enum-told
 enum-told c = search needs
 
--- src/decode.rt:213:38
 why-u64-requires : tie.Need-why-u64-requires
 why-u64-requires c κs = search needs
 
--- src/decode.rt:213:9
 refused-configuration-requires : tie.Need-refused-configuration-requires
 refused-configuration-requires c κs = search needs
 
--- src/decode.rt:213:9
 returns : tie.Need-returns
 unfolding configuration
 returns c =
     outcome-no _ (c .refused-configuration .ensures ∙ ap (λ a. outcome blankVoterConfiguration (no (numberOf a))) (c .before .why-u64 .ensures ∙ ap whyU64 (c .before .before .enum-told .given .1)))
     (via-no _ _ _ _ _ (dep-no-1 _ _ _ (dep-no-1 _ _ _ (got u64Read (c .before .before .before .before .read-epoch .ensures) (c .before .before .enum-told .given .1)))))
 
--- src/decode.rt:215:33
 sub-read-count : tie.Need-sub-read-count
 sub-read-count c = c1 .within _ (got-1 c)
 
--- src/decode.rt:215:33
 part-read-count-start : tie.Need-part-read-count-start
 part-read-count-start c = c1 .within _ (got-1 c)
 
--- src/decode.rt:215:33
 part-read-count-end : tie.Need-part-read-count-end
 part-read-count-end c = search needs
 
--- src/decode.rt:215:9
 read-count-requires : tie.Need-read-count-requires
 read-count-requires c κs = search needs
 
--- src/decode.rt:216:22
 enum-known-count-read : tie.Need-enum-known-count-read
 enum-known-count-read c = search needs
 
--- src/decode.rt:217:38
 enum-told-2 : tie.Need-enum-told-2
 enum-told-2 c = search needs
 
--- src/decode.rt:217:38
 why-u8-requires : tie.Need-why-u8-requires
 why-u8-requires c κs = search needs
 
--- src/decode.rt:217:9
 refused-configuration-requires-2 : tie.Need-refused-configuration-requires-2
 refused-configuration-requires-2 c κs = search needs
 
--- src/decode.rt:217:9
 returns-2 : tie.Need-returns-2
 unfolding configuration
 returns-2 c =
     outcome-no _ (c .refused-configuration2 .ensures ∙ ap (λ a. outcome blankVoterConfiguration (no (numberOf a))) (c .before .why-u8 .ensures ∙ ap whyU8 (c .before .before .enum-told2 .given .1)))
     (via-no _ _ _ _ _ (dep-no-1 _ _ _ (dep-no-2 _ _ _ (got-1 (c .before .before .before .before .before .before)) (got u8Read (c .before .before .before .before .read-count .ensures ∙ ap (count .dec) (rest (c .before .before .before .before .before .before .before .before .before .before .before .args .bytes .now) _)) (c .before .before .enum-told2 .given .1)))))
 
--- src/decode.rt:219:14
 add-at : tie.Need-add-at
 add-at c = record { fits = lt-of-le-of-lt (c2 .within _ (got-2 c)) (c .before .before .before .before .before .before .before .before .before .before .good .0 .0) }
 
--- src/decode.rt:220:37
 sub-read-members : tie.Need-sub-read-members
 sub-read-members c = c2 .within _ (got-2 c)
 
--- src/decode.rt:220:37
 part-read-members-start : tie.Need-part-read-members-start
 part-read-members-start c = c2 .within _ (got-2 c)
 
--- src/decode.rt:220:37
 part-read-members-end : tie.Need-part-read-members-end
 part-read-members-end c = search needs
 
--- src/decode.rt:220:51
 cast-read-members : tie.Need-cast-read-members
 cast-read-members c = search needs
 
--- src/decode.rt:220:9
 read-members-requires : tie.Need-read-members-requires
 read-members-requires c κs = count-read _ (counted (c .before))
 
--- src/decode.rt:222:21
 enum-known-members-to : tie.Need-enum-known-members-to
 enum-known-members-to c = search needs
 
--- src/decode.rt:223:38
 enum-told-3 : tie.Need-enum-told-3
 enum-told-3 c = search needs
 
--- src/decode.rt:223:38
 why-requires : tie.Need-why-requires
 why-requires c κs = search needs
 
--- src/decode.rt:223:9
 refused-configuration-requires-3 : tie.Need-refused-configuration-requires-3
 refused-configuration-requires-3 c κs = search needs
 
--- src/decode.rt:223:9
 returns-3 : tie.Need-returns-3
 unfolding configuration
 returns-3 c =
     outcome-no _ (c .refused-configuration3 .ensures ∙ ap (λ a. outcome blankVoterConfiguration (no (numberOf a))) (c .before .why .ensures ∙ ap whyOf (c .before .before .enum-told3 .given .1)))
     (via-no _ _ _ _ _ (dep-no-2 _ _ _ (got-2 (c .before .before .before .before .before .before)) (told-not blankVoterSlotMembers _ (c .before .before .before .before .read-members .ensures ∙ ap (λ l. outcome blankVoterSlotMembers ((members (c .before .before .before .before .before .before .before .count-read .given .0 .0)) .dec l)) (rest (c .before .before .before .before .before .before .before .before .before .before .before .before .before .before .before .before .args .bytes .now) _)) (c .before .before .enum-told3 .given .1))))
 
--- src/decode.rt:227:29
 add-t15 : tie.Need-add-t15
 add-t15 c = record { fits = lt-of-le-of-lt (c3 .within _ (got-3 (c))) (c .before .before .before .before .before .before .before .before .before .before .before .before .before .before .before .before .good .0 .0) }
 
--- src/decode.rt:231:20
 cast-t22 : tie.Need-cast-t22
 cast-t22 c = search needs
 
--- src/decode.rt:208:1
 returns-4 : tie.Need-returns-4
 unfolding configuration
 returns-4 c = outcome-ok _ (via-ok _ _ _ _ _ (got-3 (c)))

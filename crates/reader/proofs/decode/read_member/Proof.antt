@@ -29,81 +29,63 @@ got-1 c = got identityRead (c .before .before .before .read-identity .ensures) (
 got-2 : (c : tie.After-binding) → c2 .dec (c .before .before .before .before .before .before .before .before .before .before .before .args .bytes .now) ≡ ok (c .before .before .before .before .before .before .before .identity-read .given .0 .0, c .before .before .before .before .read-binding .result .value) (c .before .before .before .before .before .before .before .identity-read .given .0 .1 .0 + c .before .before .binding-to .given .0 .0)
 got-2 c = dep-ok _ _ _ (got-1 (c .before .before .before .before .before .before)) (told blankBinding _ (c .before .before .before .before .read-binding .ensures ∙ ap (λ l. outcome blankBinding (binding .dec l)) (rest (c .before .before .before .before .before .before .before .before .before .before .before .args .bytes .now) _)) (c .before .before .binding-to .given .1))
 
--- src/decode.rt:166:9
 read-identity-requires : tie.Need-read-identity-requires
 read-identity-requires c κs = search needs
 
--- src/decode.rt:167:28
 enum-known-identity-read : tie.Need-enum-known-identity-read
 enum-known-identity-read c = search needs
 
--- src/decode.rt:168:31
 enum-told : tie.Need-enum-told
 enum-told c = search needs
 
--- src/decode.rt:168:31
 why-identity-requires : tie.Need-why-identity-requires
 why-identity-requires c κs = search needs
 
--- src/decode.rt:168:9
 refused-member-requires : tie.Need-refused-member-requires
 refused-member-requires c κs = search needs
 
--- src/decode.rt:168:9
 returns : tie.Need-returns
 unfolding member
 returns c =
     outcome-no _ (c .refused-member .ensures ∙ ap (λ a. outcome blankVoterSlotMember (no (numberOf a))) (c .before .why-identity .ensures ∙ ap whyIdentity (c .before .before .enum-told .given .1)))
     (via-no _ _ _ _ _ (dep-no-1 _ _ _ (got identityRead (c .before .before .before .before .read-identity .ensures) (c .before .before .enum-told .given .1))))
 
--- src/decode.rt:170:37
 sub-read-binding : tie.Need-sub-read-binding
 sub-read-binding c = c1 .within _ (got-1 c)
 
--- src/decode.rt:170:37
 part-read-binding-start : tie.Need-part-read-binding-start
 part-read-binding-start c = c1 .within _ (got-1 c)
 
--- src/decode.rt:170:37
 part-read-binding-end : tie.Need-part-read-binding-end
 part-read-binding-end c = search needs
 
--- src/decode.rt:170:9
 read-binding-requires : tie.Need-read-binding-requires
 read-binding-requires c κs = search needs
 
--- src/decode.rt:172:21
 enum-known-binding-to : tie.Need-enum-known-binding-to
 enum-known-binding-to c = search needs
 
--- src/decode.rt:173:31
 enum-told-2 : tie.Need-enum-told-2
 enum-told-2 c = search needs
 
--- src/decode.rt:173:31
 why-requires : tie.Need-why-requires
 why-requires c κs = search needs
 
--- src/decode.rt:173:9
 refused-member-requires-2 : tie.Need-refused-member-requires-2
 refused-member-requires-2 c κs = search needs
 
--- src/decode.rt:173:9
 returns-2 : tie.Need-returns-2
 unfolding member
 returns-2 c =
     outcome-no _ (c .refused-member2 .ensures ∙ ap (λ a. outcome blankVoterSlotMember (no (numberOf a))) (c .before .why .ensures ∙ ap whyOf (c .before .before .enum-told2 .given .1)))
     (via-no _ _ _ _ _ (dep-no-2 _ _ _ (got-1 (c .before .before .before .before .before .before)) (told-not blankBinding _ (c .before .before .before .before .read-binding .ensures ∙ ap (λ l. outcome blankBinding (binding .dec l)) (rest (c .before .before .before .before .before .before .before .before .before .before .before .args .bytes .now) _)) (c .before .before .enum-told2 .given .1))))
 
--- src/decode.rt:177:29
 add-t11 : tie.Need-add-t11
 add-t11 c = record { fits = lt-of-le-of-lt (c2 .within _ (got-2 (c))) (c .before .before .before .before .before .before .before .before .before .before .before .good .0 .0) }
 
--- src/decode.rt:178:16
 member-of-requires : tie.Need-member-of-requires
 member-of-requires c κs = search needs
 
--- src/decode.rt:163:1
 returns-3 : tie.Need-returns-3
 unfolding member
 returns-3 c = outcome-ok _ (via-ok _ _ _ _ _ (got-2 (c .before)) ∙ ap (λ v. ok v (c .before .before .before .before .before .before .before .before .identity-read .given .0 .1 .0 + c .before .before .before .binding-to .given .0 .0)) (sym (c .member-of .ensures)))

@@ -35,48 +35,37 @@ blanks-behind : (i : ℕ) → drop i blankVoterSlotMembers ≡ replicate (9 - i)
 unfolding blankVoterSlotMembers
 blanks-behind i = drop-replicate i 9 blankVoterSlotMember
 
--- src/decode.rt:187:21
 blank-voter-slot-members-requires : tie.Need-blank-voter-slot-members-requires Inv-loop μ-loop
 blank-voter-slot-members-requires c κs = search needs
 
--- src/decode.rt:190:5
 loop-holds : tie.Need-loop-holds Inv-loop μ-loop
 unfolding blankVoterSlotMembers
 loop-holds c = (search needs, vec-start member blankVoterSlotMember _, refl, ap length (c .blank-voter-slot-members .ensures))
 
--- src/decode.rt:191:32
 sub-read-member : tie.Need-sub-read-member Inv-loop μ-loop
 sub-read-member c = vec member blankVoterSlotMember _ .within _ (c .before .loop .inv .1)
 
--- src/decode.rt:191:32
 part-read-member-start : tie.Need-part-read-member-start Inv-loop μ-loop
 part-read-member-start c = vec member blankVoterSlotMember _ .within _ (c .before .loop .inv .1)
 
--- src/decode.rt:191:32
 part-read-member-end : tie.Need-part-read-member-end Inv-loop μ-loop
 part-read-member-end c = search needs
 
--- src/decode.rt:191:13
 read-member-requires : tie.Need-read-member-requires Inv-loop μ-loop
 read-member-requires c κs = search needs
 
--- src/decode.rt:193:25
 enum-known-to : tie.Need-enum-known-to Inv-loop μ-loop
 enum-known-to c = search needs
 
--- src/decode.rt:194:36
 enum-told : tie.Need-enum-told Inv-loop μ-loop
 enum-told c = search needs
 
--- src/decode.rt:194:36
 why-requires : tie.Need-why-requires Inv-loop μ-loop
 why-requires c κs = search needs
 
--- src/decode.rt:194:13
 refused-members-requires : tie.Need-refused-members-requires Inv-loop μ-loop
 refused-members-requires c κs = search needs
 
--- src/decode.rt:194:13
 returns : tie.Need-returns Inv-loop μ-loop
 unfolding members
 returns c =
@@ -85,27 +74,21 @@ returns c =
     (padded-no _ _ _ _ _ _ (vec-refused _ _ _ _ _ (c .before .before .before .before .before .before .loop-test .taken) (l .inv .1)
     (told-not blankVoterSlotMember _ (c .before .before .before .before .read-member .ensures ∙ ap (λ l. outcome blankVoterSlotMember (member .dec l)) (rest (c .before .before .before .before .before .before .before .before .before .before .args .bytes .now) (l .at))) (c .before .before .enum-told .given .1))))
 
--- src/decode.rt:197:9
 mul-value : tie.Need-mul-value Inv-loop μ-loop
 mul-value c = search needs
 
--- src/decode.rt:197:9
 array-set-from-value : tie.Need-array-set-from-value Inv-loop μ-loop
 array-set-from-value c = search needs
 
--- src/decode.rt:198:9
 add-at : tie.Need-add-at Inv-loop μ-loop
 add-at c = record { fits = lt-of-le-of-lt (vec member blankVoterSlotMember _ .within _ (vec-next member blankVoterSlotMember _ _ (c .before .before .before .before .before .before .before .loop .inv .1) (one-more (c .before .before)))) (c .before .before .before .before .before .before .before .before .before .before .good .0 .0) }
 
--- src/decode.rt:199:9
 add-i : tie.Need-add-i Inv-loop μ-loop
 add-i c = search needs
 
--- src/decode.rt:190:5
 loop-less : tie.Need-loop-less Inv-loop μ-loop
 loop-less c = omega arith
 
--- src/decode.rt:190:5
 loop-again : tie.Need-loop-again Inv-loop μ-loop
 loop-again c =
     let l = c .before .before .before .before .before .before .before .loop in
@@ -116,7 +99,6 @@ loop-again c =
       length-set (l .value) (l .i) m ∙ l .inv .3,
     )
 
--- src/decode.rt:183:1
 returns-2 : tie.Need-returns-2 Inv-loop μ-loop
 unfolding members
 returns-2 c =

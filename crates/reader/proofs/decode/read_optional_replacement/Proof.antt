@@ -30,37 +30,29 @@ flagged-yes c = flagged (c .before .before) ∙ ap (λ t. ok t (c .before .befor
 both : (c : tie.After-value) → opt replacement blankVoterReplacementRecord .dec (c .before .before .before .before .before .before .before .before .before .before .before .before .args .bytes .now) ≡ ok (true, c .before .before .before .before .read-replacement .result .value) (c .before .before .before .before .before .before .before .before .flag .given .0 .1 .0 + c .before .before .to .given .0 .0)
 both c = opt-some _ _ _ (flagged-yes (c .before .before .before .before .before .before)) (told blankVoterReplacementRecord _ (c .before .before .before .before .read-replacement .ensures ∙ ap (λ l. outcome blankVoterReplacementRecord (replacement .dec l)) (rest (c .before .before .before .before .before .before .before .before .before .before .before .before .args .bytes .now) _)) (c .before .before .to .given .1))
 
--- src/decode.rt:790:9
 read-flag-requires : tie.Need-read-flag-requires
 read-flag-requires c κs = search needs
 
--- src/decode.rt:791:24
 enum-known-flag : tie.Need-enum-known-flag
 enum-known-flag c = search needs
 
--- src/decode.rt:792:45
 enum-told : tie.Need-enum-told
 enum-told c = search needs
 
--- src/decode.rt:792:45
 why-bool-requires : tie.Need-why-bool-requires
 why-bool-requires c κs = search needs
 
--- src/decode.rt:792:9
 refused-optional-replacement-requires : tie.Need-refused-optional-replacement-requires
 refused-optional-replacement-requires c κs = search needs
 
--- src/decode.rt:792:9
 returns : tie.Need-returns
 returns c =
     outcome-no absentReplacement (c .refused-optional-replacement .ensures ∙ ap (λ a. outcome absentReplacement (no (numberOf a))) (c .before .why-bool .ensures ∙ ap whyBool (c .before .before .enum-told .given .1)))
     (opt-no _ _ _ (got boolRead (c .before .before .before .before .read-flag .ensures) (c .before .before .enum-told .given .1)))
 
--- src/decode.rt:798:20
 blank-voter-replacement-record-requires : tie.Need-blank-voter-replacement-record-requires
 blank-voter-replacement-record-requires c κs = search needs
 
--- src/decode.rt:795:9
 returns-2 : tie.Need-returns-2
 returns-2 c =
     let n = c .before .before .before .flag .given .0 .1 .0 in
@@ -68,49 +60,38 @@ returns-2 c =
     let p : opt replacement blankVoterReplacementRecord .dec (c .before .before .before .before .before .before .before .args .bytes .now) ≡ ok (false, blankVoterReplacementRecord) n = opt-none _ _ _ (flagged (c .before .before .before) ∙ ap (λ b. ok b n) t) in
     outcome-ok absentReplacement (p ∙ (λ i. ok (sym t i, sym (c .blank-voter-replacement-record .ensures) i) n))
 
--- src/decode.rt:801:33
 sub-read-replacement : tie.Need-sub-read-replacement
 sub-read-replacement c = flag .within _ (flagged (c .before .before))
 
--- src/decode.rt:801:33
 part-read-replacement-start : tie.Need-part-read-replacement-start
 part-read-replacement-start c = flag .within _ (flagged (c .before .before))
 
--- src/decode.rt:801:33
 part-read-replacement-end : tie.Need-part-read-replacement-end
 part-read-replacement-end c = search needs
 
--- src/decode.rt:801:9
 read-replacement-requires : tie.Need-read-replacement-requires
 read-replacement-requires c κs = search needs
 
--- src/decode.rt:803:21
 enum-known-to : tie.Need-enum-known-to
 enum-known-to c = search needs
 
--- src/decode.rt:804:45
 enum-told-2 : tie.Need-enum-told-2
 enum-told-2 c = search needs
 
--- src/decode.rt:804:45
 why-requires : tie.Need-why-requires
 why-requires c κs = search needs
 
--- src/decode.rt:804:9
 refused-optional-replacement-requires-2 : tie.Need-refused-optional-replacement-requires-2
 refused-optional-replacement-requires-2 c κs = search needs
 
--- src/decode.rt:804:9
 returns-3 : tie.Need-returns-3
 returns-3 c =
     outcome-no absentReplacement (c .refused-optional-replacement2 .ensures ∙ ap (λ a. outcome absentReplacement (no (numberOf a))) (c .before .why .ensures ∙ ap whyOf (c .before .before .enum-told2 .given .1)))
     (opt-bad _ _ _ (flagged-yes (c .before .before .before .before .before .before)) (told-not blankVoterReplacementRecord _ (c .before .before .before .before .read-replacement .ensures ∙ ap (λ l. outcome blankVoterReplacementRecord (replacement .dec l)) (rest (c .before .before .before .before .before .before .before .before .before .before .before .before .args .bytes .now) _)) (c .before .before .enum-told2 .given .1)))
 
--- src/decode.rt:808:29
 add-t14 : tie.Need-add-t14
 add-t14 c = record { fits = lt-of-le-of-lt ((opt replacement blankVoterReplacementRecord) .within _ (both c)) (c .before .before .before .before .before .before .before .before .before .before .before .before .good .0 .0) }
 
--- src/decode.rt:787:1
 returns-4 : tie.Need-returns-4
 returns-4 c =
     outcome-ok absentReplacement

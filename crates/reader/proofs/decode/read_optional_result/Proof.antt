@@ -30,37 +30,29 @@ flagged-yes c = flagged (c .before .before) ∙ ap (λ t. ok t (c .before .befor
 both : (c : tie.After-value) → opt result blankVoterReplacementResult .dec (c .before .before .before .before .before .before .before .before .before .before .before .before .args .bytes .now) ≡ ok (true, c .before .before .before .before .read-result .result .value) (c .before .before .before .before .before .before .before .before .flag .given .0 .1 .0 + c .before .before .to .given .0 .0)
 both c = opt-some _ _ _ (flagged-yes (c .before .before .before .before .before .before)) (told blankVoterReplacementResult _ (c .before .before .before .before .read-result .ensures ∙ ap (λ l. outcome blankVoterReplacementResult (result .dec l)) (rest (c .before .before .before .before .before .before .before .before .before .before .before .before .args .bytes .now) _)) (c .before .before .to .given .1))
 
--- src/decode.rt:307:9
 read-flag-requires : tie.Need-read-flag-requires
 read-flag-requires c κs = search needs
 
--- src/decode.rt:308:24
 enum-known-flag : tie.Need-enum-known-flag
 enum-known-flag c = search needs
 
--- src/decode.rt:309:40
 enum-told : tie.Need-enum-told
 enum-told c = search needs
 
--- src/decode.rt:309:40
 why-bool-requires : tie.Need-why-bool-requires
 why-bool-requires c κs = search needs
 
--- src/decode.rt:309:9
 refused-optional-result-requires : tie.Need-refused-optional-result-requires
 refused-optional-result-requires c κs = search needs
 
--- src/decode.rt:309:9
 returns : tie.Need-returns
 returns c =
     outcome-no absentResult (c .refused-optional-result .ensures ∙ ap (λ a. outcome absentResult (no (numberOf a))) (c .before .why-bool .ensures ∙ ap whyBool (c .before .before .enum-told .given .1)))
     (opt-no _ _ _ (got boolRead (c .before .before .before .before .read-flag .ensures) (c .before .before .enum-told .given .1)))
 
--- src/decode.rt:315:20
 blank-voter-replacement-result-requires : tie.Need-blank-voter-replacement-result-requires
 blank-voter-replacement-result-requires c κs = search needs
 
--- src/decode.rt:312:9
 returns-2 : tie.Need-returns-2
 returns-2 c =
     let n = c .before .before .before .flag .given .0 .1 .0 in
@@ -68,49 +60,38 @@ returns-2 c =
     let p : opt result blankVoterReplacementResult .dec (c .before .before .before .before .before .before .before .args .bytes .now) ≡ ok (false, blankVoterReplacementResult) n = opt-none _ _ _ (flagged (c .before .before .before) ∙ ap (λ b. ok b n) t) in
     outcome-ok absentResult (p ∙ (λ i. ok (sym t i, sym (c .blank-voter-replacement-result .ensures) i) n))
 
--- src/decode.rt:318:28
 sub-read-result : tie.Need-sub-read-result
 sub-read-result c = flag .within _ (flagged (c .before .before))
 
--- src/decode.rt:318:28
 part-read-result-start : tie.Need-part-read-result-start
 part-read-result-start c = flag .within _ (flagged (c .before .before))
 
--- src/decode.rt:318:28
 part-read-result-end : tie.Need-part-read-result-end
 part-read-result-end c = search needs
 
--- src/decode.rt:318:9
 read-result-requires : tie.Need-read-result-requires
 read-result-requires c κs = search needs
 
--- src/decode.rt:320:21
 enum-known-to : tie.Need-enum-known-to
 enum-known-to c = search needs
 
--- src/decode.rt:321:40
 enum-told-2 : tie.Need-enum-told-2
 enum-told-2 c = search needs
 
--- src/decode.rt:321:40
 why-requires : tie.Need-why-requires
 why-requires c κs = search needs
 
--- src/decode.rt:321:9
 refused-optional-result-requires-2 : tie.Need-refused-optional-result-requires-2
 refused-optional-result-requires-2 c κs = search needs
 
--- src/decode.rt:321:9
 returns-3 : tie.Need-returns-3
 returns-3 c =
     outcome-no absentResult (c .refused-optional-result2 .ensures ∙ ap (λ a. outcome absentResult (no (numberOf a))) (c .before .why .ensures ∙ ap whyOf (c .before .before .enum-told2 .given .1)))
     (opt-bad _ _ _ (flagged-yes (c .before .before .before .before .before .before)) (told-not blankVoterReplacementResult _ (c .before .before .before .before .read-result .ensures ∙ ap (λ l. outcome blankVoterReplacementResult (result .dec l)) (rest (c .before .before .before .before .before .before .before .before .before .before .before .before .args .bytes .now) _)) (c .before .before .enum-told2 .given .1)))
 
--- src/decode.rt:325:29
 add-t14 : tie.Need-add-t14
 add-t14 c = record { fits = lt-of-le-of-lt ((opt result blankVoterReplacementResult) .within _ (both c)) (c .before .before .before .before .before .before .before .before .before .before .before .before .good .0 .0) }
 
--- src/decode.rt:304:1
 returns-4 : tie.Need-returns-4
 returns-4 c =
     outcome-ok absentResult

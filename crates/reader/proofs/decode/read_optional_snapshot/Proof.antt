@@ -30,37 +30,29 @@ flagged-yes c = flagged (c .before .before) ∙ ap (λ t. ok t (c .before .befor
 both : (c : tie.After-value) → opt snapshot blankVoterSnapshotEvidence .dec (c .before .before .before .before .before .before .before .before .before .before .before .before .args .bytes .now) ≡ ok (true, c .before .before .before .before .read-snapshot .result .value) (c .before .before .before .before .before .before .before .before .flag .given .0 .1 .0 + c .before .before .to .given .0 .0)
 both c = opt-some _ _ _ (flagged-yes (c .before .before .before .before .before .before)) (told blankVoterSnapshotEvidence _ (c .before .before .before .before .read-snapshot .ensures ∙ ap (λ l. outcome blankVoterSnapshotEvidence (snapshot .dec l)) (rest (c .before .before .before .before .before .before .before .before .before .before .before .before .args .bytes .now) _)) (c .before .before .to .given .1))
 
--- src/decode.rt:667:9
 read-flag-requires : tie.Need-read-flag-requires
 read-flag-requires c κs = search needs
 
--- src/decode.rt:668:24
 enum-known-flag : tie.Need-enum-known-flag
 enum-known-flag c = search needs
 
--- src/decode.rt:669:42
 enum-told : tie.Need-enum-told
 enum-told c = search needs
 
--- src/decode.rt:669:42
 why-bool-requires : tie.Need-why-bool-requires
 why-bool-requires c κs = search needs
 
--- src/decode.rt:669:9
 refused-optional-snapshot-requires : tie.Need-refused-optional-snapshot-requires
 refused-optional-snapshot-requires c κs = search needs
 
--- src/decode.rt:669:9
 returns : tie.Need-returns
 returns c =
     outcome-no absentSnapshot (c .refused-optional-snapshot .ensures ∙ ap (λ a. outcome absentSnapshot (no (numberOf a))) (c .before .why-bool .ensures ∙ ap whyBool (c .before .before .enum-told .given .1)))
     (opt-no _ _ _ (got boolRead (c .before .before .before .before .read-flag .ensures) (c .before .before .enum-told .given .1)))
 
--- src/decode.rt:675:20
 blank-voter-snapshot-evidence-requires : tie.Need-blank-voter-snapshot-evidence-requires
 blank-voter-snapshot-evidence-requires c κs = search needs
 
--- src/decode.rt:672:9
 returns-2 : tie.Need-returns-2
 returns-2 c =
     let n = c .before .before .before .flag .given .0 .1 .0 in
@@ -68,49 +60,38 @@ returns-2 c =
     let p : opt snapshot blankVoterSnapshotEvidence .dec (c .before .before .before .before .before .before .before .args .bytes .now) ≡ ok (false, blankVoterSnapshotEvidence) n = opt-none _ _ _ (flagged (c .before .before .before) ∙ ap (λ b. ok b n) t) in
     outcome-ok absentSnapshot (p ∙ (λ i. ok (sym t i, sym (c .blank-voter-snapshot-evidence .ensures) i) n))
 
--- src/decode.rt:678:30
 sub-read-snapshot : tie.Need-sub-read-snapshot
 sub-read-snapshot c = flag .within _ (flagged (c .before .before))
 
--- src/decode.rt:678:30
 part-read-snapshot-start : tie.Need-part-read-snapshot-start
 part-read-snapshot-start c = flag .within _ (flagged (c .before .before))
 
--- src/decode.rt:678:30
 part-read-snapshot-end : tie.Need-part-read-snapshot-end
 part-read-snapshot-end c = search needs
 
--- src/decode.rt:678:9
 read-snapshot-requires : tie.Need-read-snapshot-requires
 read-snapshot-requires c κs = search needs
 
--- src/decode.rt:680:21
 enum-known-to : tie.Need-enum-known-to
 enum-known-to c = search needs
 
--- src/decode.rt:681:42
 enum-told-2 : tie.Need-enum-told-2
 enum-told-2 c = search needs
 
--- src/decode.rt:681:42
 why-requires : tie.Need-why-requires
 why-requires c κs = search needs
 
--- src/decode.rt:681:9
 refused-optional-snapshot-requires-2 : tie.Need-refused-optional-snapshot-requires-2
 refused-optional-snapshot-requires-2 c κs = search needs
 
--- src/decode.rt:681:9
 returns-3 : tie.Need-returns-3
 returns-3 c =
     outcome-no absentSnapshot (c .refused-optional-snapshot2 .ensures ∙ ap (λ a. outcome absentSnapshot (no (numberOf a))) (c .before .why .ensures ∙ ap whyOf (c .before .before .enum-told2 .given .1)))
     (opt-bad _ _ _ (flagged-yes (c .before .before .before .before .before .before)) (told-not blankVoterSnapshotEvidence _ (c .before .before .before .before .read-snapshot .ensures ∙ ap (λ l. outcome blankVoterSnapshotEvidence (snapshot .dec l)) (rest (c .before .before .before .before .before .before .before .before .before .before .before .before .args .bytes .now) _)) (c .before .before .enum-told2 .given .1)))
 
--- src/decode.rt:685:29
 add-t14 : tie.Need-add-t14
 add-t14 c = record { fits = lt-of-le-of-lt ((opt snapshot blankVoterSnapshotEvidence) .within _ (both c)) (c .before .before .before .before .before .before .before .before .before .before .before .before .good .0 .0) }
 
--- src/decode.rt:664:1
 returns-4 : tie.Need-returns-4
 returns-4 c =
     outcome-ok absentSnapshot

@@ -41,167 +41,129 @@ got-3 c = dep-ok _ _ _ (got-2 (c .before .before .before .before .before)) (got 
 got-4 : (c : tie.After-known-told4) → c4 .dec (c .before .before .before .before .before .before .before .before .before .before .before .before .before .before .before .before .before .before .before .before .before .args .bytes .now) ≡ ok (((c .before .before .before .before .before .before .before .before .before .before .before .before .before .before .before .before .before .before .before .read-result-head .result .value, c .before .before .before .before .before .before .before .before .before .before .before .configuration-epoch-read .given .0 .0), c .before .before .before .before .before .before .kind-read .given .0 .0), c .before .terminal-read .given .0 .0) (((c .before .before .before .before .before .before .before .before .before .before .before .before .before .before .before .before .before .head-to .given .0 .0 + c .before .before .before .before .before .before .before .before .before .before .before .configuration-epoch-read .given .0 .1 .0) + c .before .before .before .before .before .before .kind-read .given .0 .1 .0) + c .before .terminal-read .given .0 .1 .0)
 got-4 c = dep-ok _ _ _ (got-3 (c .before .before .before .before .before)) (got logIdRead (c .before .before .before .read-log-id .ensures ∙ ap (logId .dec) (rest (c .before .before .before .before .before .before .before .before .before .before .before .before .before .before .before .before .before .before .before .before .before .args .bytes .now) _)) (c .before .terminal-read .given .1))
 
--- src/decode.rt:277:9
 read-result-head-requires : tie.Need-read-result-head-requires
 read-result-head-requires c κs = search needs
 
--- src/decode.rt:279:21
 enum-known-head-to : tie.Need-enum-known-head-to
 enum-known-head-to c = search needs
 
--- src/decode.rt:280:31
 enum-told : tie.Need-enum-told
 enum-told c = search needs
 
--- src/decode.rt:280:31
 why-requires : tie.Need-why-requires
 why-requires c κs = search needs
 
--- src/decode.rt:280:9
 refused-result-requires : tie.Need-refused-result-requires
 refused-result-requires c κs = search needs
 
--- src/decode.rt:280:9
 returns : tie.Need-returns
 unfolding result
 returns c =
     outcome-no _ (c .refused-result .ensures ∙ ap (λ a. outcome blankVoterReplacementResult (no (numberOf a))) (c .before .why .ensures ∙ ap whyOf (c .before .before .enum-told .given .1)))
     (via-no _ _ _ _ _ (dep-no-1 _ _ _ (dep-no-1 _ _ _ (dep-no-1 _ _ _ (told-not blankResultHead _ (c .before .before .before .before .read-result-head .ensures) (c .before .before .enum-told .given .1))))))
 
--- src/decode.rt:283:47
 sub-read-epoch : tie.Need-sub-read-epoch
 sub-read-epoch c = c1 .within _ (got-1 c)
 
--- src/decode.rt:283:47
 part-read-epoch-start : tie.Need-part-read-epoch-start
 part-read-epoch-start c = c1 .within _ (got-1 c)
 
--- src/decode.rt:283:47
 part-read-epoch-end : tie.Need-part-read-epoch-end
 part-read-epoch-end c = search needs
 
--- src/decode.rt:283:9
 read-epoch-requires : tie.Need-read-epoch-requires
 read-epoch-requires c κs = search needs
 
--- src/decode.rt:284:23
 enum-known-configuration-epoch-read : tie.Need-enum-known-configuration-epoch-read
 enum-known-configuration-epoch-read c = search needs
 
--- src/decode.rt:285:31
 enum-told-2 : tie.Need-enum-told-2
 enum-told-2 c = search needs
 
--- src/decode.rt:285:31
 why-u64-requires : tie.Need-why-u64-requires
 why-u64-requires c κs = search needs
 
--- src/decode.rt:285:9
 refused-result-requires-2 : tie.Need-refused-result-requires-2
 refused-result-requires-2 c κs = search needs
 
--- src/decode.rt:285:9
 returns-2 : tie.Need-returns-2
 unfolding result
 returns-2 c =
     outcome-no _ (c .refused-result2 .ensures ∙ ap (λ a. outcome blankVoterReplacementResult (no (numberOf a))) (c .before .why-u64 .ensures ∙ ap whyU64 (c .before .before .enum-told2 .given .1)))
     (via-no _ _ _ _ _ (dep-no-1 _ _ _ (dep-no-1 _ _ _ (dep-no-2 _ _ _ (got-1 (c .before .before .before .before .before .before)) (got u64Read (c .before .before .before .before .read-epoch .ensures ∙ ap (epoch .dec) (rest (c .before .before .before .before .before .before .before .before .before .before .before .before .args .bytes .now) _)) (c .before .before .enum-told2 .given .1))))))
 
--- src/decode.rt:287:14
 add-at : tie.Need-add-at
 add-at c = record { fits = lt-of-le-of-lt (c2 .within _ (got-2 c)) (c .before .before .before .before .before .before .before .before .before .before .before .good .0 .0) }
 
--- src/decode.rt:288:33
 sub-read-choice : tie.Need-sub-read-choice
 sub-read-choice c = c2 .within _ (got-2 c)
 
--- src/decode.rt:288:33
 part-read-choice-start : tie.Need-part-read-choice-start
 part-read-choice-start c = c2 .within _ (got-2 c)
 
--- src/decode.rt:288:33
 part-read-choice-end : tie.Need-part-read-choice-end
 part-read-choice-end c = search needs
 
--- src/decode.rt:288:9
 read-choice-requires : tie.Need-read-choice-requires
 read-choice-requires c κs = search needs
 
--- src/decode.rt:289:22
 enum-known-kind-read : tie.Need-enum-known-kind-read
 enum-known-kind-read c = search needs
 
--- src/decode.rt:290:31
 enum-told-3 : tie.Need-enum-told-3
 enum-told-3 c = search needs
 
--- src/decode.rt:290:31
 why-u8-requires : tie.Need-why-u8-requires
 why-u8-requires c κs = search needs
 
--- src/decode.rt:290:9
 refused-result-requires-3 : tie.Need-refused-result-requires-3
 refused-result-requires-3 c κs = search needs
 
--- src/decode.rt:290:9
 returns-3 : tie.Need-returns-3
 unfolding result
 returns-3 c =
     outcome-no _ (c .refused-result3 .ensures ∙ ap (λ a. outcome blankVoterReplacementResult (no (numberOf a))) (c .before .why-u8 .ensures ∙ ap whyU8 (c .before .before .enum-told3 .given .1)))
     (via-no _ _ _ _ _ (dep-no-1 _ _ _ (dep-no-2 _ _ _ (got-2 (c .before .before .before .before .before .before)) (got u8Read (c .before .before .before .before .read-choice .ensures ∙ ap ((choice 0 1) .dec) (rest (c .before .before .before .before .before .before .before .before .before .before .before .before .before .before .before .before .before .args .bytes .now) _)) (c .before .before .enum-told3 .given .1)))))
 
--- src/decode.rt:292:14
 add-at-2 : tie.Need-add-at-2
 add-at-2 c = record { fits = lt-of-le-of-lt (c3 .within _ (got-3 c)) (c .before .before .before .before .before .before .before .before .before .before .before .before .before .before .before .before .good .0 .0) }
 
--- src/decode.rt:293:37
 sub-read-log-id : tie.Need-sub-read-log-id
 sub-read-log-id c = c3 .within _ (got-3 c)
 
--- src/decode.rt:293:37
 part-read-log-id-start : tie.Need-part-read-log-id-start
 part-read-log-id-start c = c3 .within _ (got-3 c)
 
--- src/decode.rt:293:37
 part-read-log-id-end : tie.Need-part-read-log-id-end
 part-read-log-id-end c = search needs
 
--- src/decode.rt:293:9
 read-log-id-requires : tie.Need-read-log-id-requires
 read-log-id-requires c κs = search needs
 
--- src/decode.rt:294:25
 enum-known-terminal-read : tie.Need-enum-known-terminal-read
 enum-known-terminal-read c = search needs
 
--- src/decode.rt:295:31
 enum-told-4 : tie.Need-enum-told-4
 enum-told-4 c = search needs
 
--- src/decode.rt:295:31
 why-log-id-requires : tie.Need-why-log-id-requires
 why-log-id-requires c κs = search needs
 
--- src/decode.rt:295:9
 refused-result-requires-4 : tie.Need-refused-result-requires-4
 refused-result-requires-4 c κs = search needs
 
--- src/decode.rt:295:9
 returns-4 : tie.Need-returns-4
 unfolding result
 returns-4 c =
     outcome-no _ (c .refused-result4 .ensures ∙ ap (λ a. outcome blankVoterReplacementResult (no (numberOf a))) (c .before .why-log-id .ensures ∙ ap whyLogId (c .before .before .enum-told4 .given .1)))
     (via-no _ _ _ _ _ (dep-no-2 _ _ _ (got-3 (c .before .before .before .before .before .before)) (got logIdRead (c .before .before .before .before .read-log-id .ensures ∙ ap (logId .dec) (rest (c .before .before .before .before .before .before .before .before .before .before .before .before .before .before .before .before .before .before .before .before .before .before .args .bytes .now) _)) (c .before .before .enum-told4 .given .1))))
 
--- src/decode.rt:298:29
 add-t19 : tie.Need-add-t19
 add-t19 c = record { fits = lt-of-le-of-lt (c4 .within _ (got-4 (c))) (c .before .before .before .before .before .before .before .before .before .before .before .before .before .before .before .before .before .before .before .before .before .good .0 .0) }
 
--- src/decode.rt:299:16
 result-of-requires : tie.Need-result-of-requires
 result-of-requires c κs = search needs
 
--- src/decode.rt:274:1
 returns-5 : tie.Need-returns-5
 unfolding result
 returns-5 c = outcome-ok _ (via-ok _ _ _ _ _ (got-4 (c .before)) ∙ ap (λ v. ok v (((c .before .before .before .before .before .before .before .before .before .before .before .before .before .before .before .before .before .before .head-to .given .0 .0 + c .before .before .before .before .before .before .before .before .before .before .before .before .configuration-epoch-read .given .0 .1 .0) + c .before .before .before .before .before .before .before .kind-read .given .0 .1 .0) + c .before .before .terminal-read .given .0 .1 .0)) (sym (c .result-of .ensures)))

@@ -41,163 +41,126 @@ got-3 c = dep-ok _ _ _ (got-2 (c .before .before .before .before .before)) (got 
 got-4 : (c : tie.After-known-told4) → c4 .dec (c .before .before .before .before .before .before .before .before .before .before .before .before .before .before .before .before .before .before .before .before .before .before .args .bytes .now) ≡ ok (((c .before .before .before .before .before .before .before .before .before .before .before .before .before .before .before .before .before .before .before .before .read-array16 .result .value, c .before .before .before .before .before .before .before .before .before .before .before .before .before .before .read-array32 .result .value), c .before .before .before .before .before .before .incarnation-read .given .0 .0), c .before .revision-read .given .0 .0) (((c .before .before .before .before .before .before .before .before .before .before .before .before .before .before .before .before .before .before .request-id-to .given .0 .0 + c .before .before .before .before .before .before .before .before .before .before .before .before .request-digest-to .given .0 .0) + c .before .before .before .before .before .before .incarnation-read .given .0 .1 .0) + c .before .revision-read .given .0 .1 .0)
 got-4 c = dep-ok _ _ _ (got-3 (c .before .before .before .before .before)) (got u64Read (c .before .before .before .read-u64 .ensures ∙ ap ((uint 8) .dec) (rest (c .before .before .before .before .before .before .before .before .before .before .before .before .before .before .before .before .before .before .before .before .before .before .args .bytes .now) _)) (c .before .revision-read .given .1))
 
--- src/decode.rt:240:9
 read-array16-requires : tie.Need-read-array16-requires
 read-array16-requires c κs = search needs
 
--- src/decode.rt:242:21
 enum-known-request-id-to : tie.Need-enum-known-request-id-to
 enum-known-request-id-to c = search needs
 
--- src/decode.rt:243:36
 enum-told : tie.Need-enum-told
 enum-told c = search needs
 
--- src/decode.rt:243:36
 why-requires : tie.Need-why-requires
 why-requires c κs = search needs
 
--- src/decode.rt:243:9
 refused-result-head-requires : tie.Need-refused-result-head-requires
 refused-result-head-requires c κs = search needs
 
--- src/decode.rt:243:9
 returns : tie.Need-returns
 unfolding resultHead
 returns c =
     outcome-no _ (c .refused-result-head .ensures ∙ ap (λ a. outcome blankResultHead (no (numberOf a))) (c .before .why .ensures ∙ ap whyOf (c .before .before .enum-told .given .1)))
     (via-no _ _ _ _ _ (dep-no-1 _ _ _ (dep-no-1 _ _ _ (dep-no-1 _ _ _ (told-not (zeros 16) _ (c .before .before .before .before .read-array16 .ensures) (c .before .before .enum-told .given .1))))))
 
--- src/decode.rt:246:44
 sub-read-array32 : tie.Need-sub-read-array32
 sub-read-array32 c = c1 .within _ (got-1 c)
 
--- src/decode.rt:246:44
 part-read-array32-start : tie.Need-part-read-array32-start
 part-read-array32-start c = c1 .within _ (got-1 c)
 
--- src/decode.rt:246:44
 part-read-array32-end : tie.Need-part-read-array32-end
 part-read-array32-end c = search needs
 
--- src/decode.rt:246:9
 read-array32-requires : tie.Need-read-array32-requires
 read-array32-requires c κs = search needs
 
--- src/decode.rt:248:21
 enum-known-request-digest-to : tie.Need-enum-known-request-digest-to
 enum-known-request-digest-to c = search needs
 
--- src/decode.rt:249:36
 enum-told-2 : tie.Need-enum-told-2
 enum-told-2 c = search needs
 
--- src/decode.rt:249:36
 why-requires-2 : tie.Need-why-requires-2
 why-requires-2 c κs = search needs
 
--- src/decode.rt:249:9
 refused-result-head-requires-2 : tie.Need-refused-result-head-requires-2
 refused-result-head-requires-2 c κs = search needs
 
--- src/decode.rt:249:9
 returns-2 : tie.Need-returns-2
 unfolding resultHead
 returns-2 c =
     outcome-no _ (c .refused-result-head2 .ensures ∙ ap (λ a. outcome blankResultHead (no (numberOf a))) (c .before .why2 .ensures ∙ ap whyOf (c .before .before .enum-told2 .given .1)))
     (via-no _ _ _ _ _ (dep-no-1 _ _ _ (dep-no-1 _ _ _ (dep-no-2 _ _ _ (got-1 (c .before .before .before .before .before .before)) (told-not (zeros 32) _ (c .before .before .before .before .read-array32 .ensures ∙ ap (λ l. outcome (zeros 32) ((raw 32) .dec l)) (rest (c .before .before .before .before .before .before .before .before .before .before .before .before .args .bytes .now) _)) (c .before .before .enum-told2 .given .1))))))
 
--- src/decode.rt:252:14
 add-at : tie.Need-add-at
 add-at c = record { fits = lt-of-le-of-lt (c2 .within _ (got-2 c)) (c .before .before .before .before .before .before .before .before .before .before .before .before .good .0 .0) }
 
--- src/decode.rt:253:45
 sub-read-incarnation : tie.Need-sub-read-incarnation
 sub-read-incarnation c = c2 .within _ (got-2 c)
 
--- src/decode.rt:253:45
 part-read-incarnation-start : tie.Need-part-read-incarnation-start
 part-read-incarnation-start c = c2 .within _ (got-2 c)
 
--- src/decode.rt:253:45
 part-read-incarnation-end : tie.Need-part-read-incarnation-end
 part-read-incarnation-end c = search needs
 
--- src/decode.rt:253:9
 read-incarnation-requires : tie.Need-read-incarnation-requires
 read-incarnation-requires c κs = search needs
 
--- src/decode.rt:254:23
 enum-known-incarnation-read : tie.Need-enum-known-incarnation-read
 enum-known-incarnation-read c = search needs
 
--- src/decode.rt:255:36
 enum-told-3 : tie.Need-enum-told-3
 enum-told-3 c = search needs
 
--- src/decode.rt:255:36
 why-u64-requires : tie.Need-why-u64-requires
 why-u64-requires c κs = search needs
 
--- src/decode.rt:255:9
 refused-result-head-requires-3 : tie.Need-refused-result-head-requires-3
 refused-result-head-requires-3 c κs = search needs
 
--- src/decode.rt:255:9
 returns-3 : tie.Need-returns-3
 unfolding resultHead
 returns-3 c =
     outcome-no _ (c .refused-result-head3 .ensures ∙ ap (λ a. outcome blankResultHead (no (numberOf a))) (c .before .why-u64 .ensures ∙ ap whyU64 (c .before .before .enum-told3 .given .1)))
     (via-no _ _ _ _ _ (dep-no-1 _ _ _ (dep-no-2 _ _ _ (got-2 (c .before .before .before .before .before .before)) (got u64Read (c .before .before .before .before .read-incarnation .ensures ∙ ap (incarnation .dec) (rest (c .before .before .before .before .before .before .before .before .before .before .before .before .before .before .before .before .before .before .args .bytes .now) _)) (c .before .before .enum-told3 .given .1)))))
 
--- src/decode.rt:257:14
 add-at-2 : tie.Need-add-at-2
 add-at-2 c = record { fits = lt-of-le-of-lt (c3 .within _ (got-3 c)) (c .before .before .before .before .before .before .before .before .before .before .before .before .before .before .before .before .before .good .0 .0) }
 
--- src/decode.rt:258:34
 sub-read-u64 : tie.Need-sub-read-u64
 sub-read-u64 c = c3 .within _ (got-3 c)
 
--- src/decode.rt:258:34
 part-read-u64-start : tie.Need-part-read-u64-start
 part-read-u64-start c = c3 .within _ (got-3 c)
 
--- src/decode.rt:258:34
 part-read-u64-end : tie.Need-part-read-u64-end
 part-read-u64-end c = search needs
 
--- src/decode.rt:258:9
 read-u64-requires : tie.Need-read-u64-requires
 read-u64-requires c κs = search needs
 
--- src/decode.rt:259:23
 enum-known-revision-read : tie.Need-enum-known-revision-read
 enum-known-revision-read c = search needs
 
--- src/decode.rt:260:36
 enum-told-4 : tie.Need-enum-told-4
 enum-told-4 c = search needs
 
--- src/decode.rt:260:36
 why-u64-requires-2 : tie.Need-why-u64-requires-2
 why-u64-requires-2 c κs = search needs
 
--- src/decode.rt:260:9
 refused-result-head-requires-4 : tie.Need-refused-result-head-requires-4
 refused-result-head-requires-4 c κs = search needs
 
--- src/decode.rt:260:9
 returns-4 : tie.Need-returns-4
 unfolding resultHead
 returns-4 c =
     outcome-no _ (c .refused-result-head4 .ensures ∙ ap (λ a. outcome blankResultHead (no (numberOf a))) (c .before .why-u642 .ensures ∙ ap whyU64 (c .before .before .enum-told4 .given .1)))
     (via-no _ _ _ _ _ (dep-no-2 _ _ _ (got-3 (c .before .before .before .before .before .before)) (got u64Read (c .before .before .before .before .read-u64 .ensures ∙ ap ((uint 8) .dec) (rest (c .before .before .before .before .before .before .before .before .before .before .before .before .before .before .before .before .before .before .before .before .before .before .before .args .bytes .now) _)) (c .before .before .enum-told4 .given .1))))
 
--- src/decode.rt:263:29
 add-t20 : tie.Need-add-t20
 add-t20 c = record { fits = lt-of-le-of-lt (c4 .within _ (got-4 (c))) (c .before .before .before .before .before .before .before .before .before .before .before .before .before .before .before .before .before .before .before .before .before .before .good .0 .0) }
 
--- src/decode.rt:237:1
 returns-5 : tie.Need-returns-5
 unfolding resultHead
 returns-5 c = outcome-ok _ (via-ok _ _ _ _ _ (got-4 (c)))

@@ -35,124 +35,96 @@ got-2 c = dep-ok _ _ _ (got-1 (c .before .before .before .before .before)) (got 
 got-3 : (c : tie.After-binding) → c3 .dec (c .before .before .before .before .before .before .before .before .before .before .before .before .before .before .before .before .args .bytes .now) ≡ ok ((c .before .before .before .before .before .before .before .before .before .before .before .before .identity-read .given .0 .0, c .before .before .before .before .before .before .before .retired-through-read .given .0 .0), c .before .before .before .before .read-binding .result .value) ((c .before .before .before .before .before .before .before .before .before .before .before .before .identity-read .given .0 .1 .0 + c .before .before .before .before .before .before .before .retired-through-read .given .0 .1 .0) + c .before .before .binding-to .given .0 .0)
 got-3 c = dep-ok _ _ _ (got-2 (c .before .before .before .before .before .before)) (told blankBinding _ (c .before .before .before .before .read-binding .ensures ∙ ap (λ l. outcome blankBinding (binding .dec l)) (rest (c .before .before .before .before .before .before .before .before .before .before .before .before .before .before .before .before .args .bytes .now) _)) (c .before .before .binding-to .given .1))
 
--- src/decode.rt:335:9
 read-identity-requires : tie.Need-read-identity-requires
 read-identity-requires c κs = search needs
 
--- src/decode.rt:336:28
 enum-known-identity-read : tie.Need-enum-known-identity-read
 enum-known-identity-read c = search needs
 
--- src/decode.rt:337:36
 enum-told : tie.Need-enum-told
 enum-told c = search needs
 
--- src/decode.rt:337:36
 why-identity-requires : tie.Need-why-identity-requires
 why-identity-requires c κs = search needs
 
--- src/decode.rt:337:9
 refused-slot-member-requires : tie.Need-refused-slot-member-requires
 refused-slot-member-requires c κs = search needs
 
--- src/decode.rt:337:9
 returns : tie.Need-returns
 unfolding slotMember
 returns c =
     outcome-no _ (c .refused-slot-member .ensures ∙ ap (λ a. outcome blankSlotMember (no (numberOf a))) (c .before .why-identity .ensures ∙ ap whyIdentity (c .before .before .enum-told .given .1)))
     (via-no _ _ _ _ _ (dep-no-1 _ _ _ (dep-no-1 _ _ _ (got identityRead (c .before .before .before .before .read-identity .ensures) (c .before .before .enum-told .given .1)))))
 
--- src/decode.rt:339:41
 sub-read-u64 : tie.Need-sub-read-u64
 sub-read-u64 c = c1 .within _ (got-1 c)
 
--- src/decode.rt:339:41
 part-read-u64-start : tie.Need-part-read-u64-start
 part-read-u64-start c = c1 .within _ (got-1 c)
 
--- src/decode.rt:339:41
 part-read-u64-end : tie.Need-part-read-u64-end
 part-read-u64-end c = search needs
 
--- src/decode.rt:339:9
 read-u64-requires : tie.Need-read-u64-requires
 read-u64-requires c κs = search needs
 
--- src/decode.rt:340:23
 enum-known-retired-through-read : tie.Need-enum-known-retired-through-read
 enum-known-retired-through-read c = search needs
 
--- src/decode.rt:341:36
 enum-told-2 : tie.Need-enum-told-2
 enum-told-2 c = search needs
 
--- src/decode.rt:341:36
 why-u64-requires : tie.Need-why-u64-requires
 why-u64-requires c κs = search needs
 
--- src/decode.rt:341:9
 refused-slot-member-requires-2 : tie.Need-refused-slot-member-requires-2
 refused-slot-member-requires-2 c κs = search needs
 
--- src/decode.rt:341:9
 returns-2 : tie.Need-returns-2
 unfolding slotMember
 returns-2 c =
     outcome-no _ (c .refused-slot-member2 .ensures ∙ ap (λ a. outcome blankSlotMember (no (numberOf a))) (c .before .why-u64 .ensures ∙ ap whyU64 (c .before .before .enum-told2 .given .1)))
     (via-no _ _ _ _ _ (dep-no-1 _ _ _ (dep-no-2 _ _ _ (got-1 (c .before .before .before .before .before .before)) (got u64Read (c .before .before .before .before .read-u64 .ensures ∙ ap ((uint 8) .dec) (rest (c .before .before .before .before .before .before .before .before .before .before .before .args .bytes .now) _)) (c .before .before .enum-told2 .given .1)))))
 
--- src/decode.rt:343:14
 add-at : tie.Need-add-at
 add-at c = record { fits = lt-of-le-of-lt (c2 .within _ (got-2 c)) (c .before .before .before .before .before .before .before .before .before .before .good .0 .0) }
 
--- src/decode.rt:344:37
 sub-read-binding : tie.Need-sub-read-binding
 sub-read-binding c = c2 .within _ (got-2 c)
 
--- src/decode.rt:344:37
 part-read-binding-start : tie.Need-part-read-binding-start
 part-read-binding-start c = c2 .within _ (got-2 c)
 
--- src/decode.rt:344:37
 part-read-binding-end : tie.Need-part-read-binding-end
 part-read-binding-end c = search needs
 
--- src/decode.rt:344:9
 read-binding-requires : tie.Need-read-binding-requires
 read-binding-requires c κs = search needs
 
--- src/decode.rt:346:21
 enum-known-binding-to : tie.Need-enum-known-binding-to
 enum-known-binding-to c = search needs
 
--- src/decode.rt:347:36
 enum-told-3 : tie.Need-enum-told-3
 enum-told-3 c = search needs
 
--- src/decode.rt:347:36
 why-requires : tie.Need-why-requires
 why-requires c κs = search needs
 
--- src/decode.rt:347:9
 refused-slot-member-requires-3 : tie.Need-refused-slot-member-requires-3
 refused-slot-member-requires-3 c κs = search needs
 
--- src/decode.rt:347:9
 returns-3 : tie.Need-returns-3
 unfolding slotMember
 returns-3 c =
     outcome-no _ (c .refused-slot-member3 .ensures ∙ ap (λ a. outcome blankSlotMember (no (numberOf a))) (c .before .why .ensures ∙ ap whyOf (c .before .before .enum-told3 .given .1)))
     (via-no _ _ _ _ _ (dep-no-2 _ _ _ (got-2 (c .before .before .before .before .before .before)) (told-not blankBinding _ (c .before .before .before .before .read-binding .ensures ∙ ap (λ l. outcome blankBinding (binding .dec l)) (rest (c .before .before .before .before .before .before .before .before .before .before .before .before .before .before .before .before .args .bytes .now) _)) (c .before .before .enum-told3 .given .1))))
 
--- src/decode.rt:351:29
 add-t15 : tie.Need-add-t15
 add-t15 c = record { fits = lt-of-le-of-lt (c3 .within _ (got-3 (c))) (c .before .before .before .before .before .before .before .before .before .before .before .before .before .before .before .before .good .0 .0) }
 
--- src/decode.rt:353:21
 member-of-requires : tie.Need-member-of-requires
 member-of-requires c κs = search needs
 
--- src/decode.rt:332:1
 returns-4 : tie.Need-returns-4
 unfolding slotMember
 returns-4 c = outcome-ok _ (via-ok _ _ _ _ _ (got-3 (c .before)) ∙ ap (λ v. ok (record { member = v; «retired_through» = c .before .before .before .before .before .before .before .before .retired-through-read .given .0 .0 }) ((c .before .before .before .before .before .before .before .before .before .before .before .before .before .identity-read .given .0 .1 .0 + c .before .before .before .before .before .before .before .before .retired-through-read .given .0 .1 .0) + c .before .before .before .binding-to .given .0 .0)) (sym (c .member-of .ensures)))

@@ -35,48 +35,37 @@ blanks-behind : (i : ℕ) → drop i blankVoterSlotRecords ≡ replicate (9 - i)
 unfolding blankVoterSlotRecords
 blanks-behind i = drop-replicate i 9 blankVoterSlotRecord
 
--- src/decode.rt:398:21
 blank-voter-slot-records-requires : tie.Need-blank-voter-slot-records-requires Inv-loop μ-loop
 blank-voter-slot-records-requires c κs = search needs
 
--- src/decode.rt:401:5
 loop-holds : tie.Need-loop-holds Inv-loop μ-loop
 unfolding blankVoterSlotRecords
 loop-holds c = (search needs, vec-start slot blankVoterSlotRecord _, refl, ap length (c .blank-voter-slot-records .ensures))
 
--- src/decode.rt:402:30
 sub-read-slot : tie.Need-sub-read-slot Inv-loop μ-loop
 sub-read-slot c = vec slot blankVoterSlotRecord _ .within _ (c .before .loop .inv .1)
 
--- src/decode.rt:402:30
 part-read-slot-start : tie.Need-part-read-slot-start Inv-loop μ-loop
 part-read-slot-start c = vec slot blankVoterSlotRecord _ .within _ (c .before .loop .inv .1)
 
--- src/decode.rt:402:30
 part-read-slot-end : tie.Need-part-read-slot-end Inv-loop μ-loop
 part-read-slot-end c = search needs
 
--- src/decode.rt:402:13
 read-slot-requires : tie.Need-read-slot-requires Inv-loop μ-loop
 read-slot-requires c κs = search needs
 
--- src/decode.rt:404:25
 enum-known-to : tie.Need-enum-known-to Inv-loop μ-loop
 enum-known-to c = search needs
 
--- src/decode.rt:405:34
 enum-told : tie.Need-enum-told Inv-loop μ-loop
 enum-told c = search needs
 
--- src/decode.rt:405:34
 why-requires : tie.Need-why-requires Inv-loop μ-loop
 why-requires c κs = search needs
 
--- src/decode.rt:405:13
 refused-slots-requires : tie.Need-refused-slots-requires Inv-loop μ-loop
 refused-slots-requires c κs = search needs
 
--- src/decode.rt:405:13
 returns : tie.Need-returns Inv-loop μ-loop
 unfolding slots
 returns c =
@@ -85,27 +74,21 @@ returns c =
     (padded-no _ _ _ _ _ _ (vec-refused _ _ _ _ _ (c .before .before .before .before .before .before .loop-test .taken) (l .inv .1)
     (told-not blankVoterSlotRecord _ (c .before .before .before .before .read-slot .ensures ∙ ap (λ l. outcome blankVoterSlotRecord (slot .dec l)) (rest (c .before .before .before .before .before .before .before .before .before .before .args .bytes .now) (l .at))) (c .before .before .enum-told .given .1))))
 
--- src/decode.rt:408:9
 mul-value : tie.Need-mul-value Inv-loop μ-loop
 mul-value c = search needs
 
--- src/decode.rt:408:9
 array-set-from-value : tie.Need-array-set-from-value Inv-loop μ-loop
 array-set-from-value c = search needs
 
--- src/decode.rt:409:9
 add-at : tie.Need-add-at Inv-loop μ-loop
 add-at c = record { fits = lt-of-le-of-lt (vec slot blankVoterSlotRecord _ .within _ (vec-next slot blankVoterSlotRecord _ _ (c .before .before .before .before .before .before .before .loop .inv .1) (one-more (c .before .before)))) (c .before .before .before .before .before .before .before .before .before .before .good .0 .0) }
 
--- src/decode.rt:410:9
 add-i : tie.Need-add-i Inv-loop μ-loop
 add-i c = search needs
 
--- src/decode.rt:401:5
 loop-less : tie.Need-loop-less Inv-loop μ-loop
 loop-less c = omega arith
 
--- src/decode.rt:401:5
 loop-again : tie.Need-loop-again Inv-loop μ-loop
 loop-again c =
     let l = c .before .before .before .before .before .before .before .loop in
@@ -116,7 +99,6 @@ loop-again c =
       length-set (l .value) (l .i) m ∙ l .inv .3,
     )
 
--- src/decode.rt:394:1
 returns-2 : tie.Need-returns-2 Inv-loop μ-loop
 unfolding slots
 returns-2 c =

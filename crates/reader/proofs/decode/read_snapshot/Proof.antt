@@ -37,120 +37,93 @@ got-2 c = dep-ok _ _ _ (got-1 (c .before .before .before .before .before .before
 got-3 : (c : tie.After-digest) → c3 .dec (c .before .before .before .before .before .before .before .before .before .before .before .before .before .before .before .before .before .args .bytes .now) ≡ ok ((c .before .before .before .before .before .before .before .before .before .before .before .before .before .cut-read .given .0 .0, c .before .before .before .before .before .before .before .before .before .before .read-snapshot-id .result .value), c .before .before .before .before .read-array32 .result .value) ((c .before .before .before .before .before .before .before .before .before .before .before .before .before .cut-read .given .0 .1 .0 + c .before .before .before .before .before .before .before .before .snapshot-id-to .given .0 .0) + c .before .before .digest-to .given .0 .0)
 got-3 c = dep-ok _ _ _ (got-2 (c .before .before .before .before .before .before)) (told (zeros 32) _ (c .before .before .before .before .read-array32 .ensures ∙ ap (λ l. outcome (zeros 32) ((raw 32) .dec l)) (rest (c .before .before .before .before .before .before .before .before .before .before .before .before .before .before .before .before .before .args .bytes .now) _)) (c .before .before .digest-to .given .1))
 
--- src/decode.rt:636:9
 read-log-id-requires : tie.Need-read-log-id-requires
 read-log-id-requires c κs = search needs
 
--- src/decode.rt:637:25
 enum-known-cut-read : tie.Need-enum-known-cut-read
 enum-known-cut-read c = search needs
 
--- src/decode.rt:638:33
 enum-told : tie.Need-enum-told
 enum-told c = search needs
 
--- src/decode.rt:638:33
 why-log-id-requires : tie.Need-why-log-id-requires
 why-log-id-requires c κs = search needs
 
--- src/decode.rt:638:9
 refused-snapshot-requires : tie.Need-refused-snapshot-requires
 refused-snapshot-requires c κs = search needs
 
--- src/decode.rt:638:9
 returns : tie.Need-returns
 unfolding snapshot
 returns c =
     outcome-no _ (c .refused-snapshot .ensures ∙ ap (λ a. outcome blankVoterSnapshotEvidence (no (numberOf a))) (c .before .why-log-id .ensures ∙ ap whyLogId (c .before .before .enum-told .given .1)))
     (via-no _ _ _ _ _ (dep-no-1 _ _ _ (dep-no-1 _ _ _ (got logIdRead (c .before .before .before .before .read-log-id .ensures) (c .before .before .enum-told .given .1)))))
 
--- src/decode.rt:640:45
 sub-read-snapshot-id : tie.Need-sub-read-snapshot-id
 sub-read-snapshot-id c = c1 .within _ (got-1 c)
 
--- src/decode.rt:640:45
 part-read-snapshot-id-start : tie.Need-part-read-snapshot-id-start
 part-read-snapshot-id-start c = c1 .within _ (got-1 c)
 
--- src/decode.rt:640:45
 part-read-snapshot-id-end : tie.Need-part-read-snapshot-id-end
 part-read-snapshot-id-end c = search needs
 
--- src/decode.rt:640:9
 read-snapshot-id-requires : tie.Need-read-snapshot-id-requires
 read-snapshot-id-requires c κs = search needs
 
--- src/decode.rt:642:21
 enum-known-snapshot-id-to : tie.Need-enum-known-snapshot-id-to
 enum-known-snapshot-id-to c = search needs
 
--- src/decode.rt:643:33
 enum-told-2 : tie.Need-enum-told-2
 enum-told-2 c = search needs
 
--- src/decode.rt:643:33
 why-requires : tie.Need-why-requires
 why-requires c κs = search needs
 
--- src/decode.rt:643:9
 refused-snapshot-requires-2 : tie.Need-refused-snapshot-requires-2
 refused-snapshot-requires-2 c κs = search needs
 
--- src/decode.rt:643:9
 returns-2 : tie.Need-returns-2
 unfolding snapshot
 returns-2 c =
     outcome-no _ (c .refused-snapshot2 .ensures ∙ ap (λ a. outcome blankVoterSnapshotEvidence (no (numberOf a))) (c .before .why .ensures ∙ ap whyOf (c .before .before .enum-told2 .given .1)))
     (via-no _ _ _ _ _ (dep-no-1 _ _ _ (dep-no-2 _ _ _ (got-1 (c .before .before .before .before .before .before)) (told-not blankSnapshotId _ (c .before .before .before .before .read-snapshot-id .ensures ∙ ap (λ l. outcome blankSnapshotId (snapshotId .dec l)) (rest (c .before .before .before .before .before .before .before .before .before .before .before .args .bytes .now) _)) (c .before .before .enum-told2 .given .1)))))
 
--- src/decode.rt:646:14
 add-at : tie.Need-add-at
 add-at c = record { fits = lt-of-le-of-lt (c2 .within _ (got-2 c)) (c .before .before .before .before .before .before .before .before .before .before .before .good .0 .0) }
 
--- src/decode.rt:647:36
 sub-read-array32 : tie.Need-sub-read-array32
 sub-read-array32 c = c2 .within _ (got-2 c)
 
--- src/decode.rt:647:36
 part-read-array32-start : tie.Need-part-read-array32-start
 part-read-array32-start c = c2 .within _ (got-2 c)
 
--- src/decode.rt:647:36
 part-read-array32-end : tie.Need-part-read-array32-end
 part-read-array32-end c = search needs
 
--- src/decode.rt:647:9
 read-array32-requires : tie.Need-read-array32-requires
 read-array32-requires c κs = search needs
 
--- src/decode.rt:649:21
 enum-known-digest-to : tie.Need-enum-known-digest-to
 enum-known-digest-to c = search needs
 
--- src/decode.rt:650:33
 enum-told-3 : tie.Need-enum-told-3
 enum-told-3 c = search needs
 
--- src/decode.rt:650:33
 why-requires-2 : tie.Need-why-requires-2
 why-requires-2 c κs = search needs
 
--- src/decode.rt:650:9
 refused-snapshot-requires-3 : tie.Need-refused-snapshot-requires-3
 refused-snapshot-requires-3 c κs = search needs
 
--- src/decode.rt:650:9
 returns-3 : tie.Need-returns-3
 unfolding snapshot
 returns-3 c =
     outcome-no _ (c .refused-snapshot3 .ensures ∙ ap (λ a. outcome blankVoterSnapshotEvidence (no (numberOf a))) (c .before .why2 .ensures ∙ ap whyOf (c .before .before .enum-told3 .given .1)))
     (via-no _ _ _ _ _ (dep-no-2 _ _ _ (got-2 (c .before .before .before .before .before .before)) (told-not (zeros 32) _ (c .before .before .before .before .read-array32 .ensures ∙ ap (λ l. outcome (zeros 32) ((raw 32) .dec l)) (rest (c .before .before .before .before .before .before .before .before .before .before .before .before .before .before .before .before .before .args .bytes .now) _)) (c .before .before .enum-told3 .given .1))))
 
--- src/decode.rt:654:29
 add-t16 : tie.Need-add-t16
 add-t16 c = record { fits = lt-of-le-of-lt (c3 .within _ (got-3 (c))) (c .before .before .before .before .before .before .before .before .before .before .before .before .before .before .before .before .before .good .0 .0) }
 
--- src/decode.rt:633:1
 returns-4 : tie.Need-returns-4
 unfolding snapshot
 returns-4 c = outcome-ok _ (via-ok _ _ _ _ _ (got-3 (c)))

@@ -56,218 +56,168 @@ got-5 c = dep-ok _ _ _ (got-4 (c .before .before .before .before .before .before
 counted : (c : tie.After-known-told3) → count .dec (drop (c .before .before .before .before .before .before .before .before .before .before .before .before .magic .given .0 .0 + c .before .before .before .before .before .before .before .head-to .given .0 .0) (c .before .before .before .before .before .before .before .before .before .before .before .before .before .before .before .before .args .bytes .now)) ≡ ok (c .before .count-read .given .0 .0) (c .before .count-read .given .0 .1 .0)
 counted c = got u8Read (c .before .before .before .read-count .ensures ∙ ap (count .dec) (rest (c .before .before .before .before .before .before .before .before .before .before .before .before .before .before .before .before .args .bytes .now) _)) (c .before .count-read .given .1)
 
--- src/decode.rt:855:9
 read-head-requires : tie.Need-read-head-requires
 read-head-requires c κs = search needs
 
--- src/decode.rt:856:21
 enum-known-magic : tie.Need-enum-known-magic
 enum-known-magic c = search needs
 
--- src/decode.rt:857:30
 enum-told : tie.Need-enum-told
 enum-told c = search needs
 
--- src/decode.rt:857:30
 why-requires : tie.Need-why-requires
 why-requires c κs = search needs
 
--- src/decode.rt:857:9
 refused-table-requires : tie.Need-refused-table-requires
 refused-table-requires c κs = search needs
 
--- src/decode.rt:857:9
 returns : tie.Need-returns
 unfolding table
 returns c =
     outcome-no _ (c .refused-table .ensures ∙ ap (λ a. outcome blankVoterSlotTable (no (numberOf a))) (c .before .why .ensures ∙ ap whyOf (c .before .before .enum-told .given .1)))
     (via-no _ _ _ _ _ (dep-no-1 _ _ _ (dep-no-1 _ _ _ (dep-no-1 _ _ _ (dep-no-1 _ _ _ (got report (c .before .before .before .before .read-head .ensures) (c .before .before .enum-told .given .1)))))))
 
--- src/decode.rt:859:37
 sub-read-table-head : tie.Need-sub-read-table-head
 sub-read-table-head c = c1 .within _ (got-1 c)
 
--- src/decode.rt:859:37
 part-read-table-head-start : tie.Need-part-read-table-head-start
 part-read-table-head-start c = c1 .within _ (got-1 c)
 
--- src/decode.rt:859:37
 part-read-table-head-end : tie.Need-part-read-table-head-end
 part-read-table-head-end c = search needs
 
--- src/decode.rt:859:9
 read-table-head-requires : tie.Need-read-table-head-requires
 read-table-head-requires c κs = search needs
 
--- src/decode.rt:861:21
 enum-known-head-to : tie.Need-enum-known-head-to
 enum-known-head-to c = search needs
 
--- src/decode.rt:862:30
 enum-told-2 : tie.Need-enum-told-2
 enum-told-2 c = search needs
 
--- src/decode.rt:862:30
 why-requires-2 : tie.Need-why-requires-2
 why-requires-2 c κs = search needs
 
--- src/decode.rt:862:9
 refused-table-requires-2 : tie.Need-refused-table-requires-2
 refused-table-requires-2 c κs = search needs
 
--- src/decode.rt:862:9
 returns-2 : tie.Need-returns-2
 unfolding table
 returns-2 c =
     outcome-no _ (c .refused-table2 .ensures ∙ ap (λ a. outcome blankVoterSlotTable (no (numberOf a))) (c .before .why2 .ensures ∙ ap whyOf (c .before .before .enum-told2 .given .1)))
     (via-no _ _ _ _ _ (dep-no-1 _ _ _ (dep-no-1 _ _ _ (dep-no-1 _ _ _ (dep-no-2 _ _ _ (got-1 (c .before .before .before .before .before .before)) (told-not blankTableHead _ (c .before .before .before .before .read-table-head .ensures ∙ ap (λ l. outcome blankTableHead (tableHead .dec l)) (rest (c .before .before .before .before .before .before .before .before .before .before .before .args .bytes .now) _)) (c .before .before .enum-told2 .given .1)))))))
 
--- src/decode.rt:865:14
 add-at : tie.Need-add-at
 add-at c = record { fits = lt-of-le-of-lt (c2 .within _ (got-2 c)) (c .before .before .before .before .before .before .before .before .before .before .before .good .0 .0) }
 
--- src/decode.rt:866:33
 sub-read-count : tie.Need-sub-read-count
 sub-read-count c = c2 .within _ (got-2 c)
 
--- src/decode.rt:866:33
 part-read-count-start : tie.Need-part-read-count-start
 part-read-count-start c = c2 .within _ (got-2 c)
 
--- src/decode.rt:866:33
 part-read-count-end : tie.Need-part-read-count-end
 part-read-count-end c = search needs
 
--- src/decode.rt:866:9
 read-count-requires : tie.Need-read-count-requires
 read-count-requires c κs = search needs
 
--- src/decode.rt:867:22
 enum-known-count-read : tie.Need-enum-known-count-read
 enum-known-count-read c = search needs
 
--- src/decode.rt:868:30
 enum-told-3 : tie.Need-enum-told-3
 enum-told-3 c = search needs
 
--- src/decode.rt:868:30
 why-u8-requires : tie.Need-why-u8-requires
 why-u8-requires c κs = search needs
 
--- src/decode.rt:868:9
 refused-table-requires-3 : tie.Need-refused-table-requires-3
 refused-table-requires-3 c κs = search needs
 
--- src/decode.rt:868:9
 returns-3 : tie.Need-returns-3
 unfolding table
 returns-3 c =
     outcome-no _ (c .refused-table3 .ensures ∙ ap (λ a. outcome blankVoterSlotTable (no (numberOf a))) (c .before .why-u8 .ensures ∙ ap whyU8 (c .before .before .enum-told3 .given .1)))
     (via-no _ _ _ _ _ (dep-no-1 _ _ _ (dep-no-1 _ _ _ (dep-no-2 _ _ _ (got-2 (c .before .before .before .before .before .before)) (got u8Read (c .before .before .before .before .read-count .ensures ∙ ap (count .dec) (rest (c .before .before .before .before .before .before .before .before .before .before .before .before .before .before .before .before .before .args .bytes .now) _)) (c .before .before .enum-told3 .given .1))))))
 
--- src/decode.rt:870:14
 add-at-2 : tie.Need-add-at-2
 add-at-2 c = record { fits = lt-of-le-of-lt (c3 .within _ (got-3 c)) (c .before .before .before .before .before .before .before .before .before .before .before .before .before .before .before .before .good .0 .0) }
 
--- src/decode.rt:871:33
 sub-read-slots : tie.Need-sub-read-slots
 sub-read-slots c = c3 .within _ (got-3 c)
 
--- src/decode.rt:871:33
 part-read-slots-start : tie.Need-part-read-slots-start
 part-read-slots-start c = c3 .within _ (got-3 c)
 
--- src/decode.rt:871:33
 part-read-slots-end : tie.Need-part-read-slots-end
 part-read-slots-end c = search needs
 
--- src/decode.rt:871:47
 cast-read-slots : tie.Need-cast-read-slots
 cast-read-slots c = search needs
 
--- src/decode.rt:871:9
 read-slots-requires : tie.Need-read-slots-requires
 read-slots-requires c κs = count-read _ (counted (c .before))
 
--- src/decode.rt:873:21
 enum-known-slots-to : tie.Need-enum-known-slots-to
 enum-known-slots-to c = search needs
 
--- src/decode.rt:874:30
 enum-told-4 : tie.Need-enum-told-4
 enum-told-4 c = search needs
 
--- src/decode.rt:874:30
 why-requires-3 : tie.Need-why-requires-3
 why-requires-3 c κs = search needs
 
--- src/decode.rt:874:9
 refused-table-requires-4 : tie.Need-refused-table-requires-4
 refused-table-requires-4 c κs = search needs
 
--- src/decode.rt:874:9
 returns-4 : tie.Need-returns-4
 unfolding table
 returns-4 c =
     outcome-no _ (c .refused-table4 .ensures ∙ ap (λ a. outcome blankVoterSlotTable (no (numberOf a))) (c .before .why3 .ensures ∙ ap whyOf (c .before .before .enum-told4 .given .1)))
     (via-no _ _ _ _ _ (dep-no-1 _ _ _ (dep-no-2 _ _ _ (got-3 (c .before .before .before .before .before .before)) (told-not blankVoterSlotRecords _ (c .before .before .before .before .read-slots .ensures ∙ ap (λ l. outcome blankVoterSlotRecords ((slots (c .before .before .before .before .before .before .before .count-read .given .0 .0)) .dec l)) (rest (c .before .before .before .before .before .before .before .before .before .before .before .before .before .before .before .before .before .before .before .before .before .before .args .bytes .now) _)) (c .before .before .enum-told4 .given .1)))))
 
--- src/decode.rt:877:14
 add-at-3 : tie.Need-add-at-3
 add-at-3 c = record { fits = lt-of-le-of-lt (c4 .within _ (got-4 c)) (c .before .before .before .before .before .before .before .before .before .before .before .before .before .before .before .before .before .before .before .before .before .before .good .0 .0) }
 
--- src/decode.rt:878:54
 sub-read-optional-replacement : tie.Need-sub-read-optional-replacement
 sub-read-optional-replacement c = c4 .within _ (got-4 c)
 
--- src/decode.rt:878:54
 part-read-optional-replacement-start : tie.Need-part-read-optional-replacement-start
 part-read-optional-replacement-start c = c4 .within _ (got-4 c)
 
--- src/decode.rt:878:54
 part-read-optional-replacement-end : tie.Need-part-read-optional-replacement-end
 part-read-optional-replacement-end c = search needs
 
--- src/decode.rt:878:9
 read-optional-replacement-requires : tie.Need-read-optional-replacement-requires
 read-optional-replacement-requires c κs = search needs
 
--- src/decode.rt:880:21
 enum-known-replacement-to : tie.Need-enum-known-replacement-to
 enum-known-replacement-to c = search needs
 
--- src/decode.rt:881:30
 enum-told-5 : tie.Need-enum-told-5
 enum-told-5 c = search needs
 
--- src/decode.rt:881:30
 why-requires-4 : tie.Need-why-requires-4
 why-requires-4 c κs = search needs
 
--- src/decode.rt:881:9
 refused-table-requires-5 : tie.Need-refused-table-requires-5
 refused-table-requires-5 c κs = search needs
 
--- src/decode.rt:881:9
 returns-5 : tie.Need-returns-5
 unfolding table
 returns-5 c =
     outcome-no _ (c .refused-table5 .ensures ∙ ap (λ a. outcome blankVoterSlotTable (no (numberOf a))) (c .before .why4 .ensures ∙ ap whyOf (c .before .before .enum-told5 .given .1)))
     (via-no _ _ _ _ _ (dep-no-2 _ _ _ (got-4 (c .before .before .before .before .before .before)) (told-not absentReplacement _ (c .before .before .before .before .read-optional-replacement .ensures ∙ ap (λ l. outcome absentReplacement ((opt replacement blankVoterReplacementRecord) .dec l)) (rest (c .before .before .before .before .before .before .before .before .before .before .before .before .before .before .before .before .before .before .before .before .before .before .before .before .before .before .before .before .args .bytes .now) _)) (c .before .before .enum-told5 .given .1))))
 
--- src/decode.rt:885:29
 add-t36 : tie.Need-add-t36
 add-t36 c = record { fits = lt-of-le-of-lt (c5 .within _ (got-5 (c))) (c .before .before .before .before .before .before .before .before .before .before .before .before .before .before .before .before .before .before .before .before .before .before .before .before .before .before .before .before .good .0 .0) }
 
--- src/decode.rt:888:13
 cast-table-of : tie.Need-cast-table-of
 cast-table-of c = search needs
 
--- src/decode.rt:886:16
 table-of-requires : tie.Need-table-of-requires
 table-of-requires c κs = search needs
 
--- src/decode.rt:852:1
 returns-6 : tie.Need-returns-6
 unfolding table
 returns-6 c = outcome-ok _ (via-ok _ _ _ _ _ (got-5 (c .before)) ∙ ap (λ v. ok v ((((c .before .before .before .before .before .before .before .before .before .before .before .before .before .before .before .before .before .before .before .before .before .before .before .before .before .magic .given .0 .0 + c .before .before .before .before .before .before .before .before .before .before .before .before .before .before .before .before .before .before .before .before .head-to .given .0 .0) + c .before .before .before .before .before .before .before .before .before .before .before .before .before .before .count-read .given .0 .1 .0) + c .before .before .before .before .before .before .before .before .before .slots-to .given .0 .0) + c .before .before .before .replacement-to .given .0 .0)) (sym (c .table-of .ensures)))

@@ -41,163 +41,126 @@ got-3 c = dep-ok _ _ _ (got-2 (c .before .before .before .before .before)) (got 
 got-4 : (c : tie.After-known-told4) → c4 .dec (c .before .before .before .before .before .before .before .before .before .before .before .before .before .before .before .before .before .before .before .before .before .before .args .bytes .now) ≡ ok (((c .before .before .before .before .before .before .before .before .before .before .before .before .before .before .before .before .before .before .before .before .read-array32 .result .value, c .before .before .before .before .before .before .before .before .before .before .before .before .before .before .read-array322 .result .value), c .before .before .before .before .before .before .revision-read .given .0 .0), c .before .configuration-epoch-read .given .0 .0) (((c .before .before .before .before .before .before .before .before .before .before .before .before .before .before .before .before .before .before .cluster-instance-to .given .0 .0 + c .before .before .before .before .before .before .before .before .before .before .before .before .manifest-digest-to .given .0 .0) + c .before .before .before .before .before .before .revision-read .given .0 .1 .0) + c .before .configuration-epoch-read .given .0 .1 .0)
 got-4 c = dep-ok _ _ _ (got-3 (c .before .before .before .before .before)) (got u64Read (c .before .before .before .read-epoch .ensures ∙ ap (epoch .dec) (rest (c .before .before .before .before .before .before .before .before .before .before .before .before .before .before .before .before .before .before .before .before .before .before .args .bytes .now) _)) (c .before .configuration-epoch-read .given .1))
 
--- src/decode.rt:818:9
 read-array32-requires : tie.Need-read-array32-requires
 read-array32-requires c κs = search needs
 
--- src/decode.rt:820:21
 enum-known-cluster-instance-to : tie.Need-enum-known-cluster-instance-to
 enum-known-cluster-instance-to c = search needs
 
--- src/decode.rt:821:35
 enum-told : tie.Need-enum-told
 enum-told c = search needs
 
--- src/decode.rt:821:35
 why-requires : tie.Need-why-requires
 why-requires c κs = search needs
 
--- src/decode.rt:821:9
 refused-table-head-requires : tie.Need-refused-table-head-requires
 refused-table-head-requires c κs = search needs
 
--- src/decode.rt:821:9
 returns : tie.Need-returns
 unfolding tableHead
 returns c =
     outcome-no _ (c .refused-table-head .ensures ∙ ap (λ a. outcome blankTableHead (no (numberOf a))) (c .before .why .ensures ∙ ap whyOf (c .before .before .enum-told .given .1)))
     (via-no _ _ _ _ _ (dep-no-1 _ _ _ (dep-no-1 _ _ _ (dep-no-1 _ _ _ (told-not (zeros 32) _ (c .before .before .before .before .read-array32 .ensures) (c .before .before .enum-told .given .1))))))
 
--- src/decode.rt:824:45
 sub-read-array32 : tie.Need-sub-read-array32
 sub-read-array32 c = c1 .within _ (got-1 c)
 
--- src/decode.rt:824:45
 part-read-array32-start : tie.Need-part-read-array32-start
 part-read-array32-start c = c1 .within _ (got-1 c)
 
--- src/decode.rt:824:45
 part-read-array32-end : tie.Need-part-read-array32-end
 part-read-array32-end c = search needs
 
--- src/decode.rt:824:9
 read-array32-requires-2 : tie.Need-read-array32-requires-2
 read-array32-requires-2 c κs = search needs
 
--- src/decode.rt:826:21
 enum-known-manifest-digest-to : tie.Need-enum-known-manifest-digest-to
 enum-known-manifest-digest-to c = search needs
 
--- src/decode.rt:827:35
 enum-told-2 : tie.Need-enum-told-2
 enum-told-2 c = search needs
 
--- src/decode.rt:827:35
 why-requires-2 : tie.Need-why-requires-2
 why-requires-2 c κs = search needs
 
--- src/decode.rt:827:9
 refused-table-head-requires-2 : tie.Need-refused-table-head-requires-2
 refused-table-head-requires-2 c κs = search needs
 
--- src/decode.rt:827:9
 returns-2 : tie.Need-returns-2
 unfolding tableHead
 returns-2 c =
     outcome-no _ (c .refused-table-head2 .ensures ∙ ap (λ a. outcome blankTableHead (no (numberOf a))) (c .before .why2 .ensures ∙ ap whyOf (c .before .before .enum-told2 .given .1)))
     (via-no _ _ _ _ _ (dep-no-1 _ _ _ (dep-no-1 _ _ _ (dep-no-2 _ _ _ (got-1 (c .before .before .before .before .before .before)) (told-not (zeros 32) _ (c .before .before .before .before .read-array322 .ensures ∙ ap (λ l. outcome (zeros 32) ((raw 32) .dec l)) (rest (c .before .before .before .before .before .before .before .before .before .before .before .before .args .bytes .now) _)) (c .before .before .enum-told2 .given .1))))))
 
--- src/decode.rt:830:14
 add-at : tie.Need-add-at
 add-at c = record { fits = lt-of-le-of-lt (c2 .within _ (got-2 c)) (c .before .before .before .before .before .before .before .before .before .before .before .before .good .0 .0) }
 
--- src/decode.rt:831:34
 sub-read-u64 : tie.Need-sub-read-u64
 sub-read-u64 c = c2 .within _ (got-2 c)
 
--- src/decode.rt:831:34
 part-read-u64-start : tie.Need-part-read-u64-start
 part-read-u64-start c = c2 .within _ (got-2 c)
 
--- src/decode.rt:831:34
 part-read-u64-end : tie.Need-part-read-u64-end
 part-read-u64-end c = search needs
 
--- src/decode.rt:831:9
 read-u64-requires : tie.Need-read-u64-requires
 read-u64-requires c κs = search needs
 
--- src/decode.rt:832:23
 enum-known-revision-read : tie.Need-enum-known-revision-read
 enum-known-revision-read c = search needs
 
--- src/decode.rt:833:35
 enum-told-3 : tie.Need-enum-told-3
 enum-told-3 c = search needs
 
--- src/decode.rt:833:35
 why-u64-requires : tie.Need-why-u64-requires
 why-u64-requires c κs = search needs
 
--- src/decode.rt:833:9
 refused-table-head-requires-3 : tie.Need-refused-table-head-requires-3
 refused-table-head-requires-3 c κs = search needs
 
--- src/decode.rt:833:9
 returns-3 : tie.Need-returns-3
 unfolding tableHead
 returns-3 c =
     outcome-no _ (c .refused-table-head3 .ensures ∙ ap (λ a. outcome blankTableHead (no (numberOf a))) (c .before .why-u64 .ensures ∙ ap whyU64 (c .before .before .enum-told3 .given .1)))
     (via-no _ _ _ _ _ (dep-no-1 _ _ _ (dep-no-2 _ _ _ (got-2 (c .before .before .before .before .before .before)) (got u64Read (c .before .before .before .before .read-u64 .ensures ∙ ap ((uint 8) .dec) (rest (c .before .before .before .before .before .before .before .before .before .before .before .before .before .before .before .before .before .before .args .bytes .now) _)) (c .before .before .enum-told3 .given .1)))))
 
--- src/decode.rt:835:14
 add-at-2 : tie.Need-add-at-2
 add-at-2 c = record { fits = lt-of-le-of-lt (c3 .within _ (got-3 c)) (c .before .before .before .before .before .before .before .before .before .before .before .before .before .before .before .before .before .good .0 .0) }
 
--- src/decode.rt:836:47
 sub-read-epoch : tie.Need-sub-read-epoch
 sub-read-epoch c = c3 .within _ (got-3 c)
 
--- src/decode.rt:836:47
 part-read-epoch-start : tie.Need-part-read-epoch-start
 part-read-epoch-start c = c3 .within _ (got-3 c)
 
--- src/decode.rt:836:47
 part-read-epoch-end : tie.Need-part-read-epoch-end
 part-read-epoch-end c = search needs
 
--- src/decode.rt:836:9
 read-epoch-requires : tie.Need-read-epoch-requires
 read-epoch-requires c κs = search needs
 
--- src/decode.rt:837:23
 enum-known-configuration-epoch-read : tie.Need-enum-known-configuration-epoch-read
 enum-known-configuration-epoch-read c = search needs
 
--- src/decode.rt:838:35
 enum-told-4 : tie.Need-enum-told-4
 enum-told-4 c = search needs
 
--- src/decode.rt:838:35
 why-u64-requires-2 : tie.Need-why-u64-requires-2
 why-u64-requires-2 c κs = search needs
 
--- src/decode.rt:838:9
 refused-table-head-requires-4 : tie.Need-refused-table-head-requires-4
 refused-table-head-requires-4 c κs = search needs
 
--- src/decode.rt:838:9
 returns-4 : tie.Need-returns-4
 unfolding tableHead
 returns-4 c =
     outcome-no _ (c .refused-table-head4 .ensures ∙ ap (λ a. outcome blankTableHead (no (numberOf a))) (c .before .why-u642 .ensures ∙ ap whyU64 (c .before .before .enum-told4 .given .1)))
     (via-no _ _ _ _ _ (dep-no-2 _ _ _ (got-3 (c .before .before .before .before .before .before)) (got u64Read (c .before .before .before .before .read-epoch .ensures ∙ ap (epoch .dec) (rest (c .before .before .before .before .before .before .before .before .before .before .before .before .before .before .before .before .before .before .before .before .before .before .before .args .bytes .now) _)) (c .before .before .enum-told4 .given .1))))
 
--- src/decode.rt:841:29
 add-t20 : tie.Need-add-t20
 add-t20 c = record { fits = lt-of-le-of-lt (c4 .within _ (got-4 (c))) (c .before .before .before .before .before .before .before .before .before .before .before .before .before .before .before .before .before .before .before .before .before .before .good .0 .0) }
 
--- src/decode.rt:815:1
 returns-5 : tie.Need-returns-5
 unfolding tableHead
 returns-5 c = outcome-ok _ (via-ok _ _ _ _ _ (got-4 (c)))

@@ -21,19 +21,15 @@ use Rattle.reader.proofs.decode.read_whole_attestation.Tie as tie
 is : (c : tie.After-value) → claims .dec (c .before .before .before .before .before .before .args .bytes .now) ≡ ok (c .before .before .before .before .read-attestation .result .value) (c .before .before .to .given .0 .0)
 is c = told blankLostVoterAttestationV1 _ (c .before .before .before .before .read-attestation .ensures) (c .before .before .to .given .1)
 
--- src/decode.rt:600:9
 read-attestation-requires : tie.Need-read-attestation-requires
 read-attestation-requires c κs = search needs
 
--- src/decode.rt:602:21
 enum-known-to : tie.Need-enum-known-to
 enum-known-to c = search needs
 
--- src/decode.rt:603:9
 enum-told : tie.Need-enum-told
 enum-told c = search needs
 
--- src/decode.rt:603:9
 returns : tie.Need-returns
 unfolding attestation
 returns c =
@@ -41,15 +37,12 @@ returns c =
     let e = told-not blankLostVoterAttestationV1 _ (c .before .before .read-attestation .ensures) (c .enum-told .given .1) in
     c .before .before .read-attestation .ensures ∙ ap (outcome blankLostVoterAttestationV1) (e ∙ sym (whole-no _ s (checked-no _ _ s e)))
 
--- src/decode.rt:606:31
 is-valid-attestation-requires : tie.Need-is-valid-attestation-requires
 is-valid-attestation-requires c κs = search needs
 
--- src/decode.rt:607:9
 refused-attestation-requires : tie.Need-refused-attestation-requires
 refused-attestation-requires c κs = search needs
 
--- src/decode.rt:607:9
 returns-2 : tie.Need-returns-2
 unfolding pick
 returns-2 c =
@@ -58,7 +51,6 @@ returns-2 c =
     outcome-no blankLostVoterAttestationV1 (c .refused-attestation .ensures)
     (attestation-by s (eqb (c .before .before .before .before .before .to .given .0 .0) (length s)) (v .result) (is (c .before .before .before)) refl (sym (v .ensures)) ∙ ap (λ t. pick t (ok (c .before .before .before .before .before .before .before .read-attestation .result .value) (c .before .before .before .before .before .to .given .0 .0)) (no 6)) (not-true ((eqb (c .before .before .before .before .before .to .given .0 .0) (length s)) && v .result) (c .before .if1 .taken)))
 
--- src/decode.rt:597:1
 returns-3 : tie.Need-returns-3
 unfolding pick
 returns-3 c =

@@ -13,33 +13,26 @@ use borrow.Author.Needs.{needs}
 use Rattle.reader.proofs.reader.read_array16.Statement.{statement}
 use Rattle.reader.proofs.reader.read_array16.Tie as tie
 
--- src/reader.rt:304:9
 refused-array16-requires : tie.Need-refused-array16-requires
 refused-array16-requires c κs = search needs
 
--- src/reader.rt:304:9
 returns : tie.Need-returns
 returns c = outcome-no _ (c .refused-array16 .ensures) (raw-not 16 _ (c .before .if1 .taken))
 
--- src/reader.rt:306:21
 zeros16-requires : tie.Need-zeros16-requires
 zeros16-requires c κs = search needs
 
--- src/reader.rt:307:15
 slice-aggregate-put-bytes : tie.Need-slice-aggregate-put-bytes
 slice-aggregate-put-bytes c = search needs
 
--- src/reader.rt:307:30
 slice-aggregate-put-bytes-2 : tie.Need-slice-aggregate-put-bytes-2
 slice-aggregate-put-bytes-2 c = simp length-take (omega arith)
 
--- src/reader.rt:307:5
 put-bytes-requires : tie.Need-put-bytes-requires
 put-bytes-requires c κs =
     let z : length (c .before .before .zeros16 .result) ≡ 16 = ap length (c .before .before .zeros16 .ensures) ∙ length-zeros 16 in
     omega (arith, length-take 16 (c .before .before .before .before .before .args .bytes .now), z)
 
--- src/reader.rt:300:1
 returns-2 : tie.Need-returns-2
 returns-2 c =
     let s = c .before .before .before .before .before .before .before .args .bytes .now in

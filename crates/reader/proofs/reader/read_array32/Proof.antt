@@ -13,33 +13,26 @@ use borrow.Author.Needs.{needs}
 use Rattle.reader.proofs.reader.read_array32.Statement.{statement}
 use Rattle.reader.proofs.reader.read_array32.Tie as tie
 
--- src/reader.rt:319:9
 refused-array32-requires : tie.Need-refused-array32-requires
 refused-array32-requires c κs = search needs
 
--- src/reader.rt:319:9
 returns : tie.Need-returns
 returns c = outcome-no _ (c .refused-array32 .ensures) (raw-not 32 _ (c .before .if1 .taken))
 
--- src/reader.rt:321:21
 zeros32-requires : tie.Need-zeros32-requires
 zeros32-requires c κs = search needs
 
--- src/reader.rt:322:15
 slice-aggregate-put-bytes : tie.Need-slice-aggregate-put-bytes
 slice-aggregate-put-bytes c = search needs
 
--- src/reader.rt:322:30
 slice-aggregate-put-bytes-2 : tie.Need-slice-aggregate-put-bytes-2
 slice-aggregate-put-bytes-2 c = simp length-take (omega arith)
 
--- src/reader.rt:322:5
 put-bytes-requires : tie.Need-put-bytes-requires
 put-bytes-requires c κs =
     let z : length (c .before .before .zeros32 .result) ≡ 32 = ap length (c .before .before .zeros32 .ensures) ∙ length-zeros 32 in
     omega (arith, length-take 32 (c .before .before .before .before .before .args .bytes .now), z)
 
--- src/reader.rt:315:1
 returns-2 : tie.Need-returns-2
 returns-2 c =
     let s = c .before .before .before .before .before .before .before .args .bytes .now in

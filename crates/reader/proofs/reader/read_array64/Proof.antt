@@ -13,33 +13,26 @@ use borrow.Author.Needs.{needs}
 use Rattle.reader.proofs.reader.read_array64.Statement.{statement}
 use Rattle.reader.proofs.reader.read_array64.Tie as tie
 
--- src/reader.rt:334:9
 refused-array64-requires : tie.Need-refused-array64-requires
 refused-array64-requires c κs = search needs
 
--- src/reader.rt:334:9
 returns : tie.Need-returns
 returns c = outcome-no _ (c .refused-array64 .ensures) (raw-not 64 _ (c .before .if1 .taken))
 
--- src/reader.rt:336:21
 zeros64-requires : tie.Need-zeros64-requires
 zeros64-requires c κs = search needs
 
--- src/reader.rt:337:15
 slice-aggregate-put-bytes : tie.Need-slice-aggregate-put-bytes
 slice-aggregate-put-bytes c = search needs
 
--- src/reader.rt:337:30
 slice-aggregate-put-bytes-2 : tie.Need-slice-aggregate-put-bytes-2
 slice-aggregate-put-bytes-2 c = simp length-take (omega arith)
 
--- src/reader.rt:337:5
 put-bytes-requires : tie.Need-put-bytes-requires
 put-bytes-requires c κs =
     let z : length (c .before .before .zeros64 .result) ≡ 64 = ap length (c .before .before .zeros64 .ensures) ∙ length-zeros 64 in
     omega (arith, length-take 64 (c .before .before .before .before .before .args .bytes .now), z)
 
--- src/reader.rt:330:1
 returns-2 : tie.Need-returns-2
 returns-2 c =
     let s = c .before .before .before .before .before .before .before .args .bytes .now in

@@ -21,12 +21,10 @@ Inv-loop bytes width value₀ i₀ value i = (i ≤ width) × (value ≡ val 0 (
 abbrev μ-loop : tie.MeasureT-loop
 μ-loop bytes width value₀ i₀ value i = width - i
 
--- src/lib.rt:43:9
 returns : tie.Need-returns Inv-loop μ-loop
 unfolding uint held via raw decUint
 returns c = sym (uint-no (c .before .args .width) (c .before .args .bytes .now) (c .if1 .taken))
 
--- src/lib.rt:47:5
 loop-holds : tie.Need-loop-holds Inv-loop μ-loop
 unfolding val
 loop-holds c = (search needs, refl, lit< tt)
@@ -35,31 +33,24 @@ loop-holds c = (search needs, refl, lit< tt)
 small : (c : tie.At-loop Inv-loop μ-loop) → c .loop .i < c .before .before .args .width → c .loop .value < 2 ^ 56
 small c h = lt-of-lt-of-le (c .loop .inv .2) (pow-le-pow-right {n = 256} (lit< tt) {j = 7} (omega (arith, c .before .before .pre)))
 
--- src/lib.rt:48:13
 mul-value : tie.Need-mul-value Inv-loop μ-loop
 mul-value c = omega (arith, small (c .before) (c .loop-test .taken))
 
--- src/lib.rt:48:23
 shared-slice-read-value : tie.Need-shared-slice-read-value Inv-loop μ-loop
 shared-slice-read-value c = omega arith
 
--- src/lib.rt:48:23
 cast-value : tie.Need-cast-value Inv-loop μ-loop
 cast-value c = omega (arith, c .shared-slice-known .given (c .before .before .loop .i))
 
--- src/lib.rt:48:13
 add-value : tie.Need-add-value Inv-loop μ-loop
 add-value c = omega (arith, small (c .before .before) (c .before .loop-test .taken), c .shared-slice-known .given (c .before .before .loop .i))
 
--- src/lib.rt:49:9
 add-i : tie.Need-add-i Inv-loop μ-loop
 add-i c = omega arith
 
--- src/lib.rt:47:5
 loop-less : tie.Need-loop-less Inv-loop μ-loop
 loop-less c = omega arith
 
--- src/lib.rt:47:5
 loop-again : tie.Need-loop-again Inv-loop μ-loop
 loop-again c =
     let l = c .before .before .loop in
@@ -72,7 +63,6 @@ loop-again c =
       rw (add-one, pow-suc) (digits-lt (l .inv .2) (omega (arith, c .shared-slice-known .given (l .i)))),
     )
 
--- src/lib.rt:38:1
 returns-2 : tie.Need-returns-2 Inv-loop μ-loop
 unfolding uint held via raw decUint
 returns-2 c =

@@ -17,29 +17,23 @@ use Rattle.reader.proofs.reader.read_choice.Tie as tie
 is : (c : tie.After-number) → uint 1 .dec (c .before .before .before .before .args .bytes .now) ≡ ok (c .number .given .0 .0) (c .number .given .0 .1 .0)
 is c = got u8Read (c .before .before .read-u8 .ensures) (c .number .given .1)
 
--- src/reader.rt:181:9
 read-u8-requires : tie.Need-read-u8-requires
 read-u8-requires c κs = search needs
 
--- src/reader.rt:182:22
 enum-known-number : tie.Need-enum-known-number
 enum-known-number c = search needs
 
--- src/reader.rt:183:9
 enum-told : tie.Need-enum-told
 enum-told c = search needs
 
--- src/reader.rt:183:9
 returns : tie.Need-returns
 unfolding choice
 returns c = ap u8Read (c .enum-told .given .1) ∙ sym (checked-no _ _ _ (got u8Read (c .before .before .read-u8 .ensures) (c .enum-told .given .1)))
 
--- src/reader.rt:186:9
 returns-2 : tie.Need-returns-2
 unfolding choice pick
 returns-2 c = sym (checked-bad _ _ _ (is (c .before .before)) (ap require (not-true (leb (c .before .before .before .before .before .before .args .low) (c .before .before .number .given .0 .0) && leb (c .before .before .number .given .0 .0) (c .before .before .before .before .before .before .args .high)) (c .if1 .taken))))
 
--- src/reader.rt:178:1
 returns-3 : tie.Need-returns-3
 unfolding choice pick
 returns-3 c = sym (checked-ok _ _ _ (is (c .before .before)) (ap require (not-false (leb (c .before .before .before .before .before .before .args .low) (c .before .before .number .given .0 .0) && leb (c .before .before .number .given .0 .0) (c .before .before .before .before .before .before .args .high)) (c .if1 .left))))

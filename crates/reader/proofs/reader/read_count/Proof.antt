@@ -15,37 +15,29 @@ use Rattle.reader.proofs.reader.read_count.Tie as tie
 is : (c : tie.After-number) → uint 1 .dec (c .before .before .before .before .args .bytes .now) ≡ ok (c .number .given .0 .0) (c .number .given .0 .1 .0)
 is c = got u8Read (c .before .before .read-u8 .ensures) (c .number .given .1)
 
--- src/reader.rt:167:9
 read-u8-requires : tie.Need-read-u8-requires
 read-u8-requires c κs = search needs
 
--- src/reader.rt:168:22
 enum-known-number : tie.Need-enum-known-number
 enum-known-number c = search needs
 
--- src/reader.rt:169:9
 enum-told : tie.Need-enum-told
 enum-told c = search needs
 
--- src/reader.rt:169:9
 returns : tie.Need-returns
 unfolding count
 returns c = ap u8Read (c .enum-told .given .1) ∙ sym (checked-no _ _ _ (got u8Read (c .before .before .read-u8 .ensures) (c .enum-told .given .1)))
 
--- src/reader.rt:171:24
 cast-is-valid-count : tie.Need-cast-is-valid-count
 cast-is-valid-count c = search needs
 
--- src/reader.rt:171:9
 is-valid-count-requires : tie.Need-is-valid-count-requires
 is-valid-count-requires c κs = search needs
 
--- src/reader.rt:172:9
 returns-2 : tie.Need-returns-2
 unfolding count pick
 returns-2 c = sym (checked-bad _ _ _ (is (c .before .before .before)) (ap require (failed (c .before .is-valid-count .ensures) (c .if1 .taken))))
 
--- src/reader.rt:164:1
 returns-3 : tie.Need-returns-3
 unfolding count pick
 returns-3 c = sym (checked-ok _ _ _ (is (c .before .before .before)) (ap require (held (c .before .is-valid-count .ensures) (c .if1 .left))))

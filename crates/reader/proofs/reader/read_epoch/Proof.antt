@@ -15,33 +15,26 @@ use Rattle.reader.proofs.reader.read_epoch.Tie as tie
 is : (c : tie.After-number) → uint 8 .dec (c .before .before .before .before .args .bytes .now) ≡ ok (c .number .given .0 .0) (c .number .given .0 .1 .0)
 is c = got u64Read (c .before .before .read-be .ensures) (c .number .given .1)
 
--- src/reader.rt:109:9
 read-be-requires : tie.Need-read-be-requires
 read-be-requires c κs = search needs
 
--- src/reader.rt:110:23
 enum-known-number : tie.Need-enum-known-number
 enum-known-number c = search needs
 
--- src/reader.rt:111:9
 enum-told : tie.Need-enum-told
 enum-told c = search needs
 
--- src/reader.rt:111:9
 returns : tie.Need-returns
 unfolding epoch
 returns c = ap u64Read (c .enum-told .given .1) ∙ sym (checked-no _ _ _ (got u64Read (c .before .before .read-be .ensures) (c .enum-told .given .1)))
 
--- src/reader.rt:113:9
 is-configuration-epoch-requires : tie.Need-is-configuration-epoch-requires
 is-configuration-epoch-requires c κs = search needs
 
--- src/reader.rt:114:9
 returns-2 : tie.Need-returns-2
 unfolding epoch pick
 returns-2 c = sym (checked-bad _ _ _ (is (c .before .before .before)) (ap require (failed (c .before .is-configuration-epoch .ensures) (c .if1 .taken))))
 
--- src/reader.rt:106:1
 returns-3 : tie.Need-returns-3
 unfolding epoch pick
 returns-3 c = sym (checked-ok _ _ _ (is (c .before .before .before)) (ap require (held (c .before .is-configuration-epoch .ensures) (c .if1 .left))))

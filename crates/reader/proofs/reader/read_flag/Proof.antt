@@ -17,33 +17,26 @@ use Rattle.reader.proofs.reader.read_flag.Tie as tie
 is : (c : tie.After-number) → uint 1 .dec (c .before .before .before .before .args .bytes .now) ≡ ok (c .number .given .0 .0) (c .number .given .0 .1 .0)
 is c = got u8Read (c .before .before .read-u8 .ensures) (c .number .given .1)
 
--- src/reader.rt:195:9
 read-u8-requires : tie.Need-read-u8-requires
 read-u8-requires c κs = search needs
 
--- src/reader.rt:196:22
 enum-known-number : tie.Need-enum-known-number
 enum-known-number c = search needs
 
--- src/reader.rt:197:34
 enum-told : tie.Need-enum-told
 enum-told c = search needs
 
--- src/reader.rt:197:34
 why-u8-requires : tie.Need-why-u8-requires
 why-u8-requires c κs = search needs
 
--- src/reader.rt:197:9
 returns : tie.Need-returns
 unfolding flag
 returns c = ap (λ a. no (numberOf a)) (c .why-u8 .ensures ∙ ap whyU8 (c .before .enum-told .given .1)) ∙ sym (via-no _ _ _ _ _ (checked-no _ _ _ (got u8Read (c .before .before .before .read-u8 .ensures) (c .before .enum-told .given .1))))
 
--- src/reader.rt:200:9
 returns-2 : tie.Need-returns-2
 unfolding flag flagTest pick
 returns-2 c = sym (via-no _ _ _ _ _ (checked-bad _ _ _ (is (c .before .before)) (ap (λ t. pick t 0 6) (lt-leb (c .before .before .number .given .0 .0) 1 (c .if1 .taken)))))
 
--- src/reader.rt:192:1
 returns-3 : tie.Need-returns-3
 unfolding flag flagTest pick
 returns-3 c = sym (via-ok _ _ _ _ _ (checked-ok _ _ _ (is (c .before .before)) (ap (λ t. pick t 0 6) (le-leb (c .before .before .number .given .0 .0) 1 (omega arith)))))

@@ -24,40 +24,31 @@ is c =
     let s = c .before .before .before .before .before .before .args .bytes .now in
     dep-ok _ _ _ (raw-got 4 s (omega arith)) (got u64Read (c .before .before .read-be .ensures ∙ ap (uint 2 .dec) (rest s 4)) (c .number .given .1))
 
--- src/reader.rt:452:9
 returns : tie.Need-returns
 unfolding head
 returns c = sym (via-no _ _ _ _ _ (checked-no _ _ _ (dep-no-1 _ _ _ (raw-not 4 _ (c .if1 .taken)))))
 
--- src/reader.rt:454:26
 sub-read-be : tie.Need-sub-read-be
 sub-read-be c = search needs
 
--- src/reader.rt:454:26
 part-read-be-start : tie.Need-part-read-be-start
 part-read-be-start c = search needs
 
--- src/reader.rt:454:26
 part-read-be-end : tie.Need-part-read-be-end
 part-read-be-end c = search needs
 
--- src/reader.rt:454:9
 read-be-requires : tie.Need-read-be-requires
 read-be-requires c κs = search needs
 
--- src/reader.rt:455:23
 enum-known-number : tie.Need-enum-known-number
 enum-known-number c = search needs
 
--- src/reader.rt:456:33
 enum-told : tie.Need-enum-told
 enum-told c = search needs
 
--- src/reader.rt:456:33
 why-u64-requires : tie.Need-why-u64-requires
 why-u64-requires c κs = search needs
 
--- src/reader.rt:456:9
 returns-2 : tie.Need-returns-2
 unfolding head
 returns-2 c =
@@ -65,41 +56,33 @@ returns-2 c =
     ap (λ a. no (numberOf a)) (c .why-u64 .ensures ∙ ap whyU64 (c .before .enum-told .given .1))
     ∙ sym (via-no _ _ _ _ _ (checked-no _ _ _ (dep-no-2 _ _ _ (raw-got 4 s (omega arith)) (got u64Read (c .before .before .before .read-be .ensures ∙ ap (uint 2 .dec) (rest s 4)) (c .before .enum-told .given .1)))))
 
--- src/reader.rt:458:11
 shared-slice-read-if2 : tie.Need-shared-slice-read-if2
 shared-slice-read-if2 c = search needs
 
--- src/reader.rt:458:33
 shared-slice-read-if2-2 : tie.Need-shared-slice-read-if2-2
 shared-slice-read-if2-2 c = search needs
 
--- src/reader.rt:458:55
 shared-slice-read-if2-3 : tie.Need-shared-slice-read-if2-3
 shared-slice-read-if2-3 c = search needs
 
--- src/reader.rt:458:76
 shared-slice-read-if2-4 : tie.Need-shared-slice-read-if2-4
 shared-slice-read-if2-4 c = search needs
 
--- src/reader.rt:459:9
 returns-3 : tie.Need-returns-3
 unfolding head headTest pick
 returns-3 c =
     let s = c .before .before .before .before .before .before .before .before .before .before .before .before .args .bytes .now in
     sym (via-no _ _ _ _ _ (checked-bad _ _ _ (is (c .before .before .before .before .before .before)) (rw (magic-bytes s (omega arith) ∙ not-true _ (c .if2 .taken)))))
 
--- src/reader.rt:462:9
 returns-4 : tie.Need-returns-4
 unfolding head headTest pick
 returns-4 c =
     let s = c .before .before .before .before .before .before .before .before .before .before .before .before .before .args .bytes .now in
     sym (via-no _ _ _ _ _ (checked-bad _ _ _ (is (c .before .before .before .before .before .before .before)) (rw (magic-bytes s (omega arith) ∙ not-false _ (c .before .if2 .left), ne-eqb _ _ (c .if3 .taken)))))
 
--- src/reader.rt:464:17
 add-t5 : tie.Need-add-t5
 add-t5 c = record { fits = lt-of-le-of-lt (dep (raw 4) (λ a. uint 2) .within _ (is (c .before .before .before .before .before .before .before))) (c .before .before .before .before .before .before .before .before .before .before .before .before .before .good .0 .0) }
 
--- src/reader.rt:448:1
 returns-5 : tie.Need-returns-5
 unfolding head headTest pick
 returns-5 c =

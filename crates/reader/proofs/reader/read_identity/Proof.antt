@@ -25,65 +25,50 @@ got-1 c = got u16Read (c .before .before .before .read-slot-id .ensures) (c .bef
 got-2 : (c : tie.After-known-told2) → c2 .dec (c .before .before .before .before .before .before .before .before .before .before .args .bytes .now) ≡ ok (c .before .before .before .before .before .before .slot-read .given .0 .0, c .before .incarnation-read .given .0 .0) (c .before .before .before .before .before .before .slot-read .given .0 .1 .0 + c .before .incarnation-read .given .0 .1 .0)
 got-2 c = dep-ok _ _ _ (got-1 (c .before .before .before .before .before)) (got u64Read (c .before .before .before .read-incarnation .ensures ∙ ap (incarnation .dec) (rest (c .before .before .before .before .before .before .before .before .before .before .args .bytes .now) _)) (c .before .incarnation-read .given .1))
 
--- src/reader.rt:152:9
 read-slot-id-requires : tie.Need-read-slot-id-requires
 read-slot-id-requires c κs = search needs
 
--- src/reader.rt:153:23
 enum-known-slot-read : tie.Need-enum-known-slot-read
 enum-known-slot-read c = search needs
 
--- src/reader.rt:154:38
 enum-told : tie.Need-enum-told
 enum-told c = search needs
 
--- src/reader.rt:154:38
 why-u16-requires : tie.Need-why-u16-requires
 why-u16-requires c κs = search needs
 
--- src/reader.rt:154:9
 returns : tie.Need-returns
 unfolding identity
 returns c = ap (λ a. no (numberOf a)) (c .why-u16 .ensures ∙ ap whyU16 (c .before .enum-told .given .1)) ∙ sym (via-no _ _ _ _ _ (dep-no-1 _ _ _ (got u16Read (c .before .before .before .read-slot-id .ensures) (c .before .enum-told .given .1))))
 
--- src/reader.rt:156:45
 sub-read-incarnation : tie.Need-sub-read-incarnation
 sub-read-incarnation c = c1 .within _ (got-1 c)
 
--- src/reader.rt:156:45
 part-read-incarnation-start : tie.Need-part-read-incarnation-start
 part-read-incarnation-start c = c1 .within _ (got-1 c)
 
--- src/reader.rt:156:45
 part-read-incarnation-end : tie.Need-part-read-incarnation-end
 part-read-incarnation-end c = search needs
 
--- src/reader.rt:156:9
 read-incarnation-requires : tie.Need-read-incarnation-requires
 read-incarnation-requires c κs = search needs
 
--- src/reader.rt:157:23
 enum-known-incarnation-read : tie.Need-enum-known-incarnation-read
 enum-known-incarnation-read c = search needs
 
--- src/reader.rt:158:38
 enum-told-2 : tie.Need-enum-told-2
 enum-told-2 c = search needs
 
--- src/reader.rt:158:38
 why-u64-requires : tie.Need-why-u64-requires
 why-u64-requires c κs = search needs
 
--- src/reader.rt:158:9
 returns-2 : tie.Need-returns-2
 unfolding identity
 returns-2 c = ap (λ a. no (numberOf a)) (c .why-u64 .ensures ∙ ap whyU64 (c .before .enum-told2 .given .1)) ∙ sym (via-no _ _ _ _ _ (dep-no-2 _ _ _ (got-1 (c .before .before .before .before .before)) (got u64Read (c .before .before .before .read-incarnation .ensures ∙ ap (incarnation .dec) (rest (c .before .before .before .before .before .before .before .before .before .before .args .bytes .now) _)) (c .before .enum-told2 .given .1))))
 
--- src/reader.rt:160:65
 add-t10 : tie.Need-add-t10
 add-t10 c = record { fits = lt-of-le-of-lt (c2 .within _ (got-2 (c))) (c .before .before .before .before .before .before .before .before .before .before .good .0 .0) }
 
--- src/reader.rt:149:1
 returns-3 : tie.Need-returns-3
 unfolding identity
 returns-3 c = sym (via-ok _ _ _ _ _ (got-2 (c)))

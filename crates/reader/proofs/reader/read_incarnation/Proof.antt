@@ -18,39 +18,31 @@ use Rattle.reader.proofs.reader.read_incarnation.Tie as tie
 is : (c : tie.After-number) → uint 8 .dec (c .before .before .before .before .args .bytes .now) ≡ ok (c .number .given .0 .0) (c .number .given .0 .1 .0)
 is c = got u64Read (c .before .before .read-be .ensures) (c .number .given .1)
 
--- src/reader.rt:123:9
 read-be-requires : tie.Need-read-be-requires
 read-be-requires c κs = search needs
 
--- src/reader.rt:124:23
 enum-known-number : tie.Need-enum-known-number
 enum-known-number c = search needs
 
--- src/reader.rt:125:9
 enum-told : tie.Need-enum-told
 enum-told c = search needs
 
--- src/reader.rt:125:9
 returns : tie.Need-returns
 unfolding incarnation
 returns c = ap u64Read (c .enum-told .given .1) ∙ sym (checked-no _ _ _ (got u64Read (c .before .before .read-be .ensures) (c .enum-told .given .1)))
 
--- src/reader.rt:127:9
 validate-voter-incarnation-requires : tie.Need-validate-voter-incarnation-requires
 validate-voter-incarnation-requires c κs = search needs
 
--- src/reader.rt:128:9
 accepted-requires : tie.Need-accepted-requires
 accepted-requires c κs = search needs
 
--- src/reader.rt:129:9
 returns-2 : tie.Need-returns-2
 unfolding incarnation
 returns-2 c =
     let v = c .before .before .validate-voter-incarnation .ensures in
     ap (λ a. no (numberOf a)) v ∙ sym (checked-refused _ _ _ (is (c .before .before .before .before)) (ap isAccepted (sym v) ∙ failed (c .before .accepted .ensures) (c .if1 .taken)))
 
--- src/reader.rt:120:1
 returns-3 : tie.Need-returns-3
 unfolding incarnation
 returns-3 c =

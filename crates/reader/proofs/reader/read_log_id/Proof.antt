@@ -26,65 +26,50 @@ got-1 c = got u64Read (c .before .before .before .read-u64 .ensures) (c .before 
 got-2 : (c : tie.After-known-told2) → c2 .dec (c .before .before .before .before .before .before .before .before .before .before .args .bytes .now) ≡ ok (c .before .before .before .before .before .before .term-read .given .0 .0, c .before .index-read .given .0 .0) (c .before .before .before .before .before .before .term-read .given .0 .1 .0 + c .before .index-read .given .0 .1 .0)
 got-2 c = dep-ok _ _ _ (got-1 (c .before .before .before .before .before)) (got u64Read (c .before .before .before .read-u642 .ensures ∙ ap ((uint 8) .dec) (rest (c .before .before .before .before .before .before .before .before .before .before .args .bytes .now) _)) (c .before .index-read .given .1))
 
--- src/reader.rt:209:9
 read-u64-requires : tie.Need-read-u64-requires
 read-u64-requires c κs = search needs
 
--- src/reader.rt:210:23
 enum-known-term-read : tie.Need-enum-known-term-read
 enum-known-term-read c = search needs
 
--- src/reader.rt:211:35
 enum-told : tie.Need-enum-told
 enum-told c = search needs
 
--- src/reader.rt:211:35
 why-u64-requires : tie.Need-why-u64-requires
 why-u64-requires c κs = search needs
 
--- src/reader.rt:211:9
 returns : tie.Need-returns
 unfolding logId
 returns c = ap (λ a. no (numberOf a)) (c .why-u64 .ensures ∙ ap whyU64 (c .before .enum-told .given .1)) ∙ sym (via-no _ _ _ _ _ (dep-no-1 _ _ _ (got u64Read (c .before .before .before .read-u64 .ensures) (c .before .enum-told .given .1))))
 
--- src/reader.rt:213:31
 sub-read-u64 : tie.Need-sub-read-u64
 sub-read-u64 c = c1 .within _ (got-1 c)
 
--- src/reader.rt:213:31
 part-read-u64-start : tie.Need-part-read-u64-start
 part-read-u64-start c = c1 .within _ (got-1 c)
 
--- src/reader.rt:213:31
 part-read-u64-end : tie.Need-part-read-u64-end
 part-read-u64-end c = search needs
 
--- src/reader.rt:213:9
 read-u64-requires-2 : tie.Need-read-u64-requires-2
 read-u64-requires-2 c κs = search needs
 
--- src/reader.rt:214:23
 enum-known-index-read : tie.Need-enum-known-index-read
 enum-known-index-read c = search needs
 
--- src/reader.rt:215:35
 enum-told-2 : tie.Need-enum-told-2
 enum-told-2 c = search needs
 
--- src/reader.rt:215:35
 why-u64-requires-2 : tie.Need-why-u64-requires-2
 why-u64-requires-2 c κs = search needs
 
--- src/reader.rt:215:9
 returns-2 : tie.Need-returns-2
 unfolding logId
 returns-2 c = ap (λ a. no (numberOf a)) (c .why-u642 .ensures ∙ ap whyU64 (c .before .enum-told2 .given .1)) ∙ sym (via-no _ _ _ _ _ (dep-no-2 _ _ _ (got-1 (c .before .before .before .before .before)) (got u64Read (c .before .before .before .read-u642 .ensures ∙ ap ((uint 8) .dec) (rest (c .before .before .before .before .before .before .before .before .before .before .args .bytes .now) _)) (c .before .enum-told2 .given .1))))
 
--- src/reader.rt:217:53
 add-t10 : tie.Need-add-t10
 add-t10 c = record { fits = lt-of-le-of-lt (c2 .within _ (got-2 (c))) (c .before .before .before .before .before .before .before .before .before .before .good .0 .0) }
 
--- src/reader.rt:206:1
 returns-3 : tie.Need-returns-3
 unfolding logId
 returns-3 c = sym (via-ok _ _ _ _ _ (got-2 (c)))

@@ -30,28 +30,22 @@ both : (c : tie.After-known-told2) → opt logId blankVoterSlotLogId .dec (c .be
     ≡ ok (true, c .before .second .given .0 .0) (c .before .before .before .before .before .before .before .first .given .0 .1 .0 + c .before .second .given .0 .1 .0)
 both c = opt-some _ _ _ (flagged-yes (c .before .before .before .before .before)) (got logIdRead (c .before .before .before .read-log-id .ensures ∙ ap (logId .dec) (rest (c .before .before .before .before .before .before .before .before .before .before .before .args .bytes .now) _)) (c .before .second .given .1))
 
--- src/reader.rt:224:9
 read-flag-requires : tie.Need-read-flag-requires
 read-flag-requires c κs = search needs
 
--- src/reader.rt:225:24
 enum-known-first : tie.Need-enum-known-first
 enum-known-first c = search needs
 
--- src/reader.rt:226:43
 enum-told : tie.Need-enum-told
 enum-told c = search needs
 
--- src/reader.rt:226:43
 why-bool-requires : tie.Need-why-bool-requires
 why-bool-requires c κs = search needs
 
--- src/reader.rt:226:9
 returns : tie.Need-returns
 unfolding optionalLogId
 returns c = ap (λ a. no (numberOf a)) (c .why-bool .ensures ∙ ap whyBool (c .before .enum-told .given .1)) ∙ sym (via-no _ _ _ _ _ (opt-no _ _ _ (got boolRead (c .before .before .before .read-flag .ensures) (c .before .enum-told .given .1))))
 
--- src/reader.rt:230:9
 returns-2 : tie.Need-returns-2
 unfolding optionalLogId blankVoterSlotLogId
 returns-2 c =
@@ -60,46 +54,36 @@ returns-2 c =
     ap (λ b. ok (record { «is_some» = b; cut = blankVoterSlotLogId }) n) t
     ∙ sym (via-ok _ _ _ _ _ (opt-none _ _ _ (flagged (c .before .before) ∙ ap (λ b. ok b n) t)))
 
--- src/reader.rt:232:30
 sub-read-log-id : tie.Need-sub-read-log-id
 sub-read-log-id c = flag .within _ (flagged (c .before .before))
 
--- src/reader.rt:232:30
 part-read-log-id-start : tie.Need-part-read-log-id-start
 part-read-log-id-start c = flag .within _ (flagged (c .before .before))
 
--- src/reader.rt:232:30
 part-read-log-id-end : tie.Need-part-read-log-id-end
 part-read-log-id-end c = search needs
 
--- src/reader.rt:232:9
 read-log-id-requires : tie.Need-read-log-id-requires
 read-log-id-requires c κs = search needs
 
--- src/reader.rt:233:25
 enum-known-second : tie.Need-enum-known-second
 enum-known-second c = search needs
 
--- src/reader.rt:234:43
 enum-told-2 : tie.Need-enum-told-2
 enum-told-2 c = search needs
 
--- src/reader.rt:234:43
 why-log-id-requires : tie.Need-why-log-id-requires
 why-log-id-requires c κs = search needs
 
--- src/reader.rt:234:9
 returns-3 : tie.Need-returns-3
 unfolding optionalLogId
 returns-3 c =
     ap (λ a. no (numberOf a)) (c .why-log-id .ensures ∙ ap whyLogId (c .before .enum-told2 .given .1))
     ∙ sym (via-no _ _ _ _ _ (opt-bad _ _ _ (flagged-yes (c .before .before .before .before .before)) (got logIdRead (c .before .before .before .read-log-id .ensures ∙ ap (logId .dec) (rest (c .before .before .before .before .before .before .before .before .before .before .before .args .bytes .now) _)) (c .before .enum-told2 .given .1))))
 
--- src/reader.rt:236:61
 add-t13 : tie.Need-add-t13
 add-t13 c = record { fits = lt-of-le-of-lt (opt logId blankVoterSlotLogId .within _ (both c)) (c .before .before .before .before .before .before .before .before .before .before .before .good .0 .0) }
 
--- src/reader.rt:221:1
 returns-4 : tie.Need-returns-4
 unfolding optionalLogId
 returns-4 c =

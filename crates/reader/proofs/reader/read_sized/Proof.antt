@@ -20,41 +20,32 @@ use Rattle.reader.proofs.reader.read_sized.Tie as tie
 is : (c : tie.After-number) → uint 2 .dec (c .before .before .before .before .args .bytes .now) ≡ ok (c .number .given .0 .0) (c .number .given .0 .1 .0)
 is c = got u16Read (c .before .before .read-u16 .ensures) (c .number .given .1)
 
--- src/reader.rt:379:9
 read-u16-requires : tie.Need-read-u16-requires
 read-u16-requires c κs = search needs
 
--- src/reader.rt:380:23
 enum-known-number : tie.Need-enum-known-number
 enum-known-number c = search needs
 
--- src/reader.rt:381:35
 enum-told : tie.Need-enum-told
 enum-told c = search needs
 
--- src/reader.rt:381:35
 why-u16-requires : tie.Need-why-u16-requires
 why-u16-requires c κs = search needs
 
--- src/reader.rt:381:9
 returns : tie.Need-returns
 unfolding sized
 returns c = ap (λ a. no (numberOf a)) (c .why-u16 .ensures ∙ ap whyU16 (c .before .enum-told .given .1)) ∙ sym (dep-no-1 _ _ _ (checked-no _ _ _ (got u16Read (c .before .before .before .read-u16 .ensures) (c .before .enum-told .given .1))))
 
--- src/reader.rt:383:16
 cast-size : tie.Need-cast-size
 cast-size c = search needs
 
--- src/reader.rt:385:9
 returns-2 : tie.Need-returns-2
 unfolding sized pick
 returns-2 c = sym (dep-no-1 _ _ _ (checked-bad _ _ _ (is (c .before .before)) (ap (λ t. pick t 0 5) (lt-leb _ _ (c .if1 .taken)))))
 
--- src/reader.rt:387:8
 sub-if2 : tie.Need-sub-if2
 sub-if2 c = uint 2 .within _ (is (c .before .before))
 
--- src/reader.rt:388:9
 returns-3 : tie.Need-returns-3
 unfolding sized pick
 returns-3 c =
@@ -62,7 +53,6 @@ returns-3 c =
     let n = c .before .before .before .number .given .0 .1 .0 in
     sym (dep-no-2 _ _ _ (checked-ok _ _ _ (is (c .before .before .before)) (ap (λ t. pick t 0 5) (le-leb (c .before .before .before .number .given .0 .0) (c .before .before .before .before .before .before .before .args .bound) (omega arith)))) (raw-not _ (drop n s) (omega (arith, length-drop n s))))
 
--- src/reader.rt:376:1
 returns-4 : tie.Need-returns-4
 unfolding sized pick
 returns-4 c =

@@ -18,39 +18,31 @@ use Rattle.reader.proofs.reader.read_slot_id.Tie as tie
 is : (c : tie.After-number) → uint 2 .dec (c .before .before .before .before .args .bytes .now) ≡ ok (c .number .given .0 .0) (c .number .given .0 .1 .0)
 is c = got u16Read (c .before .before .read-u16 .ensures) (c .number .given .1)
 
--- src/reader.rt:137:9
 read-u16-requires : tie.Need-read-u16-requires
 read-u16-requires c κs = search needs
 
--- src/reader.rt:138:23
 enum-known-number : tie.Need-enum-known-number
 enum-known-number c = search needs
 
--- src/reader.rt:139:9
 enum-told : tie.Need-enum-told
 enum-told c = search needs
 
--- src/reader.rt:139:9
 returns : tie.Need-returns
 unfolding slotId
 returns c = ap u16Read (c .enum-told .given .1) ∙ sym (checked-no _ _ _ (got u16Read (c .before .before .read-u16 .ensures) (c .enum-told .given .1)))
 
--- src/reader.rt:141:9
 validate-slot-id-requires : tie.Need-validate-slot-id-requires
 validate-slot-id-requires c κs = search needs
 
--- src/reader.rt:142:9
 accepted-requires : tie.Need-accepted-requires
 accepted-requires c κs = search needs
 
--- src/reader.rt:143:9
 returns-2 : tie.Need-returns-2
 unfolding slotId
 returns-2 c =
     let v = c .before .before .validate-slot-id .ensures in
     ap (λ a. no (numberOf a)) v ∙ sym (checked-refused _ _ _ (is (c .before .before .before .before)) (ap isAccepted (sym v) ∙ failed (c .before .accepted .ensures) (c .if1 .taken)))
 
--- src/reader.rt:134:1
 returns-3 : tie.Need-returns-3
 unfolding slotId
 returns-3 c =

@@ -36,27 +36,21 @@ text n s = let e : 2 + n - 2 ≡ n = omega arith in ap (λ m. take m (drop 2 s))
 fits : (c : tie.After-known-told) → 2 + c .before .size .given .0 .0 ≤ length (c .before .before .before .before .before .args .bytes .now)
 fits c = sized 256 .within _ (is c)
 
--- src/reader.rt:417:9
 read-sized-requires : tie.Need-read-sized-requires
 read-sized-requires c κs = search needs
 
--- src/reader.rt:418:25
 enum-known-size : tie.Need-enum-known-size
 enum-known-size c = search needs
 
--- src/reader.rt:419:36
 enum-told : tie.Need-enum-told
 enum-told c = search needs
 
--- src/reader.rt:419:36
 why-sized-requires : tie.Need-why-sized-requires
 why-sized-requires c κs = search needs
 
--- src/reader.rt:419:9
 refused-snapshot-id-requires : tie.Need-refused-snapshot-id-requires
 refused-snapshot-id-requires c κs = search needs
 
--- src/reader.rt:419:9
 returns : tie.Need-returns
 unfolding snapshotId string
 returns c =
@@ -64,31 +58,24 @@ returns c =
     outcome-no _ (c .refused-snapshot-id .ensures ∙ ap (λ a. outcome blankSnapshotId (no (numberOf a))) (c .before .why-sized .ensures ∙ ap whySized (c .before .before .enum-told .given .1)))
     (via-no _ _ _ _ _ (checked-no _ _ _ (got (λ r. sizedRead r s) (c .before .before .before .before .read-sized .ensures) (c .before .before .enum-told .given .1))))
 
--- src/reader.rt:421:26
 add-text : tie.Need-add-text
 add-text c = record { fits = lt-of-le-of-lt (fits c) (c .before .before .before .before .before .good .0 .0) }
 
--- src/reader.rt:421:16
 sub-text : tie.Need-sub-text
 sub-text c = search needs
 
--- src/reader.rt:421:16
 part-text-start : tie.Need-part-text-start
 part-text-start c = search needs
 
--- src/reader.rt:421:16
 part-text-end : tie.Need-part-text-end
 part-text-end c = fits c
 
--- src/reader.rt:422:9
 is-utf8-requires : tie.Need-is-utf8-requires
 is-utf8-requires c κs = search needs
 
--- src/reader.rt:423:9
 refused-snapshot-id-requires-2 : tie.Need-refused-snapshot-id-requires-2
 refused-snapshot-id-requires-2 c κs = search needs
 
--- src/reader.rt:423:9
 returns-2 : tie.Need-returns-2
 unfolding snapshotId string pick
 returns-2 c =
@@ -97,15 +84,12 @@ returns-2 c =
     outcome-no _ (c .refused-snapshot-id2 .ensures)
     (via-no _ _ _ _ _ (checked-bad _ _ _ (is (c .before .before .before .before)) (ap require (ap isUtf8 (sym (text n s)) ∙ failed (c .before .before .is-utf8 .ensures) (c .before .if1 .taken)))))
 
--- src/reader.rt:425:21
 zeros256-requires : tie.Need-zeros256-requires
 zeros256-requires c κs = search needs
 
--- src/reader.rt:426:15
 slice-aggregate-put-bytes : tie.Need-slice-aggregate-put-bytes
 slice-aggregate-put-bytes c = search needs
 
--- src/reader.rt:426:5
 put-bytes-requires : tie.Need-put-bytes-requires
 put-bytes-requires c κs =
     let s = c .before .before .before .before .before .before .before .before .before .before .args .bytes .now in
@@ -113,11 +97,9 @@ put-bytes-requires c κs =
     let z : length (c .before .zeros256 .result) ≡ 256 = ap length (c .before .zeros256 .ensures) ∙ length-zeros 256 in
     omega (arith, length-take (2 + n - 2) (drop 2 s), z, sized-small 256 s (is (c .before .before .before .before .before)))
 
--- src/reader.rt:428:29
 add-t9 : tie.Need-add-t9
 add-t9 c = record { fits = lt-of-le-of-lt (fits (c .before .before .before .before .before .before .before)) (c .before .before .before .before .before .before .before .before .before .before .before .before .good .0 .0) }
 
--- src/reader.rt:414:1
 returns-3 : tie.Need-returns-3
 unfolding snapshotId string pick
 returns-3 c =

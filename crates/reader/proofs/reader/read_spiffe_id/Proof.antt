@@ -36,27 +36,21 @@ text n s = let e : 2 + n - 2 ≡ n = omega arith in ap (λ m. take m (drop 2 s))
 fits : (c : tie.After-known-told) → 2 + c .before .size .given .0 .0 ≤ length (c .before .before .before .before .before .args .bytes .now)
 fits c = sized 2048 .within _ (is c)
 
--- src/reader.rt:397:9
 read-sized-requires : tie.Need-read-sized-requires
 read-sized-requires c κs = search needs
 
--- src/reader.rt:398:25
 enum-known-size : tie.Need-enum-known-size
 enum-known-size c = search needs
 
--- src/reader.rt:399:34
 enum-told : tie.Need-enum-told
 enum-told c = search needs
 
--- src/reader.rt:399:34
 why-sized-requires : tie.Need-why-sized-requires
 why-sized-requires c κs = search needs
 
--- src/reader.rt:399:9
 refused-spiffe-id-requires : tie.Need-refused-spiffe-id-requires
 refused-spiffe-id-requires c κs = search needs
 
--- src/reader.rt:399:9
 returns : tie.Need-returns
 unfolding spiffeId string
 returns c =
@@ -64,31 +58,24 @@ returns c =
     outcome-no _ (c .refused-spiffe-id .ensures ∙ ap (λ a. outcome blankSpiffeId (no (numberOf a))) (c .before .why-sized .ensures ∙ ap whySized (c .before .before .enum-told .given .1)))
     (via-no _ _ _ _ _ (checked-no _ _ _ (got (λ r. sizedRead r s) (c .before .before .before .before .read-sized .ensures) (c .before .before .enum-told .given .1))))
 
--- src/reader.rt:401:26
 add-text : tie.Need-add-text
 add-text c = record { fits = lt-of-le-of-lt (fits c) (c .before .before .before .before .before .good .0 .0) }
 
--- src/reader.rt:401:16
 sub-text : tie.Need-sub-text
 sub-text c = search needs
 
--- src/reader.rt:401:16
 part-text-start : tie.Need-part-text-start
 part-text-start c = search needs
 
--- src/reader.rt:401:16
 part-text-end : tie.Need-part-text-end
 part-text-end c = fits c
 
--- src/reader.rt:402:9
 is-utf8-requires : tie.Need-is-utf8-requires
 is-utf8-requires c κs = search needs
 
--- src/reader.rt:403:9
 refused-spiffe-id-requires-2 : tie.Need-refused-spiffe-id-requires-2
 refused-spiffe-id-requires-2 c κs = search needs
 
--- src/reader.rt:403:9
 returns-2 : tie.Need-returns-2
 unfolding spiffeId string pick
 returns-2 c =
@@ -97,15 +84,12 @@ returns-2 c =
     outcome-no _ (c .refused-spiffe-id2 .ensures)
     (via-no _ _ _ _ _ (checked-bad _ _ _ (is (c .before .before .before .before)) (ap require (ap isUtf8 (sym (text n s)) ∙ failed (c .before .before .is-utf8 .ensures) (c .before .if1 .taken)))))
 
--- src/reader.rt:405:21
 zeros2048-requires : tie.Need-zeros2048-requires
 zeros2048-requires c κs = search needs
 
--- src/reader.rt:406:15
 slice-aggregate-put-bytes : tie.Need-slice-aggregate-put-bytes
 slice-aggregate-put-bytes c = search needs
 
--- src/reader.rt:406:5
 put-bytes-requires : tie.Need-put-bytes-requires
 put-bytes-requires c κs =
     let s = c .before .before .before .before .before .before .before .before .before .before .args .bytes .now in
@@ -113,11 +97,9 @@ put-bytes-requires c κs =
     let z : length (c .before .zeros2048 .result) ≡ 2048 = ap length (c .before .zeros2048 .ensures) ∙ length-zeros 2048 in
     omega (arith, length-take (2 + n - 2) (drop 2 s), z, sized-small 2048 s (is (c .before .before .before .before .before)))
 
--- src/reader.rt:408:29
 add-t9 : tie.Need-add-t9
 add-t9 c = record { fits = lt-of-le-of-lt (fits (c .before .before .before .before .before .before .before)) (c .before .before .before .before .before .before .before .before .before .before .before .before .good .0 .0) }
 
--- src/reader.rt:394:1
 returns-3 : tie.Need-returns-3
 unfolding spiffeId string pick
 returns-3 c =

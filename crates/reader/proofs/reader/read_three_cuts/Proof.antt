@@ -32,102 +32,78 @@ got-2 c = dep-ok _ _ _ (got-1 (c .before .before .before .before .before)) (got 
 got-3 : (c : tie.After-known-told3) → c3 .dec (c .before .before .before .before .before .before .before .before .before .before .before .before .before .before .before .args .bytes .now) ≡ ok ((c .before .before .before .before .before .before .before .before .before .before .before .first-read .given .0 .0, c .before .before .before .before .before .before .second-read .given .0 .0), c .before .third-read .given .0 .0) ((c .before .before .before .before .before .before .before .before .before .before .before .first-read .given .0 .1 .0 + c .before .before .before .before .before .before .second-read .given .0 .1 .0) + c .before .third-read .given .0 .1 .0)
 got-3 c = dep-ok _ _ _ (got-2 (c .before .before .before .before .before)) (got optionalLogIdRead (c .before .before .before .read-optional-log-id3 .ensures ∙ ap (optionalLogId .dec) (rest (c .before .before .before .before .before .before .before .before .before .before .before .before .before .before .before .args .bytes .now) _)) (c .before .third-read .given .1))
 
--- src/reader.rt:243:9
 read-optional-log-id-requires : tie.Need-read-optional-log-id-requires
 read-optional-log-id-requires c κs = search needs
 
--- src/reader.rt:244:33
 enum-known-first-read : tie.Need-enum-known-first-read
 enum-known-first-read c = search needs
 
--- src/reader.rt:245:39
 enum-told : tie.Need-enum-told
 enum-told c = search needs
 
--- src/reader.rt:245:39
 why-optional-log-id-requires : tie.Need-why-optional-log-id-requires
 why-optional-log-id-requires c κs = search needs
 
--- src/reader.rt:245:9
 returns : tie.Need-returns
 unfolding threeCuts
 returns c = ap (λ a. no (numberOf a)) (c .why-optional-log-id .ensures ∙ ap whyOptionalLogId (c .before .enum-told .given .1)) ∙ sym (via-no _ _ _ _ _ (dep-no-1 _ _ _ (dep-no-1 _ _ _ (got optionalLogIdRead (c .before .before .before .read-optional-log-id .ensures) (c .before .enum-told .given .1)))))
 
--- src/reader.rt:247:44
 sub-read-optional-log-id : tie.Need-sub-read-optional-log-id
 sub-read-optional-log-id c = c1 .within _ (got-1 c)
 
--- src/reader.rt:247:44
 part-read-optional-log-id-start : tie.Need-part-read-optional-log-id-start
 part-read-optional-log-id-start c = c1 .within _ (got-1 c)
 
--- src/reader.rt:247:44
 part-read-optional-log-id-end : tie.Need-part-read-optional-log-id-end
 part-read-optional-log-id-end c = search needs
 
--- src/reader.rt:247:9
 read-optional-log-id-requires-2 : tie.Need-read-optional-log-id-requires-2
 read-optional-log-id-requires-2 c κs = search needs
 
--- src/reader.rt:248:33
 enum-known-second-read : tie.Need-enum-known-second-read
 enum-known-second-read c = search needs
 
--- src/reader.rt:249:39
 enum-told-2 : tie.Need-enum-told-2
 enum-told-2 c = search needs
 
--- src/reader.rt:249:39
 why-optional-log-id-requires-2 : tie.Need-why-optional-log-id-requires-2
 why-optional-log-id-requires-2 c κs = search needs
 
--- src/reader.rt:249:9
 returns-2 : tie.Need-returns-2
 unfolding threeCuts
 returns-2 c = ap (λ a. no (numberOf a)) (c .why-optional-log-id2 .ensures ∙ ap whyOptionalLogId (c .before .enum-told2 .given .1)) ∙ sym (via-no _ _ _ _ _ (dep-no-1 _ _ _ (dep-no-2 _ _ _ (got-1 (c .before .before .before .before .before)) (got optionalLogIdRead (c .before .before .before .read-optional-log-id2 .ensures ∙ ap (optionalLogId .dec) (rest (c .before .before .before .before .before .before .before .before .before .before .args .bytes .now) _)) (c .before .enum-told2 .given .1)))))
 
--- src/reader.rt:251:14
 add-at : tie.Need-add-at
 add-at c = record { fits = lt-of-le-of-lt (c2 .within _ (got-2 c)) (c .before .before .before .before .before .before .before .before .before .before .good .0 .0) }
 
--- src/reader.rt:252:43
 sub-read-optional-log-id-2 : tie.Need-sub-read-optional-log-id-2
 sub-read-optional-log-id-2 c = c2 .within _ (got-2 c)
 
--- src/reader.rt:252:43
 part-read-optional-log-id-start-2 : tie.Need-part-read-optional-log-id-start-2
 part-read-optional-log-id-start-2 c = c2 .within _ (got-2 c)
 
--- src/reader.rt:252:43
 part-read-optional-log-id-end-2 : tie.Need-part-read-optional-log-id-end-2
 part-read-optional-log-id-end-2 c = search needs
 
--- src/reader.rt:252:9
 read-optional-log-id-requires-3 : tie.Need-read-optional-log-id-requires-3
 read-optional-log-id-requires-3 c κs = search needs
 
--- src/reader.rt:253:33
 enum-known-third-read : tie.Need-enum-known-third-read
 enum-known-third-read c = search needs
 
--- src/reader.rt:254:39
 enum-told-3 : tie.Need-enum-told-3
 enum-told-3 c = search needs
 
--- src/reader.rt:254:39
 why-optional-log-id-requires-3 : tie.Need-why-optional-log-id-requires-3
 why-optional-log-id-requires-3 c κs = search needs
 
--- src/reader.rt:254:9
 returns-3 : tie.Need-returns-3
 unfolding threeCuts
 returns-3 c = ap (λ a. no (numberOf a)) (c .why-optional-log-id3 .ensures ∙ ap whyOptionalLogId (c .before .enum-told3 .given .1)) ∙ sym (via-no _ _ _ _ _ (dep-no-2 _ _ _ (got-2 (c .before .before .before .before .before)) (got optionalLogIdRead (c .before .before .before .read-optional-log-id3 .ensures ∙ ap (optionalLogId .dec) (rest (c .before .before .before .before .before .before .before .before .before .before .before .before .before .before .before .args .bytes .now) _)) (c .before .enum-told3 .given .1))))
 
--- src/reader.rt:262:9
 add-t14 : tie.Need-add-t14
 add-t14 c = record { fits = lt-of-le-of-lt (c3 .within _ (got-3 (c))) (c .before .before .before .before .before .before .before .before .before .before .before .before .before .before .before .good .0 .0) }
 
--- src/reader.rt:240:1
 returns-4 : tie.Need-returns-4
 unfolding threeCuts
 returns-4 c = sym (via-ok _ _ _ _ _ (got-3 (c)))

@@ -19,34 +19,27 @@ bytes c i = omega (arith, c .shared-slice-known .given i)
 is : (c : tie.After-number) → uint 1 .dec (c .before .before .before .before .args .bytes .now) ≡ ok (c .number .given .0 .0) (c .number .given .0 .1 .0)
 is c = got u64Read (c .before .before .read-be .ensures) (c .number .given .1)
 
--- src/reader.rt:98:9
 read-be-requires : tie.Need-read-be-requires
 read-be-requires c κs = search needs
 
--- src/reader.rt:99:23
 enum-known-number : tie.Need-enum-known-number
 enum-known-number c = search needs
 
--- src/reader.rt:100:32
 enum-told : tie.Need-enum-told
 enum-told c = search needs
 
--- src/reader.rt:100:32
 why-u64-requires : tie.Need-why-u64-requires
 why-u64-requires c κs = search needs
 
--- src/reader.rt:100:9
 returns : tie.Need-returns
 returns c = ap (λ a. no (numberOf a)) (c .why-u64 .ensures ∙ ap whyU64 (c .before .enum-told .given .1)) ∙ sym (got u64Read (c .before .before .before .read-be .ensures) (c .before .enum-told .given .1))
 
--- src/reader.rt:102:18
 cast-t6 : tie.Need-cast-t6
 unfolding uint held
 cast-t6 c =
     let small : c .before .number .given .0 .0 < 256 ^ 1 = uint 1 .good _ (bytes (c .before .before .before .before)) (is (c .before)) in
     omega arith
 
--- src/reader.rt:95:1
 returns-2 : tie.Need-returns-2
 returns-2 c = sym (is (c .before))
 

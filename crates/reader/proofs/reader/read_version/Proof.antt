@@ -16,33 +16,26 @@ use Rattle.reader.proofs.reader.read_version.Tie as tie
 is : (c : tie.After-number) → uint 2 .dec (c .before .before .before .before .args .bytes .now) ≡ ok (c .number .given .0 .0) (c .number .given .0 .1 .0)
 is c = got u64Read (c .before .before .read-be .ensures) (c .number .given .1)
 
--- src/reader.rt:437:9
 read-be-requires : tie.Need-read-be-requires
 read-be-requires c κs = search needs
 
--- src/reader.rt:438:23
 enum-known-number : tie.Need-enum-known-number
 enum-known-number c = search needs
 
--- src/reader.rt:439:33
 enum-told : tie.Need-enum-told
 enum-told c = search needs
 
--- src/reader.rt:439:33
 why-u64-requires : tie.Need-why-u64-requires
 why-u64-requires c κs = search needs
 
--- src/reader.rt:439:9
 returns : tie.Need-returns
 unfolding version
 returns c = ap (λ a. no (numberOf a)) (c .why-u64 .ensures ∙ ap whyU64 (c .before .enum-told .given .1)) ∙ sym (via-no _ _ _ _ _ (checked-no _ _ _ (got u64Read (c .before .before .before .read-be .ensures) (c .before .enum-told .given .1))))
 
--- src/reader.rt:442:9
 returns-2 : tie.Need-returns-2
 unfolding version pick
 returns-2 c = sym (via-no _ _ _ _ _ (checked-bad _ _ _ (is (c .before .before)) (ap require (ne-eqb _ _ (c .if1 .taken)))))
 
--- src/reader.rt:434:1
 returns-3 : tie.Need-returns-3
 unfolding version pick
 returns-3 c = sym (via-ok _ _ _ _ _ (checked-ok _ _ _ (is (c .before .before)) (ap require (eq-eqb _ _ (c .if1 .left)))))

@@ -4,7 +4,6 @@ use Rattle.format.specs.Copy.{zeros}
 use Rattle.reader.proofs.reader.zeros32.Statement.{statement}
 use Rattle.reader.proofs.reader.zeros32.Tie as tie
 
--- src/reader.rt:351:1
 returns : tie.Need-returns
 unfolding zeros
 returns c = refl

@@ -3,11 +3,11 @@ use borrow.Author.Needs.{needs}
 use Rattle.records.proofs.representable.is_snapshot_part.Statement.{statement}
 use Rattle.records.proofs.representable.is_snapshot_part.Tie as tie
 
-is-representable-snapshot-id-requires : tie.Need-is-representable-snapshot-id-requires
-is-representable-snapshot-id-requires c κs = search needs
+is-representable-snapshot-requires : tie.Need-is-representable-snapshot-requires
+is-representable-snapshot-requires c κs = search needs
 
 returns : tie.Need-returns
-returns c = rw (c .before .before .if1 .taken) (c .is-representable-snapshot-id .ensures)
+returns c = rw (c .before .if1 .taken) (c .is-representable-snapshot .ensures)
 
 is-blank-voter-snapshot-evidence-requires : tie.Need-is-blank-voter-snapshot-evidence-requires
 is-blank-voter-snapshot-evidence-requires c κs = search needs
@@ -19,7 +19,7 @@ pub is-snapshot-part-spec : {M : Type 1} → statement M
 is-snapshot-part-spec =
     tie.close
     (tie.spec
-    is-representable-snapshot-id-requires
+    is-representable-snapshot-requires
     returns
     is-blank-voter-snapshot-evidence-requires
     returns-2)

@@ -21,16 +21,10 @@ e2 x = e1 x ++ x .«request_id»
 abbrev e3 : LostVoterAttestationV1 → List ℕ
 e3 x = e2 x ++ x .«request_digest»
 
-abbrev e4 : LostVoterAttestationV1 → List ℕ
-e4 x = e3 x ++ x .«cluster_instance»
-
 -- there is room for all of it, and so for each part
-room4 : (c : tie.Start) → c .args .at + length (e4 (c .args .t3)) ≤ length (c .args .buffer .now)
-unfolding claimsRequest version via dep check raw
-room4 c = c .pre
-
 room3 : (c : tie.Start) → c .args .at + length (e3 (c .args .t3)) ≤ length (c .args .buffer .now)
-room3 c = room-left (e3 (c .args .t3)) (c .args .t3 .«cluster_instance») _ _ (room4 c)
+unfolding claimsRequest version via dep check raw
+room3 c = c .pre
 
 room2 : (c : tie.Start) → c .args .at + length (e2 (c .args .t3)) ≤ length (c .args .buffer .now)
 room2 c = room-left (e2 (c .args .t3)) (c .args .t3 .«request_digest») _ _ (room3 c)
@@ -48,9 +42,6 @@ start2 c = start1 (c .before .before .before .before .before .before .before)
 abbrev start3 : tie.After-put-bytes2 → tie.Start
 start3 c = start2 (c .before .before .before .before .before .before .before)
 
-abbrev start4 : tie.After-put-bytes3 → tie.Start
-start4 c = start3 (c .before .before .before .before .before .before .before)
-
 -- what was written after each put
 wrote1 : (c : tie.After-put-be) → Put (e1 (start1 c .args .t3)) (start1 c .args .at) (start1 c .args .buffer .now) (c .put-be .last .0) (c .put-be .result)
 wrote1 c = c .put-be .ensures
@@ -61,9 +52,6 @@ wrote2 c = then _ (wrote1 (c .before .before .before .before .before .before .be
 wrote3 : (c : tie.After-put-bytes2) → Put (e3 (start3 c .args .t3)) (start3 c .args .at) (start3 c .args .buffer .now) (c .put-bytes2 .last .0) (c .put-bytes2 .result)
 wrote3 c = then _ (wrote2 (c .before .before .before .before .before .before .before)) (room3 (start3 c)) (c .put-bytes2 .ensures)
 
-wrote4 : (c : tie.After-put-bytes3) → Put (e4 (start4 c .args .t3)) (start4 c .args .at) (start4 c .args .buffer .now) (c .put-bytes3 .last .0) (c .put-bytes3 .result)
-wrote4 c = then _ (wrote3 (c .before .before .before .before .before .before .before)) (room4 (start4 c)) (c .put-bytes3 .ensures)
-
 put-be-requires : tie.Need-put-be-requires
 put-be-requires c κs = room1 (c .before .before)
 
@@ -73,15 +61,12 @@ put-bytes-requires c κs = room _ (wrote1 (c .before .before .before .before .be
 put-bytes-requires-2 : tie.Need-put-bytes-requires-2
 put-bytes-requires-2 c κs = room _ (wrote2 (c .before .before .before .before .before .before)) (room3 (start2 (c .before .before .before .before .before .before)))
 
-put-bytes-requires-3 : tie.Need-put-bytes-requires-3
-put-bytes-requires-3 c κs = room _ (wrote3 (c .before .before .before .before .before .before)) (room4 (start3 (c .before .before .before .before .before .before)))
-
 same-length : tie.Need-same-length
-same-length c = ap length (wrote4 (c .before .before) .bytes) ∙ length-put _ _ _ (room4 (start4 (c .before .before)))
+same-length c = ap length (wrote3 (c .before .before) .bytes) ∙ length-put _ _ _ (room3 (start3 (c .before .before)))
 
 returns : tie.Need-returns
 unfolding claimsRequest version via dep check raw
-returns c = wrote4 (c .before .before)
+returns c = wrote3 (c .before .before)
 
 pub put-claims-request-spec : {M : Type 1} → statement M
 put-claims-request-spec =
@@ -90,6 +75,5 @@ put-claims-request-spec =
     put-be-requires
     put-bytes-requires
     put-bytes-requires-2
-    put-bytes-requires-3
     same-length
     returns)
