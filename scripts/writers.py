@@ -5,7 +5,7 @@ Run it from the root of the repository, after a change to one of those functions
 
     python3 scripts/writers.py [FUNCTION ...]
 
-It writes crates/writer/proofs/encode/FUNCTION/Proof.antt. The leaves (put_be and put_bytes of layout) and the sizes are written by hand.
+It writes crates/writer/proofs/encode/FUNCTION/Proof.antt. The leaves (put_be and put_bytes of layout, put_flag) and the sizes are written by hand.
 A chain is a list of puts. Each has what it writes, and how many steps more than a put of a number of the record it takes to reach:
 a field that is copied out first, a u8 or u16 that is widened, or the answer of another call is 1, a lent array is 3.
 """
