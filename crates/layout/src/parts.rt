@@ -58,7 +58,7 @@ pub const MAX_LOST_VOTER_ATTESTATION_BYTES: usize = 8192;
 // The version of a table and of an attestation.
 pub const VERSION: u64 = 1;
 
-// The groups of an attestation. In front its request, and the digest of the claims behind it:
+// The four groups of an attestation: which request,
 pub struct ClaimsRequest {
     pub request_id: ConsensusRequestId,
     pub request_digest: [u8; 32],
