@@ -34,8 +34,8 @@ pub extern "C" fn bench_is_snapshot_id(bytes: &[u8]) -> bool
     identity::text::is_snapshot_id(bytes)
 }
 
-// The least that the test for 30 takes, whatever the table: so many bytes are looked at, so many
-// times. One of them is left out in every second turn, so that no turn's result is kept for the next.
+// So many bytes are looked at, so many times, as the test for 30 does with most of a table. One of
+// them is left out in every second turn, so that no turn's result is kept for the next.
 #[no_mangle]
 pub extern "C" fn bench_zeros(bytes: &[u8], turns: u64) -> u64 {
     let mut refused = 0;

@@ -38,9 +38,9 @@ enum Work {
     Encode,
     Command(Box<Body>),
     Retired(u64),
-    /// The least that a call on a value of the port's size takes: its bytes are read, and are zero.
+    /// As many bytes as the port's value has are read, and are zero.
     Zeros,
-    /// The least that a call that gives such a value takes: its bytes are cleared and handed on.
+    /// As many bytes are cleared and handed on.
     Made,
 }
 
@@ -77,7 +77,7 @@ pub fn run(mut line: impl FnMut(&str) -> Result<(), String>) -> Result<(), Strin
     let unit = format!("(ns, median of {BATCHES} batches of {CALLS} calls)");
     line(&format!("{call:<22}{slots:>6}  {state:<26}{names}  {unit}"))?;
     let of_slots = [3, 5, 9].into_iter().flat_map(tasks);
-    let all = least_tasks().into_iter().chain(bytes_tasks());
+    let all = value_tasks().into_iter().chain(bytes_tasks());
     for task in all.chain(of_slots) {
         line(&measured(&subjects, &task))?;
     }
@@ -112,8 +112,8 @@ fn median(times: &mut [u128]) -> f64 {
     times[times.len() / 2] as f64
 }
 
-/// What no call on the port's value can go below, whatever its table.
-fn least_tasks() -> [Task; 2] {
+/// What the size of the port's value costs, whatever its table.
+fn value_tasks() -> [Task; 2] {
     let task = |name, work| Task {
         name,
         state: format!("{VALUE} bytes"),
@@ -121,8 +121,8 @@ fn least_tasks() -> [Task; 2] {
         work,
     };
     [
-        task("least: read", Work::Zeros),
-        task("least: made", Work::Made),
+        task("value read", Work::Zeros),
+        task("value made", Work::Made),
     ]
 }
 
