@@ -84,14 +84,12 @@ for struct, fields in FROM_BELOW + FROM_HERE:
     RECORDS[struct] = [Field(name, written, RECORDS) for name, written in fields]
 NAMES = list(RECORDS)
 NINES = []
-SIZES = []
+# Arrays that validity and the successor check compare by themselves: ids and digests.
+SIZES = [16, 32]
 for fields in RECORDS.values():
     for field in fields:
         if field.kind == 'nine' and field.struct not in NINES:
             NINES.append(field.struct)
-        if field.kind == 'bytes' and field.size not in SIZES:
-            SIZES.append(field.size)
-SIZES.sort()
 
 
 # ---- names
@@ -415,8 +413,11 @@ pub fn same{0}(a: [u8; {0}], b: [u8; {0}]) -> bool
             if field.kind in ('number', 'bool'):
                 tests.append('(a.{0} == b.{0})'.format(field.name))
                 continue
-            lets += '    let a_{0} = a.{0};\n    let b_{0} = b.{0};\n'.format(field.name)
-            call = '{1}(a_{0}, b_{0})'.format(field.name, same_of(field))
+            pair = '&a.{0}, &b.{0}'
+            if field.kind != 'bytes':
+                lets += '    let a_{0} = a.{0};\n    let b_{0} = b.{0};\n'.format(field.name)
+                pair = 'a_{0}, b_{0}'
+            call = '%s(%s)' % (same_of(field), pair.format(field.name))
             if field is fields[0] and is_apart(fields):
                 lets += '    if !%s {\n        return false;\n    }\n' % call
             else:
@@ -454,7 +455,7 @@ pub fn same_{0}s(a: [{1}; {2}], b: [{1}; {2}]) -> bool
 
 def same_of(field):
     return {
-        'bytes': lambda: 'same%d' % field.size,
+        'bytes': lambda: 'same_bytes',
         'nine': lambda: 'same_%ss' % snake(field.struct),
         'struct': lambda: 'same_%s' % snake(field.struct),
     }[field.kind]()
@@ -504,35 +505,57 @@ def requires(calls):
     return needs, known
 
 
+def along(tests):
+    """The tests, joined as in the code, each along its path to the definition."""
+    path = tests[-1]
+    for one in reversed(tests[:-1]):
+        path = '%s && (%s)' % (one, path) if ' && ' in path else '%s && %s' % (one, path)
+    if len(path) + 9 > MOST:
+        return '\n    ' + path.replace(' && ', '\n    && ')
+    return ' ' + path
+
+
 def equality_proofs():
     for name, fields in RECORDS.items():
         function = 'same_' + snake(name)
-        calls = [same_of(field) for field in fields if field.kind not in ('number', 'bool')]
+        compared = [field for field in fields if field.kind not in ('number', 'bool')]
+        calls = [same_of(field) for field in compared]
         needs, known = requires(calls)
         apart = is_apart(fields)
         answer = 'returns-2' if apart else 'returns'
         head = 'unfolding all same%s\n' % name
         uses = ['Rattle.records.specs.Equality.{all, same%s}' % name]
         if calls:
-            # from the return back to each call: two steps for each comparison, then three for each call; one more to a test by itself
-            lets, at, steps = '', 'c', 2 * (len(fields) - len(calls))
+            # from the return back to each call: two steps for each comparison, and none where an array is lent; then seven for a call with
+            # two lent arrays and three for one with two copied structs; one more to a test by itself
+            lends = any(field.kind == 'bytes' for field in fields)
+            lets, at, steps = '', 'c', 0 if lends else 2 * (len(fields) - len(calls))
+            told = []
             for i in range(len(calls) - 1, -1, -1):
                 if apart and i == 0:
                     lets += '    let e = %s%s in\n' % (at, ' .before' * steps)
                     at, steps = 'e', 1
-                lets += '    let c%d = %s%s in\n' % (i, at, ' .before' * steps)
-                at, steps = 'c%d' % i, 3
-            told = ['c%d .%s .ensures' % (i, known[i]) for i in range(len(calls))]
+                if steps:
+                    lets += '    let c%d = %s%s in\n' % (i, at, ' .before' * steps)
+                    at = 'c%d' % i
+                told.insert(0, '%s .%s .ensures' % (at, known[i]))
+                steps = 7 if compared[i].kind == 'bytes' else 3
             if apart:
                 told[0] = 'held (%s) (e .if1 .left)' % told[0]
             returns = head + '%s c =\n%s%s' % (answer, lets, listed('simp', told))
+            if apart:
+                # more calls than `simp` takes: the path from the code to the definition, field by field
+                lets += '    let a = c0%s .args .t1 in\n    let b = c0%s .args .t2 in\n' % ((' .before' * 7,) * 2)
+                told[0] = 'sym (%s)' % told[0]
+                returns = head + '%s c =\n%s    λ i.%s' % (answer, lets, along([
+                    '%s i' % told.pop(0) if field in compared else test(field) for field in fields]))
         else:
             returns = head + 'returns c = search needs'
         needs.append(need(answer, returns))
         if apart:
             needs.insert(1, need('returns', '''unfolding same{0}
 returns c = sym (all-first _ _ _ (failed (c .before .{1} .ensures) (c .if1 .taken)))'''.format(name, known[0])))
-            uses = ['mathlib.Core.Path.{sym}', NEEDS] + uses + APART
+            uses = ['mathlib.Core.Path.{sym}', 'mathlib.Core.Bool.{_&&_}', 'lib.Dec.{eqb}', NEEDS] + uses + APART
         else:
             uses = [NEEDS] + uses
         write_proof('equality', function, 'field by field', uses, needs)
@@ -828,14 +851,7 @@ def zero_proofs():
                 lets += line
             if apart:
                 tests[0] = 'sym (held e0 (e .if1 .left)) i'
-            path = tests[-1]
-            for one in reversed(tests[:-1]):
-                path = '%s && (%s)' % (one, path) if ' && ' in path else '%s && %s' % (one, path)
-            if len(path) + 9 > MOST:
-                path = '\n    ' + path.replace(' && ', '\n    && ')
-            else:
-                path = ' ' + path
-            returns = head + '%s c =\n%s    λ i.%s' % (answer, lets, path)
+            returns = head + '%s c =\n%s    λ i.%s' % (answer, lets, along(tests))
         else:
             returns = head + 'returns c = refl'
         needs.append(need(answer, returns))

@@ -2,7 +2,7 @@
 -- Each name here is a step of a proof; what is right is said in Validation.
 -- Assumes nothing.
 use Prim.Native.Nat.{ℕ, zero, suc, _+_, _-_, _%_, _<_, _≤_}
-use mathlib.Core.Path.{_≡_, sym, ap, _∙_}
+use mathlib.Core.Path.{_≡_, refl, sym, ap, _∙_}
 use mathlib.Core.Bool.{Bool, true, false, not, _&&_, and-eq-true-iff, and-false}
 use native.Mathlib.Numerals.{add-one}
 use native.Mathlib.Omega.{arith}
@@ -15,8 +15,11 @@ use Rattle.identity.specs.declared.answer.Answer.{Answer}
 use Rattle.identity.specs.declared.answer.Answer.the-variants.{Accepted, InvalidRecord}
 use Rattle.records.specs.Records.{allBelow, slotAt, memberAt}
 use Rattle.records.specs.RecordsLaws.{allBelow-true}
-use Rattle.records.specs.Validation.{validCount, textOf, validAttestation, validOperation, distinctResults, claimsOf, validateMember, validateMembers, validateOperation}
+use Rattle.records.specs.Equality.{sameVoterSlotMember}
+use Rattle.records.specs.Validation.{requireOf, validCount, textOf, validAttestation, validOperation, distinctResults, claimsOf, otherMember, otherRequest, validateMember, validateMembers, validateOperation}
 use Rattle.records.specs.declared.records.LostVoterAttestationV1.{LostVoterAttestationV1}
+use Rattle.records.specs.declared.records.VoterSlotMember.{VoterSlotMember}
+use Rattle.records.specs.declared.records.VoterSlotRecord.{VoterSlotRecord}
 use Rattle.records.specs.declared.records.VoterSlotTable.{VoterSlotTable}
 use Rattle.records.specs.declared.validation.Claims.{Claims}
 
@@ -76,6 +79,25 @@ distinct-without t i h = allBelow-true (λ j. distinctResults (slotAt t j) (slot
 -- an answer that counts as accepted is that one
 pub is-accepted : (a : Answer) → isAccepted a ≡ true → a ≡ Accepted
 is-accepted a h = number-injective a Accepted (eqb-true (numberOf a) 0 h)
+
+-- two requirements in turn are one
+require-and : (a b : Bool) → requireOf (a && b) Accepted ≡ requireOf a (requireOf b Accepted)
+require-and true b = refl
+require-and false b = refl
+
+-- a slot that is not being replaced
+pub other-slot : (c : Claims) (s : VoterSlotRecord) (predecessor successor : VoterSlotMember) → eqb (s .member .identity .slot) (c .slot) ≡ false
+    → requireOf
+    ((sameVoterSlotMember (s .member) successor && eqb (predecessor .identity .slot) (successor .identity .slot))
+    && (otherMember s predecessor successor && otherRequest c s))
+    Accepted
+    ≡ validateMember c s predecessor successor
+unfolding validateMember
+other-slot c s predecessor successor h =
+    require-and
+    (sameVoterSlotMember (s .member) successor && eqb (predecessor .identity .slot) (successor .identity .slot))
+    (otherMember s predecessor successor && otherRequest c s)
+    ∙ rw h
 
 -- the answer of one slot
 abbrev pub memberAnswer : VoterSlotTable → ℕ → Answer

@@ -50,24 +50,6 @@ pub fn same32(a: [u8; 32], b: [u8; 32]) -> bool
     same_bytes(&a, &b)
 }
 
-pub fn same64(a: [u8; 64], b: [u8; 64]) -> bool
-    ensures { λ r. ⌜ r ≡ eqBytes a b ⌝ }
-{
-    same_bytes(&a, &b)
-}
-
-pub fn same256(a: [u8; 256], b: [u8; 256]) -> bool
-    ensures { λ r. ⌜ r ≡ eqBytes a b ⌝ }
-{
-    same_bytes(&a, &b)
-}
-
-pub fn same2048(a: [u8; 2048], b: [u8; 2048]) -> bool
-    ensures { λ r. ⌜ r ≡ eqBytes a b ⌝ }
-{
-    same_bytes(&a, &b)
-}
-
 pub fn same_voter_slot_identity(a: VoterSlotIdentity, b: VoterSlotIdentity) -> bool
     ensures { λ r. ⌜ r ≡ sameVoterSlotIdentity a b ⌝ }
 {
@@ -77,18 +59,14 @@ pub fn same_voter_slot_identity(a: VoterSlotIdentity, b: VoterSlotIdentity) -> b
 pub fn same_spiffe_id(a: SpiffeId, b: SpiffeId) -> bool
     ensures { λ r. ⌜ r ≡ sameSpiffeId a b ⌝ }
 {
-    let a_bytes = a.bytes;
-    let b_bytes = b.bytes;
-    let bytes = same2048(a_bytes, b_bytes);
+    let bytes = same_bytes(&a.bytes, &b.bytes);
     (a.len == b.len) & bytes
 }
 
 pub fn same_snapshot_id(a: SnapshotId, b: SnapshotId) -> bool
     ensures { λ r. ⌜ r ≡ sameSnapshotId a b ⌝ }
 {
-    let a_bytes = a.bytes;
-    let b_bytes = b.bytes;
-    let bytes = same256(a_bytes, b_bytes);
+    let bytes = same_bytes(&a.bytes, &b.bytes);
     (a.len == b.len) & bytes
 }
 
@@ -113,12 +91,8 @@ pub fn same_voter_slot_member(a: VoterSlotMember, b: VoterSlotMember) -> bool
     let a_identity = a.identity;
     let b_identity = b.identity;
     let identity = same_voter_slot_identity(a_identity, b_identity);
-    let a_key_digest = a.key_digest;
-    let b_key_digest = b.key_digest;
-    let key_digest = same32(a_key_digest, b_key_digest);
-    let a_descriptor_digest = a.descriptor_digest;
-    let b_descriptor_digest = b.descriptor_digest;
-    let descriptor_digest = same32(a_descriptor_digest, b_descriptor_digest);
+    let key_digest = same_bytes(&a.key_digest, &b.key_digest);
+    let descriptor_digest = same_bytes(&a.descriptor_digest, &b.descriptor_digest);
     identity
         & (key_digest & (descriptor_digest & (a.admission_generation == b.admission_generation)))
 }
@@ -141,12 +115,8 @@ pub fn same_voter_slot_members(a: [VoterSlotMember; 9], b: [VoterSlotMember; 9])
 pub fn same_voter_replacement_result(a: VoterReplacementResult, b: VoterReplacementResult) -> bool
     ensures { λ r. ⌜ r ≡ sameVoterReplacementResult a b ⌝ }
 {
-    let a_request_id = a.request_id;
-    let b_request_id = b.request_id;
-    let request_id = same16(a_request_id, b_request_id);
-    let a_request_digest = a.request_digest;
-    let b_request_digest = b.request_digest;
-    let request_digest = same32(a_request_digest, b_request_digest);
+    let request_id = same_bytes(&a.request_id, &b.request_id);
+    let request_digest = same_bytes(&a.request_digest, &b.request_digest);
     let a_terminal = a.terminal;
     let b_terminal = b.terminal;
     let terminal = same_voter_slot_log_id(a_terminal, b_terminal);
@@ -196,9 +166,7 @@ pub fn same_voter_snapshot_evidence(a: VoterSnapshotEvidence, b: VoterSnapshotEv
     let a_snapshot_id = a.snapshot_id;
     let b_snapshot_id = b.snapshot_id;
     let snapshot_id = same_snapshot_id(a_snapshot_id, b_snapshot_id);
-    let a_digest = a.digest;
-    let b_digest = b.digest;
-    let digest = same32(a_digest, b_digest);
+    let digest = same_bytes(&a.digest, &b.digest);
     cut & (snapshot_id & digest)
 }
 
@@ -214,38 +182,22 @@ pub fn same_voter_configuration(a: VoterConfiguration, b: VoterConfiguration) ->
 pub fn same_lost_voter_attestation_v1(a: LostVoterAttestationV1, b: LostVoterAttestationV1) -> bool
     ensures { λ r. ⌜ r ≡ sameLostVoterAttestationV1 a b ⌝ }
 {
-    let a_request_id = a.request_id;
-    let b_request_id = b.request_id;
-    if !same16(a_request_id, b_request_id) {
+    if !same_bytes(&a.request_id, &b.request_id) {
         return false;
     }
-    let a_request_digest = a.request_digest;
-    let b_request_digest = b.request_digest;
-    let request_digest = same32(a_request_digest, b_request_digest);
-    let a_cluster_instance = a.cluster_instance;
-    let b_cluster_instance = b.cluster_instance;
-    let cluster_instance = same32(a_cluster_instance, b_cluster_instance);
-    let a_old_descriptor_digest = a.old_descriptor_digest;
-    let b_old_descriptor_digest = b.old_descriptor_digest;
-    let old_descriptor_digest = same32(a_old_descriptor_digest, b_old_descriptor_digest);
-    let a_candidate_key_digest = a.candidate_key_digest;
-    let b_candidate_key_digest = b.candidate_key_digest;
-    let candidate_key_digest = same32(a_candidate_key_digest, b_candidate_key_digest);
+    let request_digest = same_bytes(&a.request_digest, &b.request_digest);
+    let cluster_instance = same_bytes(&a.cluster_instance, &b.cluster_instance);
+    let old_descriptor_digest = same_bytes(&a.old_descriptor_digest, &b.old_descriptor_digest);
+    let candidate_key_digest = same_bytes(&a.candidate_key_digest, &b.candidate_key_digest);
     let a_candidate_spiffe_id = a.candidate_spiffe_id;
     let b_candidate_spiffe_id = b.candidate_spiffe_id;
     let candidate_spiffe_id = same_spiffe_id(a_candidate_spiffe_id, b_candidate_spiffe_id);
     let a_controller_spiffe_id = a.controller_spiffe_id;
     let b_controller_spiffe_id = b.controller_spiffe_id;
     let controller_spiffe_id = same_spiffe_id(a_controller_spiffe_id, b_controller_spiffe_id);
-    let a_signing_key_digest = a.signing_key_digest;
-    let b_signing_key_digest = b.signing_key_digest;
-    let signing_key_digest = same32(a_signing_key_digest, b_signing_key_digest);
-    let a_policy_digest = a.policy_digest;
-    let b_policy_digest = b.policy_digest;
-    let policy_digest = same32(a_policy_digest, b_policy_digest);
-    let a_signature = a.signature;
-    let b_signature = b.signature;
-    let signature = same64(a_signature, b_signature);
+    let signing_key_digest = same_bytes(&a.signing_key_digest, &b.signing_key_digest);
+    let policy_digest = same_bytes(&a.policy_digest, &b.policy_digest);
+    let signature = same_bytes(&a.signature, &b.signature);
     request_digest
         & (cluster_instance
             & ((a.slot == b.slot)
@@ -323,12 +275,8 @@ pub fn same_voter_replacement_record(a: VoterReplacementRecord, b: VoterReplacem
 pub fn same_voter_slot_table(a: VoterSlotTable, b: VoterSlotTable) -> bool
     ensures { λ r. ⌜ r ≡ sameVoterSlotTable a b ⌝ }
 {
-    let a_cluster_instance = a.cluster_instance;
-    let b_cluster_instance = b.cluster_instance;
-    let cluster_instance = same32(a_cluster_instance, b_cluster_instance);
-    let a_manifest_digest = a.manifest_digest;
-    let b_manifest_digest = b.manifest_digest;
-    let manifest_digest = same32(a_manifest_digest, b_manifest_digest);
+    let cluster_instance = same_bytes(&a.cluster_instance, &b.cluster_instance);
+    let manifest_digest = same_bytes(&a.manifest_digest, &b.manifest_digest);
     let a_slots = a.slots;
     let b_slots = b.slots;
     let slots = same_voter_slot_records(a_slots, b_slots);

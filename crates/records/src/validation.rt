@@ -10,8 +10,9 @@ ghost use lib.Dec.{eqb, leb, ltb};
 ghost use lib.ListN.{getD, take};
 ghost use Rattle.identity.specs.Text.{isName};
 ghost use Rattle.identity.specs.declared.answer.Answer.the-variants.{Accepted};
+ghost use Rattle.records.specs.Equality.{sameVoterSlotMember};
 ghost use Rattle.records.specs.Records.{allBelow, slotAt, memberAt, noSlotRecord, voting};
-ghost use Rattle.records.specs.Validation.{requireOf, validCount, validConfiguration, validAttestation, isActive, validResult, validSlot, distinctResults, validSlots, targetPhase, validOperationHead, isCurrentEpoch, validOperation, claimsOf, supersededReceipt, retiredMember, validTarget, otherMember, otherRequest, validateMember, validateMembers, hasTarget, validateOperation, validity, validate};
+ghost use Rattle.records.specs.Validation.{requireOf, validCount, validConfiguration, validAttestation, isActive, validResult, validSlot, distinctResults, validSlots, targetPhase, validOperationHead, isCurrentEpoch, validOperation, claimsOf, supersededReceipt, retiredMember, validTarget, otherRequest, validateMember, validateMembers, hasTarget, validateOperation, validity, validate};
 ghost use Rattle.records.specs.ValidationLaws.{NamesHold};
 use crate::equality::same_voter_slot_log_id;
 use crate::equality::same_voter_slot_member;
@@ -423,10 +424,24 @@ fn validate_members(table: VoterSlotTable) -> Answer
     let slots = table.slots;
     let mut i = 0;
     while i < table.count {
+        // What is compared whole is a copy of its own: a record that is read field by field too is copied
+        // in pieces, which a comparison right behind has to wait for.
         let slot = slots[i];
+        let member = slot.member;
         let old = predecessor[i];
         let new = successor[i];
-        let answer = validate_member(claims, slot, old, new);
+        let current = same_voter_slot_member(member, new)
+            & (predecessor[i].identity.slot == successor[i].identity.slot);
+        let unchanged = same_voter_slot_member(old, new);
+        let place = slots[i];
+        let other = is_other_request(claims, place);
+        let mut answer = require(current & ((unchanged & (slots[i].phase == VOTING)) & other));
+        if slots[i].member.identity.slot == claims.slot {
+            let target = slots[i];
+            let retired = predecessor[i];
+            let candidate = successor[i];
+            answer = validate_target(claims, current, other, target, retired, candidate);
+        }
         if !accepted(answer) {
             return answer;
         }
@@ -449,29 +464,28 @@ fn has_target(table: VoterSlotTable) -> bool
     !none
 }
 
-// One slot beside its two members.
-fn validate_member(
+// The slot that is being replaced, beside its two members; the caller has compared it with both, and
+// its receipt with the request.
+fn validate_target(
     claims: Claims,
+    current: bool,
+    other: bool,
     slot: VoterSlotRecord,
     predecessor: VoterSlotMember,
     successor: VoterSlotMember,
 ) -> Answer
+    requires { ⌜ current ≡ (sameVoterSlotMember (slot .member) successor && eqb (predecessor .identity .slot) (successor .identity .slot)) ⌝ }
+    requires { ⌜ other ≡ otherRequest claims slot ⌝ }
+    requires { ⌜ slot .member .identity .slot ≡ claims .slot ⌝ }
     ensures { λ r. ⌜ r ≡ validateMember claims slot predecessor successor ⌝ }
 {
-    let member = slot.member;
-    if !(same_voter_slot_member(member, successor)
-        & (predecessor.identity.slot == successor.identity.slot)) {
+    if !current {
         return Answer::InvalidRecord;
     }
-    if slot.member.identity.slot == claims.slot {
-        if claims.expected_incarnation == MAX_VOTER_INCARNATION {
-            return Answer::IncarnationExhausted;
-        }
-        return require(
-            is_valid_target(claims, slot, predecessor, successor) & is_other_request(claims, slot),
-        );
+    if claims.expected_incarnation == MAX_VOTER_INCARNATION {
+        return Answer::IncarnationExhausted;
     }
-    require(is_other_member(slot, predecessor, successor) & is_other_request(claims, slot))
+    require(is_valid_target(claims, slot, predecessor, successor) & other)
 }
 
 fn require(valid: bool) -> Answer
@@ -481,16 +495,6 @@ fn require(valid: bool) -> Answer
         return Answer::Accepted;
     }
     Answer::InvalidRecord
-}
-
-fn is_other_member(
-    slot: VoterSlotRecord,
-    predecessor: VoterSlotMember,
-    successor: VoterSlotMember,
-) -> bool
-    ensures { λ r. ⌜ r ≡ otherMember slot predecessor successor ⌝ }
-{
-    same_voter_slot_member(predecessor, successor) & (slot.phase == VOTING)
 }
 
 fn is_other_request(claims: Claims, slot: VoterSlotRecord) -> bool

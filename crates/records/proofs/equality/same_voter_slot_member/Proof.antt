@@ -7,20 +7,19 @@ use Rattle.records.proofs.equality.same_voter_slot_member.Tie as tie
 same-voter-slot-identity-requires : tie.Need-same-voter-slot-identity-requires
 same-voter-slot-identity-requires c κs = search needs
 
-same32-requires : tie.Need-same32-requires
-same32-requires c κs = search needs
+same-bytes-requires : tie.Need-same-bytes-requires
+same-bytes-requires c κs = search needs
 
-same32-requires-2 : tie.Need-same32-requires-2
-same32-requires-2 c κs = search needs
+same-bytes-requires-2 : tie.Need-same-bytes-requires-2
+same-bytes-requires-2 c κs = search needs
 
 returns : tie.Need-returns
 unfolding all sameVoterSlotMember
 returns c =
-    let c2 = c .before .before in
-    let c1 = c2 .before .before .before in
-    let c0 = c1 .before .before .before in
-    simp (c0 .same-voter-slot-identity .ensures, c1 .same32 .ensures, c2 .same322 .ensures)
+    let c1 = c .before .before .before .before .before .before .before in
+    let c0 = c1 .before .before .before .before .before .before .before in
+    simp (c0 .same-voter-slot-identity .ensures, c1 .same-bytes .ensures, c .same-bytes2 .ensures)
 
 pub same-voter-slot-member-spec : {M : Type 1} → statement M
 same-voter-slot-member-spec =
-    tie.close (tie.spec same-voter-slot-identity-requires same32-requires same32-requires-2 returns)
+    tie.close (tie.spec same-voter-slot-identity-requires same-bytes-requires same-bytes-requires-2 returns)
