@@ -9,6 +9,7 @@ use layout::reading::Reading;
 use raw::table::table_of;
 use records::blank::blank_voter_slot_table;
 use records::records::VoterSlotTable;
+use records::representable::is_representable;
 use records::successor::validate_successor_of;
 use records::validation::validate_table;
 use records::zero::zeros;
@@ -59,6 +60,20 @@ pub extern "C" fn bench_validity(raw: &[u8], turns: u64) -> u64 {
     let mut i = 0;
     while i < turns {
         answers = answers | validity_of(pick(i % 2 == 0, even, odd));
+        i += 1;
+    }
+    answers
+}
+
+// The test for 30 of a table, given in its raw form, so many times: 0 where it passes.
+#[no_mangle]
+pub extern "C" fn bench_representable(raw: &[u8], turns: u64) -> u64 {
+    let even = table_of_bytes(raw);
+    let odd = later(even);
+    let mut answers = 0;
+    let mut i = 0;
+    while i < turns {
+        answers = answers | representable_of(pick(i % 2 == 0, even, odd));
         i += 1;
     }
     answers
@@ -144,6 +159,13 @@ fn later(table: VoterSlotTable) -> VoterSlotTable {
 
 fn validity_of(table: VoterSlotTable) -> u64 {
     number_of(validate_table(table))
+}
+
+fn representable_of(table: VoterSlotTable) -> u64 {
+    if is_representable(table) {
+        return 0;
+    }
+    number_of(Answer::Unrepresentable)
 }
 
 fn successor_of(new: VoterSlotTable, old: VoterSlotTable) -> u64 {

@@ -32,6 +32,8 @@ struct Task {
 
 enum Work {
     Validity,
+    /// The test for 30, which the original's types spare it.
+    Representable,
     /// The check of the task's table against this older one.
     Successor(Box<VoterSlotTable>),
     Decode,
@@ -91,25 +93,26 @@ fn measured(subjects: &[Box<dyn Subject>], task: &Task) -> String {
             times.extend(subject.batch(task));
         }
     }
-    times.retain(|times| !times.is_empty());
-    let medians: Vec<f64> = times
-        .iter_mut()
-        .map(|times| median(times) / CALLS as f64)
-        .collect();
+    let medians: Vec<Option<f64>> = times.iter_mut().map(|times| median(times)).collect();
     let slots = task.table.slots.len();
     let mut line = format!("{:<22}{slots:>6}  {:<26}", task.name, task.state);
     for median in &medians {
-        line += &format!("{median:>10.1}");
+        match median {
+            Some(median) => line += &format!("{median:>10.1}"),
+            None => line += &format!("{:>10}", "-"),
+        }
     }
-    if let [first, second, ..] = medians[..] {
+    if let [Some(first), Some(second), ..] = medians[..] {
         line += &format!("  ratio {:.2}", second / first);
     }
     line
 }
 
-fn median(times: &mut [u128]) -> f64 {
+/// Of one call; none where the subject has no such call.
+fn median(times: &mut [u128]) -> Option<f64> {
     times.sort_unstable();
-    times[times.len() / 2] as f64
+    let middle = times.get(times.len() / 2)?;
+    Some(*middle as f64 / CALLS as f64)
 }
 
 /// What the size of the port's value costs, whatever its table.
@@ -168,6 +171,7 @@ fn tasks(count: u16) -> Vec<Task> {
         ("open, CaughtUp", open(count, CaughtUp)),
     ] {
         add("validity", state, table.clone(), Work::Validity);
+        add("test for 30", state, table.clone(), Work::Representable);
         add("decode", state, table.clone(), Work::Decode);
         add("encode", state, table.clone(), Work::Encode);
         add("retired test", state, table, Work::Retired(node));
@@ -267,6 +271,7 @@ impl Subject for Original {
     fn batch(&self, task: &Task) -> Option<u128> {
         let time = match &task.work {
             Work::Validity => timed(|| black_box(&task.table).check_validity()),
+            Work::Representable => return None,
             Work::Successor(older) => {
                 timed(|| black_box(&task.table).validate_successor_of(black_box(older)))
             }
@@ -309,6 +314,7 @@ mod port {
 
     extern "C" {
         fn bench_validity(raw: *const u8, len: usize, turns: u64) -> u64;
+        fn bench_representable(raw: *const u8, len: usize, turns: u64) -> u64;
         fn bench_successor(
             new: *const u8,
             new_len: usize,
@@ -341,6 +347,9 @@ mod port {
             match &task.work {
                 Work::Validity => Some(timed(|| unsafe {
                     bench_validity(table.as_ptr(), table.len(), turns)
+                })),
+                Work::Representable => Some(timed(|| unsafe {
+                    bench_representable(table.as_ptr(), table.len(), turns)
                 })),
                 Work::Successor(older) => {
                     let older = raw::of_table(older).bytes;
