@@ -41,7 +41,6 @@ ENUM = {
     "three_cuts": ("read_three_cuts", "threeCuts", "ThreeCuts", "threeCutsRead", "ThreeCuts"),
     "times": ("read_times", "times", "Times", "timesRead", "Times"),
     "version": ("read_version", "version", "Unit {0}", "report", None),
-    "head": ("read_head", "head", "Unit {0}", "report", None),
 }
 STRUCT = {
     "array16": ("read_array16", "raw 16", "List ℕ", "(zeros 16)"),
@@ -55,7 +54,6 @@ STRUCT = {
     "result_head": ("read_result_head", "resultHead", "ResultHead", "blankResultHead"),
     "optional_result": ("read_optional_result", "opt result blankVoterReplacementResult", "Bool × VoterReplacementResult", "absentResult"),
     "slot_member": ("read_slot_member", "slotMember", "SlotMember", "blankSlotMember"),
-    "slots": ("read_slots", "slots", "List VoterSlotRecord", "blankVoterSlotRecords"),
     "claims_request": ("read_claims_request", "claimsRequest", "ClaimsRequest", "blankClaimsRequest"),
     "claims_slot": ("read_claims_slot", "claimsSlot", "ClaimsSlot", "blankClaimsSlot"),
     "claims_names": ("read_claims_names", "claimsNames", "ClaimsNames", "blankClaimsNames"),
@@ -64,8 +62,6 @@ STRUCT = {
     "optional_snapshot": ("read_optional_snapshot", "opt snapshot blankVoterSnapshotEvidence", "Bool × VoterSnapshotEvidence", "absentSnapshot"),
     "change": ("read_change", "change", "Change", "blankChange"),
     "evidence": ("read_evidence", "evidence", "VoterReplacementEvidence", "blankVoterReplacementEvidence"),
-    "table_head": ("read_table_head", "tableHead", "TableHead", "blankTableHead"),
-    "optional_replacement": ("read_optional_replacement", "opt replacement blankVoterReplacementRecord", "Bool × VoterReplacementRecord", "absentReplacement"),
 }
 
 # Readers: module, name, codec, blank or (for an enum) the answer's definition, constructor that is called, fields
@@ -108,8 +104,6 @@ READERS = [
      [("expected_revision", "u64"), ("attestation", "boxed_attestation"), ("change", "change"), ("evidence", "evidence")]),
     ("decode", "read_table_head", "tableHead", "blankTableHead", None,
      [("cluster_instance", "array32"), ("manifest_digest", "array32"), ("revision", "u64"), ("configuration_epoch", "epoch")]),
-    ("decode", "read_table", "table", "blankVoterSlotTable", "table_of",
-     [("magic", "head"), ("head", "table_head"), ("count", "count"), ("slots", "slots"), ("replacement", "optional_replacement")]),
 ]
 
 # Where a name of the specs stands
@@ -138,8 +132,7 @@ DECLARED = {
         "TableHead"],
 }
 PARTS_BLANKS = {"blankBinding", "blankResultHead", "blankSlotMember", "blankClaimsRequest", "blankClaimsSlot", "blankClaimsNames",
-                "blankClaimsEnd", "blankChange", "blankTableHead", "blankVoterSlotMembers", "blankVoterSlotRecords", "absentResult", "absentSnapshot",
-                "absentReplacement"}
+                "blankClaimsEnd", "blankChange", "blankTableHead", "blankVoterSlotMembers", "blankVoterSlotRecords", "absentResult", "absentSnapshot"}
 
 
 def back(k, c="c"):
@@ -185,7 +178,7 @@ class Reader:
         """The codec of field i; last is what the field before it gave."""
         k = self.kind(i)
         c = (ENUM[k] if k in ENUM else STRUCT[k])[1]
-        return f"{c} ({last})" if c in ("members", "slots") else c
+        return f"{c} ({last})" if c == "members" else c
 
     def type_of(self, i):
         k = self.kind(i)
@@ -205,7 +198,7 @@ class Reader:
     def value(self, i, k, more=0):
         f = kebab(self.fields[i][0])
         d = self.dist(i, k) + more
-        if self.kind(i) in ("version", "head"):
+        if self.kind(i) == "version":
             return "tt"
         if self.kind(i) in ENUM:
             return f"{back(d + 1)} .{f}-read .given .0 .0"
@@ -217,7 +210,7 @@ class Reader:
     def count(self, i, k, more=0):
         f = kebab(self.fields[i][0])
         d = self.dist(i, k) + more
-        if self.kind(i) in ("version", "head"):
+        if self.kind(i) == "version":
             return f"{back(d + 1)} .{f} .given .0 .0"
         if self.kind(i) in ENUM:
             return f"{back(d + 1)} .{f}-read .given .0 .1 .0"
@@ -261,7 +254,7 @@ class Reader:
         s = self.bytes(k)
         f = kebab(self.fields[k][0])
         src = self.source(k, ens, s, self.value(k - 1, k) if k else "")
-        if self.kind(k) in ("version", "head"):
+        if self.kind(k) == "version":
             return f"got report {par(src) if k == 0 else src} ({back(1)} .{f} .given .1)"
         if self.kind(k) in ENUM:
             return f"got {ENUM[self.kind(k)][3]} {par(src) if k == 0 else src} ({back(1)} .{f}-read .given .1)"
@@ -313,7 +306,7 @@ def write(r):
     s = skeleton
     for k in range(1, n):
         # so many places are asked for as were counted
-        if r.kind(k) in ("members", "slots"):
+        if r.kind(k) == "members":
             at = r.bytes(k - 1)
             defs += f"counted : (c : {r.place(k - 1)}) → count .dec (drop {r.counts(k - 2, r.costs[k - 1])} ({at})) ≡ ok ({r.value(k - 1, k - 1)}) ({r.count(k - 1, k - 1)})\n"
             defs += f"counted c = {r.field_got(k - 1)}\n\n"
@@ -652,7 +645,6 @@ def answers():
 TEMPLATES = {
     "read_optional_result": lambda: optional("result", "result", "absentResult", "blankVoterReplacementResult", "read-result", "blank-voter-replacement-result"),
     "read_optional_snapshot": lambda: optional("snapshot", "snapshot", "absentSnapshot", "blankVoterSnapshotEvidence", "read-snapshot", "blank-voter-snapshot-evidence"),
-    "read_optional_replacement": lambda: optional("replacement", "replacement", "absentReplacement", "blankVoterReplacementRecord", "read-replacement", "blank-voter-replacement-record"),
     "read_members": lambda: places("members", "member", "blankVoterSlotMembers", "blankVoterSlotMember", "blank-voter-slot-members"),
     "read_slots": lambda: places("slots", "slot", "blankVoterSlotRecords", "blankVoterSlotRecord", "blank-voter-slot-records"),
     "read_spiffe_id": lambda: text("spiffe_id", "spiffeId", "blankSpiffeId", 2048),

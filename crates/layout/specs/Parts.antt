@@ -7,7 +7,7 @@ use mathlib.Core.List.{List}
 use lib.ListN.{replicate}
 use Rattle.format.specs.Copy.{zeros}
 use Rattle.identity.specs.declared.identity.VoterSlotIdentity.{VoterSlotIdentity}
-use Rattle.records.specs.Blank.{blankVoterSlotIdentity, blankSpiffeId, blankVoterSlotMember, blankVoterSlotRecord, blankVoterConfiguration, blankVoterReplacementResult, blankVoterSnapshotEvidence, blankVoterReplacementRecord}
+use Rattle.records.specs.Blank.{blankVoterSlotIdentity, blankSpiffeId, blankVoterSlotMember, blankVoterSlotRecord, blankVoterConfiguration, blankVoterReplacementResult, blankVoterSnapshotEvidence}
 use Rattle.records.specs.declared.records.LostVoterAttestationV1.{LostVoterAttestationV1}
 use Rattle.records.specs.declared.records.VoterReplacementEvidence.{VoterReplacementEvidence}
 use Rattle.records.specs.declared.records.VoterReplacementRecord.{VoterReplacementRecord}
@@ -82,9 +82,6 @@ absentResult = (false, blankVoterReplacementResult)
 
 abbrev pub absentSnapshot : Bool × VoterSnapshotEvidence
 absentSnapshot = (false, blankVoterSnapshotEvidence)
-
-abbrev pub absentReplacement : Bool × VoterReplacementRecord
-absentReplacement = (false, blankVoterReplacementRecord)
 
 -- ---- a record of its groups, and its groups
 

@@ -1,6 +1,8 @@
 // Groups of fields that stand together in the bytes and are no records of their own, and the records
 // made of them. They keep every reader at five fields or fewer.
+ghost use mathlib.Core.Bool.{false};
 ghost use mathlib.Core.Path.{_≡_};
+ghost use Rattle.records.specs.Blank.{blankVoterReplacementRecord};
 ghost use Rattle.layout.specs.Parts.{blankBinding, blankResultHead, blankSlotMember, blankClaimsRequest, blankClaimsSlot, blankClaimsNames, blankClaimsEnd, blankChange, blankTableHead, memberOf, resultOf, attestationOf, evidenceOf, earlyCuts, lateCuts, replacementOf, tableOf};
 use identity::identity::ConsensusClusterId;
 use identity::identity::ConsensusConfigurationEpoch;
@@ -11,6 +13,7 @@ use records::blank::blank_spiffe_id;
 use records::blank::blank_voter_configuration;
 use records::blank::blank_voter_slot_identity;
 use records::blank::blank_voter_slot_member;
+use records::blank::blank_voter_slot_table;
 use records::records::LostVoterAttestationV1;
 use records::records::OptionalLogId;
 use records::records::SpiffeId;
@@ -390,4 +393,21 @@ pub fn table_of(
         has_replacement,
         replacement,
     }
+}
+
+// The table of its parts that has no open request: a blank one filled in, so that the open request's
+// 6 KB are cleared once and not copied.
+pub fn idle_table_of(head: TableHead, count: usize, slots: [VoterSlotRecord; 9]) -> VoterSlotTable
+    ensures { λ r. ⌜ r ≡ tableOf head count slots false blankVoterReplacementRecord ⌝ }
+{
+    let cluster_instance = head.cluster_instance;
+    let manifest_digest = head.manifest_digest;
+    let mut table = blank_voter_slot_table();
+    table.cluster_instance = cluster_instance;
+    table.manifest_digest = manifest_digest;
+    table.revision = head.revision;
+    table.configuration_epoch = head.configuration_epoch;
+    table.slots = slots;
+    table.count = count;
+    table
 }

@@ -7,7 +7,7 @@ ghost use Rattle.identity.specs.Answer.{numberOf};
 ghost use Rattle.format.specs.Res.Res.{no};
 ghost use Rattle.format.specs.Copy.{zeros};
 ghost use Rattle.records.specs.Blank.{blankSpiffeId, blankSnapshotId, blankVoterSlotMember, blankVoterConfiguration, blankVoterReplacementResult, blankVoterSlotRecord, blankLostVoterAttestationV1, blankVoterSnapshotEvidence, blankVoterReplacementEvidence, blankVoterReplacementRecord, blankVoterSlotTable};
-ghost use Rattle.layout.specs.Parts.{absentResult, absentSnapshot, absentReplacement, blankBinding, blankResultHead, blankSlotMember, blankClaimsRequest, blankClaimsSlot, blankClaimsNames, blankClaimsEnd, blankChange, blankTableHead, blankVoterSlotMembers, blankVoterSlotRecords};
+ghost use Rattle.layout.specs.Parts.{absentResult, absentSnapshot, blankBinding, blankResultHead, blankSlotMember, blankClaimsRequest, blankClaimsSlot, blankClaimsNames, blankClaimsEnd, blankChange, blankTableHead, blankVoterSlotMembers, blankVoterSlotRecords};
 ghost use Rattle.layout.specs.Reading.{report, outcome, whyOf, whyU64, whyU16, whyU8, whyBool, whySized, whyIdentity, whyLogId, whyOptionalLogId, whyThreeCuts, whyTimes};
 use crate::parts::Binding;
 use crate::parts::Change;
@@ -238,12 +238,6 @@ pub struct ChangeRead {
 
 pub struct ReplacementRead {
     pub answer: Reading,
-    pub value: VoterReplacementRecord,
-}
-
-pub struct OptionalReplacementRead {
-    pub answer: Reading,
-    pub is_some: bool,
     pub value: VoterReplacementRecord,
 }
 
@@ -581,16 +575,6 @@ pub fn refused_replacement(answer: Answer) -> ReplacementRead
 {
     ReplacementRead {
         answer: Reading::Refused(answer),
-        value: blank_voter_replacement_record(),
-    }
-}
-
-pub fn refused_optional_replacement(answer: Answer) -> OptionalReplacementRead
-    ensures { λ r. ⌜ (report (r .answer), (r .«is_some», r .value)) ≡ outcome absentReplacement (no (numberOf answer)) ⌝ }
-{
-    OptionalReplacementRead {
-        answer: Reading::Refused(answer),
-        is_some: false,
         value: blank_voter_replacement_record(),
     }
 }

@@ -5,11 +5,12 @@
 // the rest of the bytes and gives the count that it took.
 ghost use mathlib.Core.Path.{_≡_};
 ghost use Prim.Native.Nat.{_≤_};
+ghost use lib.ListN.{length, drop};
 ghost use Rattle.format.specs.List.{opt};
 ghost use Rattle.format.specs.Through.{whole, boxed};
 ghost use Rattle.records.specs.Blank.{blankVoterSlotMember, blankVoterConfiguration, blankVoterReplacementResult, blankVoterSlotRecord, blankLostVoterAttestationV1, blankVoterSnapshotEvidence, blankVoterReplacementEvidence, blankVoterReplacementRecord, blankVoterSlotTable};
-ghost use Rattle.layout.specs.Parts.{absentResult, absentSnapshot, absentReplacement, blankBinding, blankClaimsRequest, blankClaimsSlot, blankClaimsNames, blankClaimsEnd, blankResultHead, blankSlotMember, blankChange, blankTableHead, blankVoterSlotMembers, blankVoterSlotRecords};
-ghost use Rattle.layout.specs.Reading.{report, outcome};
+ghost use Rattle.layout.specs.Parts.{absentResult, absentSnapshot, blankBinding, blankClaimsRequest, blankClaimsSlot, blankClaimsNames, blankClaimsEnd, blankResultHead, blankSlotMember, blankChange, blankTableHead, blankVoterSlotMembers, blankVoterSlotRecords};
+ghost use Rattle.layout.specs.Reading.{report, outcome, openTable};
 ghost use Rattle.layout.specs.Format.{binding, member, members, configuration, resultHead, result, slotMember, slot, slots, claimsRequest, claimsSlot, claimsNames, claimsEnd, claims, attestation, snapshot, evidence, change, replacement, tableHead, table};
 use crate::reader::read_array16;
 use crate::reader::read_array32;
@@ -42,6 +43,7 @@ use layout::parts::SlotMember;
 use layout::parts::TableHead;
 use layout::parts::attestation_of;
 use layout::parts::evidence_of;
+use layout::parts::idle_table_of;
 use layout::parts::member_of;
 use layout::parts::replacement_of;
 use layout::parts::result_of;
@@ -60,7 +62,6 @@ use layout::reading::IdentityRead;
 use layout::reading::LogIdRead;
 use layout::reading::MemberRead;
 use layout::reading::MembersRead;
-use layout::reading::OptionalReplacementRead;
 use layout::reading::OptionalResultRead;
 use layout::reading::OptionalSnapshotRead;
 use layout::reading::Reading;
@@ -91,7 +92,6 @@ use layout::reading::refused_configuration;
 use layout::reading::refused_evidence;
 use layout::reading::refused_member;
 use layout::reading::refused_members;
-use layout::reading::refused_optional_replacement;
 use layout::reading::refused_optional_result;
 use layout::reading::refused_optional_snapshot;
 use layout::reading::refused_replacement;
@@ -112,7 +112,6 @@ use layout::reading::why_three_cuts;
 use layout::reading::why_times;
 use layout::reading::why_u8;
 use layout::reading::why_u64;
-use records::blank::blank_voter_replacement_record;
 use records::blank::blank_voter_replacement_result;
 use records::blank::blank_voter_snapshot_evidence;
 use records::records::COMPLETED;
@@ -783,34 +782,6 @@ pub fn read_replacement(bytes: &[u8]) -> ReplacementRead
     }
 }
 
-// An open request, or none.
-fn read_optional_replacement(bytes: &[u8]) -> OptionalReplacementRead
-    ensures { λ r. ⌜ (report (r .answer), (r .«is_some», r .value)) ≡ outcome absentReplacement (opt replacement blankVoterReplacementRecord .dec (now (bytes .entry))) ⌝ }
-{
-    let flag = read_flag(bytes);
-    let BoolRead::Read(is_some, at) = flag else {
-        return refused_optional_replacement(why_bool(flag));
-    };
-    if !is_some {
-        return OptionalReplacementRead {
-            answer: Reading::To(at),
-            is_some,
-            value: blank_voter_replacement_record(),
-        };
-    }
-    let read = read_replacement(&bytes[at..]);
-    let to = read.answer;
-    let Reading::To(n) = to else {
-        return refused_optional_replacement(why(to));
-    };
-    let value = read.value;
-    OptionalReplacementRead {
-        answer: Reading::To(at + n),
-        is_some,
-        value,
-    }
-}
-
 // The front of a table.
 pub fn read_table_head(bytes: &[u8]) -> TableHeadRead
     ensures { λ r. ⌜ (report (r .answer), r .value) ≡ outcome blankTableHead (tableHead .dec (now (bytes .entry))) ⌝ }
@@ -848,6 +819,29 @@ pub fn read_table_head(bytes: &[u8]) -> TableHeadRead
     }
 }
 
+// What ends a table with an open request, behind the yes that says so.
+fn read_open_table(
+    bytes: &[u8],
+    at: usize,
+    head: TableHead,
+    count: usize,
+    slots: [VoterSlotRecord; 9],
+) -> TableRead
+    requires { ⌜ at ≤ length (now bytes) ⌝ }
+    ensures { λ r. ⌜ (report (r .answer), r .value) ≡ outcome blankVoterSlotTable (openTable at head count slots (replacement .dec (drop at (now (bytes .entry))))) ⌝ }
+{
+    let replacement_read = read_replacement(&bytes[at..]);
+    let replacement_to = replacement_read.answer;
+    let Reading::To(n) = replacement_to else {
+        return refused_table(why(replacement_to));
+    };
+    let replacement = replacement_read.value;
+    TableRead {
+        answer: Reading::To(at + n),
+        value: table_of(head, count, slots, true, replacement),
+    }
+}
+
 // The fields of a table; whatever may stand behind them.
 pub fn read_table(bytes: &[u8]) -> TableRead
     ensures { λ r. ⌜ (report (r .answer), r .value) ≡ outcome blankVoterSlotTable (table .dec (now (bytes .entry))) ⌝ }
@@ -875,15 +869,16 @@ pub fn read_table(bytes: &[u8]) -> TableRead
     };
     let slots = slots_read.value;
     let at = at + n;
-    let replacement_read = read_optional_replacement(&bytes[at..]);
-    let replacement_to = replacement_read.answer;
-    let Reading::To(n) = replacement_to else {
-        return refused_table(why(replacement_to));
+    let flag = read_flag(&bytes[at..]);
+    let BoolRead::Read(is_some, n) = flag else {
+        return refused_table(why_bool(flag));
     };
-    let replacement = replacement_read.value;
-    let is_some = replacement_read.is_some;
+    let at = at + n;
+    if is_some {
+        return read_open_table(bytes, at, head, count as usize, slots);
+    }
     TableRead {
-        answer: Reading::To(at + n),
-        value: table_of(head, count as usize, slots, is_some, replacement),
+        answer: Reading::To(at),
+        value: idle_table_of(head, count as usize, slots),
     }
 }

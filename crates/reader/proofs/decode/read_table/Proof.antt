@@ -1,20 +1,23 @@
--- `reader::decode::read_table` meets its contract: field by field. Written by scripts/readers.py. Assumes nothing.
+-- `reader::decode::read_table` meets its contract: field by field, and at the end by the flag. Written by hand, in the form of scripts/readers.py. Assumes nothing.
 use Prim.Native.Nat.{ℕ, _+_}
-use mathlib.Core.Bool.{Bool}
+use native.Mathlib.Omega.{arith}
+use mathlib.Core.Bool.{Bool, true}
 use mathlib.Core.List.{List}
-use mathlib.Core.Path.{_≡_, sym, ap, _∙_}
+use mathlib.Core.Path.{_≡_, refl, sym, ap, _∙_}
 use native.Mathlib.Nat.{lt-of-le-of-lt}
 use borrow.Author.Needs.{needs}
 use lib.ListN.{drop}
+use lib.Seq.{drop-drop}
+use Rattle.format.specs.Res.{Res}
 use Rattle.format.specs.Res.Res.{ok, no}
 use Rattle.format.specs.Codec.{Codec, dep, dep-ok, dep-no-1, dep-no-2, via-ok, via-no, rest}
-use Rattle.records.specs.Blank.{blankVoterReplacementRecord, blankVoterSlotTable}
-use Rattle.layout.specs.Parts.{absentReplacement, blankTableHead, blankVoterSlotRecords}
-use Rattle.format.specs.List.{opt}
+use Rattle.records.specs.Blank.{blankVoterSlotTable}
+use Rattle.layout.specs.Parts.{tableOf, blankTableHead, blankVoterSlotRecords}
+use Rattle.format.specs.List.{flag, opt-no, opt-none, opt-some, opt-bad}
 use Rattle.layout.specs.Format.{count, head, slots, replacement, tableHead, table}
 use Rattle.layout.specs.FormatLaws.{count-read}
-use Rattle.layout.specs.Reading.{report, outcome, u8Read, whyOf, whyU8}
-use Rattle.layout.specs.ReadingLaws.{told, told-not, got, outcome-ok, outcome-no}
+use Rattle.layout.specs.Reading.{report, outcome, openTable, u8Read, boolRead, whyOf, whyU8, whyBool}
+use Rattle.layout.specs.ReadingLaws.{told, told-not, got, outcome-ok, outcome-no, open-ok, open-no}
 use Rattle.identity.specs.Answer.{numberOf}
 use Rattle.records.specs.declared.records.VoterSlotRecord.{VoterSlotRecord}
 use Rattle.records.specs.declared.records.VoterReplacementRecord.{VoterReplacementRecord}
@@ -35,8 +38,8 @@ c3 = dep c2 (λ a. count)
 abbrev c4 : Codec (((Unit {0} × TableHead) × ℕ) × List VoterSlotRecord)
 c4 = dep c3 (λ a. slots (a .1))
 
-abbrev c5 : Codec ((((Unit {0} × TableHead) × ℕ) × List VoterSlotRecord) × (Bool × VoterReplacementRecord))
-c5 = dep c4 (λ a. opt replacement blankVoterReplacementRecord)
+abbrev c5 : Codec ((((Unit {0} × TableHead) × ℕ) × List VoterSlotRecord) × Bool)
+c5 = dep c4 (λ a. flag)
 
 got-1 : (c : tie.After-known-told) → c1 .dec (c .before .before .before .before .before .args .bytes .now) ≡ ok tt (c .before .magic .given .0 .0)
 got-1 c = got report (c .before .before .before .read-head .ensures) (c .before .magic .given .1)
@@ -50,8 +53,27 @@ got-3 c = dep-ok _ _ _ (got-2 (c .before .before .before .before .before)) (got 
 got-4 : (c : tie.After-slots) → c4 .dec (c .before .before .before .before .before .before .before .before .before .before .before .before .before .before .before .before .before .before .before .before .before .before .args .bytes .now) ≡ ok (((tt, c .before .before .before .before .before .before .before .before .before .before .before .before .before .before .before .read-table-head .result .value), c .before .before .before .before .before .before .before .count-read .given .0 .0), c .before .before .before .before .read-slots .result .value) (((c .before .before .before .before .before .before .before .before .before .before .before .before .before .before .before .before .before .before .magic .given .0 .0 + c .before .before .before .before .before .before .before .before .before .before .before .before .before .head-to .given .0 .0) + c .before .before .before .before .before .before .before .count-read .given .0 .1 .0) + c .before .before .slots-to .given .0 .0)
 got-4 c = dep-ok _ _ _ (got-3 (c .before .before .before .before .before .before)) (told blankVoterSlotRecords _ (c .before .before .before .before .read-slots .ensures ∙ ap (λ l. outcome blankVoterSlotRecords ((slots (c .before .before .before .before .before .before .before .count-read .given .0 .0)) .dec l)) (rest (c .before .before .before .before .before .before .before .before .before .before .before .before .before .before .before .before .before .before .before .before .before .before .args .bytes .now) _)) (c .before .before .slots-to .given .1))
 
-got-5 : (c : tie.After-replacement) → c5 .dec (c .before .before .before .before .before .before .before .before .before .before .before .before .before .before .before .before .before .before .before .before .before .before .before .before .before .before .before .before .args .bytes .now) ≡ ok ((((tt, c .before .before .before .before .before .before .before .before .before .before .before .before .before .before .before .before .before .before .before .before .before .read-table-head .result .value), c .before .before .before .before .before .before .before .before .before .before .before .before .before .count-read .given .0 .0), c .before .before .before .before .before .before .before .before .before .before .read-slots .result .value), (c .before .before .before .before .read-optional-replacement .result .«is_some», c .before .before .before .before .read-optional-replacement .result .value)) ((((c .before .before .before .before .before .before .before .before .before .before .before .before .before .before .before .before .before .before .before .before .before .before .before .before .magic .given .0 .0 + c .before .before .before .before .before .before .before .before .before .before .before .before .before .before .before .before .before .before .before .head-to .given .0 .0) + c .before .before .before .before .before .before .before .before .before .before .before .before .before .count-read .given .0 .1 .0) + c .before .before .before .before .before .before .before .before .slots-to .given .0 .0) + c .before .before .replacement-to .given .0 .0)
-got-5 c = dep-ok _ _ _ (got-4 (c .before .before .before .before .before .before)) (told absentReplacement _ (c .before .before .before .before .read-optional-replacement .ensures ∙ ap (λ l. outcome absentReplacement ((opt replacement blankVoterReplacementRecord) .dec l)) (rest (c .before .before .before .before .before .before .before .before .before .before .before .before .before .before .before .before .before .before .before .before .before .before .before .before .before .before .before .before .args .bytes .now) _)) (c .before .before .replacement-to .given .1))
+-- whether there is an open request
+flagged : (c : tie.After-known-told5) → flag .dec (drop (((c .before .before .before .before .before .before .before .before .before .before .before .before .before .before .before .before .before .before .before .before .before .before .before .magic .given .0 .0 + c .before .before .before .before .before .before .before .before .before .before .before .before .before .before .before .before .before .before .head-to .given .0 .0) + c .before .before .before .before .before .before .before .before .before .before .before .before .count-read .given .0 .1 .0) + c .before .before .before .before .before .before .before .slots-to .given .0 .0) (c .before .before .before .before .before .before .before .before .before .before .before .before .before .before .before .before .before .before .before .before .before .before .before .before .before .before .before .args .bytes .now)) ≡ ok (c .before .flag .given .0 .0) (c .before .flag .given .0 .1 .0)
+flagged c = got boolRead (c .before .before .before .read-flag .ensures ∙ ap (flag .dec) (rest (c .before .before .before .before .before .before .before .before .before .before .before .before .before .before .before .before .before .before .before .before .before .before .before .before .before .before .before .args .bytes .now) _)) (c .before .flag .given .1)
+
+got-5 : (c : tie.After-known-told5) → c5 .dec (c .before .before .before .before .before .before .before .before .before .before .before .before .before .before .before .before .before .before .before .before .before .before .before .before .before .before .before .args .bytes .now) ≡ ok ((((tt, c .before .before .before .before .before .before .before .before .before .before .before .before .before .before .before .before .before .before .before .before .read-table-head .result .value), c .before .before .before .before .before .before .before .before .before .before .before .before .count-read .given .0 .0), c .before .before .before .before .before .before .before .before .before .read-slots .result .value), c .before .flag .given .0 .0) ((((c .before .before .before .before .before .before .before .before .before .before .before .before .before .before .before .before .before .before .before .before .before .before .before .magic .given .0 .0 + c .before .before .before .before .before .before .before .before .before .before .before .before .before .before .before .before .before .before .head-to .given .0 .0) + c .before .before .before .before .before .before .before .before .before .before .before .before .count-read .given .0 .1 .0) + c .before .before .before .before .before .before .before .slots-to .given .0 .0) + c .before .flag .given .0 .1 .0)
+got-5 c = dep-ok _ _ _ (got-4 (c .before .before .before .before .before)) (flagged c)
+
+-- behind a yes the table is what the open request behind it makes of it
+module _ (bs : List ℕ) {h : TableHead} {n : ℕ} {s : List VoterSlotRecord} {k m : ℕ} (p : c4 .dec bs ≡ ok (((tt, h), n), s) k) (f : flag .dec (drop k bs) ≡ ok true m) where
+  opened-by : (x : Res VoterReplacementRecord) → replacement .dec (drop (k + m) bs) ≡ x → table .dec bs ≡ openTable (k + m) h n s (replacement .dec (drop (k + m) bs))
+  unfolding table
+  opened-by (ok r j) e =
+      let sum : k + (m + j) ≡ (k + m) + j = omega arith in
+      via-ok _ _ _ _ _ (dep-ok _ _ _ p (opt-some _ _ _ f (ap (replacement .dec) (drop-drop m k bs) ∙ e)))
+      ∙ ap (ok (tableOf h n s true r)) sum
+      ∙ sym (open-ok (k + m) h n s e)
+  opened-by (no j) e =
+      via-no _ _ _ _ _ (dep-no-2 _ _ _ p (opt-bad _ _ _ f (ap (replacement .dec) (drop-drop m k bs) ∙ e))) ∙ sym (open-no (k + m) h n s e)
+
+  opened : table .dec bs ≡ openTable (k + m) h n s (replacement .dec (drop (k + m) bs))
+  opened = opened-by _ refl
 
 counted : (c : tie.After-known-told3) → count .dec (drop (c .before .before .before .before .before .before .before .before .before .before .before .before .magic .given .0 .0 + c .before .before .before .before .before .before .before .head-to .given .0 .0) (c .before .before .before .before .before .before .before .before .before .before .before .before .before .before .before .before .args .bytes .now)) ≡ ok (c .before .count-read .given .0 .0) (c .before .count-read .given .0 .1 .0)
 counted c = got u8Read (c .before .before .before .read-count .ensures ∙ ap (count .dec) (rest (c .before .before .before .before .before .before .before .before .before .before .before .before .before .before .before .before .args .bytes .now) _)) (c .before .count-read .given .1)
@@ -179,26 +201,26 @@ returns-4 c =
 add-at-3 : tie.Need-add-at-3
 add-at-3 c = record { fits = lt-of-le-of-lt (c4 .within _ (got-4 c)) (c .before .before .before .before .before .before .before .before .before .before .before .before .before .before .before .before .before .before .before .before .before .before .good .0 .0) }
 
-sub-read-optional-replacement : tie.Need-sub-read-optional-replacement
-sub-read-optional-replacement c = c4 .within _ (got-4 c)
+sub-read-flag : tie.Need-sub-read-flag
+sub-read-flag c = c4 .within _ (got-4 c)
 
-part-read-optional-replacement-start : tie.Need-part-read-optional-replacement-start
-part-read-optional-replacement-start c = c4 .within _ (got-4 c)
+part-read-flag-start : tie.Need-part-read-flag-start
+part-read-flag-start c = c4 .within _ (got-4 c)
 
-part-read-optional-replacement-end : tie.Need-part-read-optional-replacement-end
-part-read-optional-replacement-end c = search needs
+part-read-flag-end : tie.Need-part-read-flag-end
+part-read-flag-end c = search needs
 
-read-optional-replacement-requires : tie.Need-read-optional-replacement-requires
-read-optional-replacement-requires c κs = search needs
+read-flag-requires : tie.Need-read-flag-requires
+read-flag-requires c κs = search needs
 
-enum-known-replacement-to : tie.Need-enum-known-replacement-to
-enum-known-replacement-to c = search needs
+enum-known-flag : tie.Need-enum-known-flag
+enum-known-flag c = search needs
 
 enum-told-5 : tie.Need-enum-told-5
 enum-told-5 c = search needs
 
-why-requires-4 : tie.Need-why-requires-4
-why-requires-4 c κs = search needs
+why-bool-requires : tie.Need-why-bool-requires
+why-bool-requires c κs = search needs
 
 refused-table-requires-5 : tie.Need-refused-table-requires-5
 refused-table-requires-5 c κs = search needs
@@ -206,21 +228,36 @@ refused-table-requires-5 c κs = search needs
 returns-5 : tie.Need-returns-5
 unfolding table
 returns-5 c =
-    outcome-no _ (c .refused-table5 .ensures ∙ ap (λ a. outcome blankVoterSlotTable (no (numberOf a))) (c .before .why4 .ensures ∙ ap whyOf (c .before .before .enum-told5 .given .1)))
-    (via-no _ _ _ _ _ (dep-no-2 _ _ _ (got-4 (c .before .before .before .before .before .before)) (told-not absentReplacement _ (c .before .before .before .before .read-optional-replacement .ensures ∙ ap (λ l. outcome absentReplacement ((opt replacement blankVoterReplacementRecord) .dec l)) (rest (c .before .before .before .before .before .before .before .before .before .before .before .before .before .before .before .before .before .before .before .before .before .before .before .before .before .before .before .before .args .bytes .now) _)) (c .before .before .enum-told5 .given .1))))
+    outcome-no _ (c .refused-table5 .ensures ∙ ap (λ a. outcome blankVoterSlotTable (no (numberOf a))) (c .before .why-bool .ensures ∙ ap whyBool (c .before .before .enum-told5 .given .1)))
+    (via-no _ _ _ _ _ (dep-no-2 _ _ _ (got-4 (c .before .before .before .before .before .before)) (opt-no _ _ _ (got boolRead (c .before .before .before .before .read-flag .ensures ∙ ap (flag .dec) (rest (c .before .before .before .before .before .before .before .before .before .before .before .before .before .before .before .before .before .before .before .before .before .before .before .before .before .before .before .before .args .bytes .now) _)) (c .before .before .enum-told5 .given .1)))))
 
-add-t36 : tie.Need-add-t36
-add-t36 c = record { fits = lt-of-le-of-lt (c5 .within _ (got-5 (c))) (c .before .before .before .before .before .before .before .before .before .before .before .before .before .before .before .before .before .before .before .before .before .before .before .before .before .before .before .before .good .0 .0) }
+add-at-4 : tie.Need-add-at-4
+add-at-4 c = record { fits = lt-of-le-of-lt (c5 .within _ (got-5 c)) (c .before .before .before .before .before .before .before .before .before .before .before .before .before .before .before .before .before .before .before .before .before .before .before .before .before .before .before .good .0 .0) }
 
-cast-table-of : tie.Need-cast-table-of
-cast-table-of c = search needs
+cast-read-open-table : tie.Need-cast-read-open-table
+cast-read-open-table c = search needs
 
-table-of-requires : tie.Need-table-of-requires
-table-of-requires c κs = search needs
+read-open-table-requires : tie.Need-read-open-table-requires
+read-open-table-requires c κs = c5 .within _ (got-5 (c .before))
 
 returns-6 : tie.Need-returns-6
+returns-6 c =
+    let n = c .before .before .before .flag .given .0 .1 .0 in
+    c .read-open-table .ensures
+    ∙ ap (outcome blankVoterSlotTable) (sym (opened _ (got-4 (c .before .before .before .before .before .before .before)) (flagged (c .before .before) ∙ ap (λ t. ok t n) (c .before .if1 .taken))))
+
+cast-idle-table-of : tie.Need-cast-idle-table-of
+cast-idle-table-of c = search needs
+
+idle-table-of-requires : tie.Need-idle-table-of-requires
+idle-table-of-requires c κs = search needs
+
+returns-7 : tie.Need-returns-7
 unfolding table
-returns-6 c = outcome-ok _ (via-ok _ _ _ _ _ (got-5 (c .before)) ∙ ap (λ v. ok v ((((c .before .before .before .before .before .before .before .before .before .before .before .before .before .before .before .before .before .before .before .before .before .before .before .before .before .magic .given .0 .0 + c .before .before .before .before .before .before .before .before .before .before .before .before .before .before .before .before .before .before .before .before .head-to .given .0 .0) + c .before .before .before .before .before .before .before .before .before .before .before .before .before .before .count-read .given .0 .1 .0) + c .before .before .before .before .before .before .before .before .before .slots-to .given .0 .0) + c .before .before .before .replacement-to .given .0 .0)) (sym (c .table-of .ensures)))
+returns-7 c =
+    let n = c .before .before .before .flag .given .0 .1 .0 in
+    let p = dep-ok _ _ _ (got-4 (c .before .before .before .before .before .before .before)) (opt-none _ _ _ (flagged (c .before .before) ∙ ap (λ t. ok t n) (c .before .if1 .left))) in
+    outcome-ok _ (via-ok _ _ _ _ _ p ∙ ap (λ v. ok v ((((c .before .before .before .before .before .before .before .before .before .before .before .before .before .before .before .before .before .before .before .before .before .before .before .before .before .magic .given .0 .0 + c .before .before .before .before .before .before .before .before .before .before .before .before .before .before .before .before .before .before .before .before .head-to .given .0 .0) + c .before .before .before .before .before .before .before .before .before .before .before .before .before .before .count-read .given .0 .1 .0) + c .before .before .before .before .before .before .before .before .before .slots-to .given .0 .0) + n)) (sym (c .idle-table-of .ensures)))
 
 pub read-table-spec : {M : Type 1} → statement M
 read-table-spec =
@@ -263,16 +300,19 @@ read-table-spec =
     refused-table-requires-4
     returns-4
     add-at-3
-    sub-read-optional-replacement
-    part-read-optional-replacement-start
-    part-read-optional-replacement-end
-    read-optional-replacement-requires
-    enum-known-replacement-to
+    sub-read-flag
+    part-read-flag-start
+    part-read-flag-end
+    read-flag-requires
+    enum-known-flag
     enum-told-5
-    why-requires-4
+    why-bool-requires
     refused-table-requires-5
     returns-5
-    add-t36
-    cast-table-of
-    table-of-requires
-    returns-6)
+    add-at-4
+    cast-read-open-table
+    read-open-table-requires
+    returns-6
+    cast-idle-table-of
+    idle-table-of-requires
+    returns-7)
