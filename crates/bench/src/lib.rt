@@ -1,9 +1,11 @@
 // What the benchmark times: calls of the layers below, exported to Rust with nothing around them.
 ghost use mathlib.Core.Path.{_≡_};
 ghost use Rattle.identity.specs.Text.{isUtf8, isName, isSnapshotId};
+use codec::codec::DecodedTable;
 use codec::codec::decode_voter_slot_table;
 use codec::codec::encode_voter_slot_table;
 use identity::answer::Answer;
+use identity::answer::accepted;
 use identity::answer::number;
 use layout::reading::Reading;
 use raw::table::table_of;
@@ -79,19 +81,32 @@ pub extern "C" fn bench_representable(raw: &[u8], turns: u64) -> u64 {
     answers
 }
 
-// The successor check of two tables, given in their raw form, so many times.
+// The successor check of two tables, given in their raw form, so many times. The newer one's revision
+// is set where it lies: of two tables that take turns each call would get a copy of 8.4 KB.
 #[no_mangle]
 pub extern "C" fn bench_successor(new: &[u8], old: &[u8], turns: u64) -> u64 {
-    let even = table_of_bytes(new);
-    let odd = later(even);
+    let mut table = table_of_bytes(new);
+    let revision = table.revision;
     let older = table_of_bytes(old);
     let mut answers = 0;
     let mut i = 0;
     while i < turns {
-        answers = answers | successor_of(pick(i % 2 == 0, even, odd), older);
+        table.revision = turned(revision, i);
+        answers = answers | successor_of(table, older);
         i += 1;
     }
     answers
+}
+
+// The revision and the next, in turn.
+fn turned(revision: u64, i: u64) -> u64 {
+    if i % 2 == 0 {
+        return revision;
+    }
+    if revision < u64::MAX {
+        return revision + 1;
+    }
+    revision
 }
 
 // Reading a table's bytes, so many times. The last table is asked for the phase of a slot, 0 to 2, by
@@ -111,6 +126,40 @@ pub extern "C" fn bench_decode(bytes: &[u8], turns: u64) -> u64 {
     }
     let place = (turns % 9) as usize;
     answers | third(kept.slots[place].phase)
+}
+
+// The least that a reading of this form does, so many times: a table is handed back beside an answer,
+// the blank one beside a refusal, and kept where it is accepted. Nothing is read.
+#[no_mangle]
+pub extern "C" fn bench_handed_back(turns: u64) -> u64 {
+    let mut kept = blank_voter_slot_table();
+    let mut i = 0;
+    while i < turns {
+        let given = handed_back(i);
+        let answer = given.answer;
+        if accepted(answer) {
+            let table = given.table;
+            kept = table;
+        }
+        i += 1;
+    }
+    let place = (turns % 9) as usize;
+    third(kept.slots[place].phase)
+}
+
+fn handed_back(revision: u64) -> DecodedTable {
+    let mut table = blank_voter_slot_table();
+    if revision == u64::MAX {
+        return DecodedTable {
+            answer: Answer::InvalidRecord,
+            table,
+        };
+    }
+    table.revision = revision;
+    DecodedTable {
+        answer: Answer::Accepted,
+        table,
+    }
 }
 
 fn third(x: u8) -> u64 {

@@ -12,6 +12,8 @@ use original::{
 };
 
 use crate::call::{self, Call};
+use crate::flat;
+use crate::raw;
 use crate::record::{Body, Step};
 use crate::sample::{
     advance, begin, cut, identity, idle, largest, marker, observation, open, replacement, snapshot,
@@ -44,6 +46,8 @@ enum Work {
     Zeros,
     /// As many bytes are cleared and handed on.
     Made,
+    /// The port's table is handed back beside an answer and kept, with nothing read.
+    HandedBack,
 }
 
 /// The bytes of the port's table, as a value.
@@ -59,12 +63,14 @@ trait Subject {
 }
 
 /// The columns of the report. The port's library is the second one, where the program was built
-/// with the feature `port`; its ratio to the first is printed then.
+/// with the feature `port`; its ratio to the first is printed then. The last is the port's value in
+/// Rust, by reference.
 fn subjects() -> Vec<Box<dyn Subject>> {
     vec![
         Box::new(Original),
         #[cfg(feature = "port")]
         Box::new(port::Port),
+        Box::new(Flat),
     ]
 }
 
@@ -102,6 +108,7 @@ fn measured(subjects: &[Box<dyn Subject>], task: &Task) -> String {
             None => line += &format!("{:>10}", "-"),
         }
     }
+    #[cfg(feature = "port")]
     if let [Some(first), Some(second), ..] = medians[..] {
         line += &format!("  ratio {:.2}", second / first);
     }
@@ -116,7 +123,7 @@ fn median(times: &mut [u128]) -> Option<f64> {
 }
 
 /// What the size of the port's value costs, whatever its table.
-fn value_tasks() -> [Task; 2] {
+fn value_tasks() -> [Task; 3] {
     let task = |name, work| Task {
         name,
         state: format!("{VALUE} bytes"),
@@ -126,6 +133,7 @@ fn value_tasks() -> [Task; 2] {
     [
         task("value read", Work::Zeros),
         task("value made", Work::Made),
+        task("value handed back", Work::HandedBack),
     ]
 }
 
@@ -271,7 +279,7 @@ impl Subject for Original {
     fn batch(&self, task: &Task) -> Option<u128> {
         let time = match &task.work {
             Work::Validity => timed(|| black_box(&task.table).check_validity()),
-            Work::Representable => return None,
+            Work::Representable | Work::HandedBack => return None,
             Work::Successor(older) => {
                 timed(|| black_box(&task.table).validate_successor_of(black_box(older)))
             }
@@ -304,6 +312,28 @@ impl Subject for Original {
     }
 }
 
+/// The port's value, looked at where it lies (see flat.rs).
+struct Flat;
+
+impl Subject for Flat {
+    fn name(&self) -> &'static str {
+        "flat"
+    }
+
+    fn batch(&self, task: &Task) -> Option<u128> {
+        let raw = raw::of_table(&task.table).bytes;
+        let table = flat::of_raw(&raw).expect("a raw table");
+        match &task.work {
+            Work::Validity => {
+                assert_eq!(flat::validate(&table), 0, "a valid table");
+                Some(timed(|| flat::validate(black_box(&table))))
+            }
+            Work::Representable => Some(timed(|| flat::representable(black_box(&table)))),
+            _ => None,
+        }
+    }
+}
+
 /// The port, through its static library.
 #[cfg(feature = "port")]
 mod port {
@@ -322,6 +352,7 @@ mod port {
             old_len: usize,
             turns: u64,
         ) -> u64;
+        fn bench_handed_back(turns: u64) -> u64;
         fn bench_zeros(bytes: *const u8, len: usize, turns: u64) -> u64;
         fn bench_decode(bytes: *const u8, len: usize, turns: u64) -> u64;
         fn bench_encode(
@@ -370,6 +401,7 @@ mod port {
                     }))
                 }
                 Work::Encode => Some(encoded(task, &table, turns)),
+                Work::HandedBack => Some(timed(|| unsafe { bench_handed_back(turns) })),
                 Work::Zeros => {
                     let value = vec![0_u8; VALUE];
                     Some(timed(|| unsafe {

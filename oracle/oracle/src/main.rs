@@ -8,6 +8,7 @@ mod cases;
 mod compare;
 mod edges;
 mod fixed;
+mod flat;
 mod format;
 mod generate;
 mod histogram;

@@ -6,16 +6,13 @@ use Rattle.bench.proofs.bench_successor.Statement.{statement}
 use Rattle.bench.proofs.bench_successor.Tie as tie
 
 abbrev Inv-loop : tie.InvT-loop
-Inv-loop new old turns even odd older answers₀ i₀ answers i = turns < 2 ^ 64
+Inv-loop new old turns table₀ revision older answers₀ i₀ table answers i = turns < 2 ^ 64
 
 abbrev μ-loop : tie.MeasureT-loop
-μ-loop new old turns even odd older answers₀ i₀ answers i = turns - i
+μ-loop new old turns table₀ revision older answers₀ i₀ table answers i = turns - i
 
 table-of-bytes-requires : tie.Need-table-of-bytes-requires Inv-loop μ-loop
 table-of-bytes-requires c κs = search needs
-
-later-requires : tie.Need-later-requires Inv-loop μ-loop
-later-requires c κs = search needs
 
 table-of-bytes-requires-2 : tie.Need-table-of-bytes-requires-2 Inv-loop μ-loop
 table-of-bytes-requires-2 c κs = search needs
@@ -23,8 +20,8 @@ table-of-bytes-requires-2 c κs = search needs
 loop-holds : tie.Need-loop-holds Inv-loop μ-loop
 loop-holds c = omega arith
 
-pick-requires : tie.Need-pick-requires Inv-loop μ-loop
-pick-requires c κs = search needs
+turned-requires : tie.Need-turned-requires Inv-loop μ-loop
+turned-requires c κs = search needs
 
 successor-of-requires : tie.Need-successor-of-requires Inv-loop μ-loop
 successor-of-requires c κs = search needs
@@ -48,10 +45,9 @@ bench-successor-spec =
     Inv-loop
     μ-loop
     table-of-bytes-requires
-    later-requires
     table-of-bytes-requires-2
     loop-holds
-    pick-requires
+    turned-requires
     successor-of-requires
     add-i
     loop-less
