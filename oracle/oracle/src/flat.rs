@@ -3,6 +3,7 @@
 //! copied, whatever is to be zero is looked at as one run of bytes, sixteen at a time from aligned
 //! places, and a name that is printable ASCII is looked at once for both tests.
 
+use std::alloc::{alloc_zeroed, handle_alloc_error, Layout};
 use std::arch::x86_64::*;
 
 use crate::format::Fields;
@@ -131,8 +132,16 @@ pub struct Table {
 
 /// The value of a raw table; what lies between the fields is zero.
 pub fn of_raw(raw: &[u8]) -> Option<Box<Table>> {
-    // SAFETY: numbers, arrays of them and flags, for which zero bytes are values.
-    let mut table: Box<Table> = unsafe { Box::new(std::mem::zeroed()) };
+    let layout = Layout::new::<Table>();
+    // SAFETY: the place is of the table's layout, and zero bytes are a table: numbers, arrays of them
+    // and flags. It is filled in where it lies, so that nothing between the fields is written.
+    let mut table = unsafe {
+        let place = alloc_zeroed(layout);
+        if place.is_null() {
+            handle_alloc_error(layout);
+        }
+        Box::from_raw(place.cast::<Table>())
+    };
     let from = &mut Fields(raw);
     table.cluster = from.array()?;
     table.manifest = from.array()?;
@@ -243,7 +252,7 @@ fn set_evidence(evidence: &mut Evidence, from: &mut Fields) -> Option<()> {
 /// The bytes of a value, with what lies between its fields, which `of_raw` left zero.
 #[inline(always)]
 fn bytes_of<T>(values: &[T]) -> &[u8] {
-    // SAFETY: every byte was set by `zeroed`, and no field is a reference.
+    // SAFETY: every byte was set by `alloc_zeroed`, those between the fields too.
     unsafe { std::slice::from_raw_parts(values.as_ptr().cast(), std::mem::size_of_val(values)) }
 }
 
@@ -261,9 +270,9 @@ fn are_zero(bytes: &[u8]) -> bool {
         let mut all = [any(0), any(count - 16), any(0), any(0)];
         let mut at = 16 - (start as usize & 15);
         while at + 128 <= count {
-            for lane in 0..4 {
-                all[lane] = _mm_or_si128(all[lane], aligned(at + 16 * lane));
-                all[lane] = _mm_or_si128(all[lane], aligned(at + 64 + 16 * lane));
+            for (lane, all) in all.iter_mut().enumerate() {
+                *all = _mm_or_si128(*all, aligned(at + 16 * lane));
+                *all = _mm_or_si128(*all, aligned(at + 64 + 16 * lane));
             }
             at += 128;
         }
@@ -428,7 +437,7 @@ fn validity(table: &Table, plain: bool) -> u8 {
 #[inline(always)]
 fn slots_are_valid(table: &Table) -> bool {
     let slots = &table.slots[..table.count];
-    if slots.len() % 2 == 0 || table.revision == 0 {
+    if slots.len().is_multiple_of(2) || table.revision == 0 {
         return false;
     }
     for (index, slot) in slots.iter().enumerate() {
