@@ -18,11 +18,11 @@ use Rattle.records.specs.declared.records.VoterReplacementEvidence.{VoterReplac
 use Rattle.records.specs.declared.records.VoterReplacementRecord.{VoterReplacementRecord}
 use Rattle.records.specs.declared.records.VoterSlotTable.{VoterSlotTable}
 use Rattle.layout.specs.Parts.{ReplacementFits, TableFits}
-use Rattle.codec.specs.TestLaws.{text-says, configuration-says, attestation-says, evidence-says, replacement-says, table-says}
+use Rattle.codec.specs.TestLaws.{says, text-is, configuration-is, attestation-is, evidence-is, replacement-is, table-is}
 
 -- a text is no longer than its place
 pub text-fits : (most len : ℕ) (bytes : List ℕ) → isText most len bytes ≡ true → len ≤ most
-text-fits most len bytes h = leb-true len most (text-says most len bytes h .0)
+text-fits most len bytes h = leb-true len most (says (text-is most len bytes) h .0)
 
 -- a part that is there passes its test, and one that is absent is the blank: what holds of both holds of the part
 part-by : {A : Type 0} (P : A → Type 0) (test same : A → Bool) (blank : A) → ((a : A) → test a ≡ true → P a) → ((a : A) → same a ≡ true → a ≡ blank) → P blank
@@ -32,7 +32,7 @@ part-by P test same blank f e z false a h = subst P (sym (e a h)) z
 
 -- a configuration has no more than nine members
 pub configuration-count : (c : VoterConfiguration) → representableConfiguration c ≡ true → c .count ≤ 9
-configuration-count c h = leb-true (c .count) 9 (configuration-says c h .1 .0)
+configuration-count c h = leb-true (c .count) 9 (says (configuration-is c) h .1 .0)
 
 blank-snapshot : blankVoterSnapshotEvidence .«snapshot_id» .len ≤ 256
 unfolding blankVoterSnapshotEvidence blankSnapshotId
@@ -50,12 +50,12 @@ snapshot-fits e h =
     blank-snapshot
     (e .«has_snapshot»)
     (e .snapshot)
-    (evidence-says e h .0)
+    (says (evidence-is e) h .0)
 
 -- both names of an attestation
 pub attestation-fits : (a : LostVoterAttestationV1) → representableAttestation a ≡ true → (a .«candidate_spiffe_id» .len ≤ 2048) × (a .«controller_spiffe_id» .len ≤ 2048)
 attestation-fits a h =
-    let s = attestation-says a h in (
+    let s = says (attestation-is a) h in (
       text-fits 2048 (a .«candidate_spiffe_id» .len) (a .«candidate_spiffe_id» .bytes) (s .1 .1 .0),
       text-fits 2048 (a .«controller_spiffe_id» .len) (a .«controller_spiffe_id» .bytes) (s .1 .1 .1 .0),
     )
@@ -63,7 +63,7 @@ attestation-fits a h =
 -- an open request that passes the test fits
 pub replacement-fits : (r : VoterReplacementRecord) → representableReplacement r ≡ true → ReplacementFits r
 replacement-fits r h =
-    let s = replacement-says r h in
+    let s = says (replacement-is r) h in
     let a = attestation-fits (r .attestation) (s .0) in
     record {
       candidate = a .0;
@@ -91,5 +91,5 @@ table-fits t h =
           blank-fits
           (t .«has_replacement»)
           (t .replacement)
-          (table-says t h .1 .1 .1);
+          (says (table-is t) h .1 .1 .1);
     }

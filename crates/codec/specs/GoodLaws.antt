@@ -45,7 +45,7 @@ use Rattle.records.specs.declared.records.VoterReplacementRecord.{VoterReplacem
 use Rattle.records.specs.declared.records.VoterSlotTable.{VoterSlotTable}
 use Rattle.layout.specs.Parts.{bindingOf, resultHeadOf, slotMemberOf, claimsRequestOf, claimsSlotOf, claimsNamesOf, claimsEndOf, timesOf, changeOf, tableHeadOf}
 use Rattle.layout.specs.Format.{require, slotId, incarnation, epoch, count, choice, identity, logId, optionalLogId, sized, string, placed, spiffeId, snapshotId, binding, member, members, configuration, resultHead, result, slotMember, slot, slots, version, claimsRequest, claimsSlot, claimsNames, times, claimsEnd, claims, attestation, snapshot, threeCuts, evidence, change, replacement, magic, headTest, head, tableHead, table}
-use Rattle.codec.specs.TestLaws.{and-both, text-says, member-says, result-says, slot-says, configuration-says, attestation-says, evidence-says, replacement-says, table-says}
+use Rattle.codec.specs.TestLaws.{and-both, says, text-is, member-is, result-is, slot-is, configuration-is, attestation-is, evidence-is, replacement-is, table-is}
 use Rattle.codec.specs.FitsLaws.{text-fits, attestation-fits, configuration-count}
 use Rattle.codec.specs.ValidLaws.{cond-yes, cond-not, valid-count, valid-attestation, valid-predecessor, valid-successor, configuration-valid}
 use Rattle.writer.specs.SizeLaws.{attestation-long, getD-any}
@@ -167,14 +167,14 @@ module _ (bound n : ℕ) (l : List ℕ) (small : bound < 256 ^ 2) (h : HeldBytes
       let k = text-fits bound n l t in
       let c = h .count in (
         ((uint-good 2 n (omega arith), ap (λ (b : Bool). pick {A = ℕ} b 0 5) (le-leb n bound k)), (length-take-le n l (omega arith), bytes-take n l (bytes-of l (h .each)))),
-        require-good (isUtf8 (take n l)) (text-says bound n l t .1 .0),
+        require-good (isUtf8 (take n l)) (says (text-is bound n l) t .1 .0),
       )
 
   placed-good : placed bound (n, take n l) ≡ l
   placed-good =
       let z : drop n l ≡ replicate (bound - n) 0 =
       eqBytes-true (drop n l) (replicate (bound - n) 0)
-      (eqBytes-zeros (drop n l) (bound - n) (length-drop n l ∙ ap (λ m. m - n) (h .count)) ∙ text-says bound n l t .1 .1) in
+      (eqBytes-zeros (drop n l) (bound - n) (length-drop n l ∙ ap (λ m. m - n) (h .count)) ∙ says (text-is bound n l) t .1 .1) in
       ap (λ r. take n l ++ r) (sym z) ∙ take-append-drop n l
 
 -- a name: no longer than its place, UTF-8, zeros behind it
@@ -210,7 +210,7 @@ binding-good m h = (
 pub member-good : (m : VoterSlotMember) → HeldVoterSlotMember m → representableMember m ≡ true → member .Good m
 unfolding member via dep
 member-good m h r =
-    let s = member-says m r in
+    let s = says (member-is m) r in
     ((identity-good (m .identity) (h .identity) (s .0) (s .1), binding-good m h), refl)
 
 -- members in the places of a configuration, blanks behind them
@@ -219,13 +219,13 @@ unfolding members
 members-good c h r =
     places-good member blankVoterSlotMember noMember HeldVoterSlotMember representableMember (λ m. sameVoterSlotMember m blankVoterSlotMember)
     member-good (λ m. sameVoterSlotMember-true m blankVoterSlotMember)
-    (c .members) (c .count) (configuration-count c r) (h .members) (configuration-says c r .1 .1)
+    (c .members) (c .count) (configuration-count c r) (h .members) (says (configuration-is c) r .1 .1)
 
 -- a configuration that passes its test and is valid
 pub configuration-good : (c : VoterConfiguration) → HeldVoterConfiguration c → representableConfiguration c ≡ true → validConfiguration c ≡ true → configuration .Good c
 unfolding configuration via dep
 configuration-good c h r v =
-    (((epoch-good (c .epoch) (h .epoch) (configuration-says c r .0), count-good (c .count) (configuration-valid c v)), members-good c h r), refl)
+    (((epoch-good (c .epoch) (h .epoch) (says (configuration-is c) r .0), count-good (c .count) (configuration-valid c v)), members-good c h r), refl)
 
 -- ---- slots
 
@@ -236,7 +236,7 @@ resultHead-good r h t = (
   (
     (
       (raw-good 16 (r .«request_id») (h .«request_id»), raw-good 32 (r .«request_digest») (h .«request_digest»)),
-      incarnation-good (r .incarnation) (h .incarnation) (result-says r t .0),
+      incarnation-good (r .incarnation) (h .incarnation) (says (result-is r) t .0),
     ),
     uint-good 8 (r .revision) (h .revision),
   ),
@@ -249,8 +249,8 @@ unfolding result via dep
 result-good r h t = (
   (
     (
-      (resultHead-good r h t, epoch-good (r .«configuration_epoch») (h .«configuration_epoch») (result-says r t .1 .0)),
-      up-to-good 1 (r .kind) (h .kind) (result-says r t .1 .1),
+      (resultHead-good r h t, epoch-good (r .«configuration_epoch») (h .«configuration_epoch») (says (result-is r) t .1 .0)),
+      up-to-good 1 (r .kind) (h .kind) (says (result-is r) t .1 .1),
     ),
     logId-good (r .terminal) (h .terminal),
   ),
@@ -261,7 +261,7 @@ result-good r h t = (
 pub slotMember-good : (s : VoterSlotRecord) → HeldVoterSlotRecord s → representableMember (s .member) ≡ true → slotMember .Good (slotMemberOf s)
 unfolding slotMember via dep
 slotMember-good s h r =
-    let k = member-says (s .member) r in (
+    let k = says (member-is (s .member)) r in (
       (
         (identity-good (s .member .identity) (h .member .identity) (k .0) (k .1), uint-good 8 (s .«retired_through») (h .«retired_through»)),
         binding-good (s .member) (h .member),
@@ -273,7 +273,7 @@ slotMember-good s h r =
 pub slot-good : (s : VoterSlotRecord) → HeldVoterSlotRecord s → representableSlotRecord s ≡ true → slot .Good s
 unfolding slot via dep
 slot-good s h r =
-    let k = slot-says s r in (
+    let k = says (slot-is s) r in (
       (
         (slotMember-good s h (k .0), up-to-good 2 (s .phase) (h .phase) (k .1 .0)),
         opt-good result blankVoterReplacementResult (s .«last_result») (representableResult (s .«last_result»)) (sameVoterReplacementResult (s .«last_result») blankVoterReplacementResult)
@@ -290,7 +290,7 @@ unfolding slots
 slots-good t h r =
     places-good slot blankVoterSlotRecord noSlotRecord HeldVoterSlotRecord representableSlotRecord (λ s. sameVoterSlotRecord s blankVoterSlotRecord)
     slot-good (λ s. sameVoterSlotRecord-true s blankVoterSlotRecord)
-    (t .slots) (t .count) (representable-count t r) (h .slots) (table-says t r .1 .1 .0)
+    (t .slots) (t .count) (representable-count t r) (h .slots) (says (table-is t) r .1 .1 .0)
 
 -- ---- an attestation
 
@@ -327,7 +327,7 @@ module _ (a : LostVoterAttestationV1) (h : HeldLostVoterAttestationV1 a) where
     pub claimsSlot-good : claimsSlot .Good (claimsSlotOf a)
     unfolding claimsSlot via dep
     claimsSlot-good =
-        let s = attestation-says a r in (
+        let s = says (attestation-is a) r in (
           (
             (
               (
@@ -345,7 +345,7 @@ module _ (a : LostVoterAttestationV1) (h : HeldLostVoterAttestationV1 a) where
     pub claimsNames-good : claimsNames .Good (claimsNamesOf a)
     unfolding claimsNames via dep
     claimsNames-good =
-        let s = attestation-says a r in (
+        let s = says (attestation-is a) r in (
           (
             (
               (
@@ -365,7 +365,7 @@ module _ (a : LostVoterAttestationV1) (h : HeldLostVoterAttestationV1 a) where
     claimsEnd-good = (
       (
         (
-          (choice-good 1 2 (a .reason) (h .reason) (attestation-says a r .1 .1 .1 .1), raw-good 32 (a .«policy_digest») (h .«policy_digest»)),
+          (choice-good 1 2 (a .reason) (h .reason) (says (attestation-is a) r .1 .1 .1 .1), raw-good 32 (a .«policy_digest») (h .«policy_digest»)),
           times-good,
         ),
         raw-good 64 (a .signature) (h .signature),
@@ -462,7 +462,7 @@ threeCuts-good a b c f g h = (((f, g), h), refl)
 pub evidence-good : (e : VoterReplacementEvidence) → HeldVoterReplacementEvidence e → representableEvidence e ≡ true → evidence .Good e
 unfolding evidence via dep
 evidence-good e h r =
-    let s = evidence-says e r in
+    let s = says (evidence-is e) r in
     let c = s .1 in (
       (
         (
@@ -491,7 +491,7 @@ module _ (r : VoterReplacementRecord) (h : HeldVoterReplacementRecord r) (t : re
   pub change-good : change .Good (changeOf r)
   unfolding change via dep
   change-good =
-      let k = replacement-says r t in (
+      let k = says (replacement-is r) t in (
         (
           (configuration-good (r .predecessor) (h .predecessor) (k .1 .0) p, configuration-good (r .successor) (h .successor) (k .1 .1 .0) s),
           up-to-good 6 (r .phase) (h .phase) (k .1 .1 .1 .0),
@@ -503,7 +503,7 @@ module _ (r : VoterReplacementRecord) (h : HeldVoterReplacementRecord r) (t : re
   pub replacement-good : validAttestation (r .attestation) ≡ true → replacement .Good r
   unfolding replacement via dep
   replacement-good v =
-      let k = replacement-says r t in (
+      let k = says (replacement-is r) t in (
         (
           (
             (uint-good 8 (r .«expected_revision») (h .«expected_revision»), box-good (r .attestation) (h .attestation) (k .0) v),
@@ -533,7 +533,7 @@ tableHead-good t h r = (
       (raw-good 32 (t .«cluster_instance») (h .«cluster_instance»), raw-good 32 (t .«manifest_digest») (h .«manifest_digest»)),
       uint-good 8 (t .revision) (h .revision),
     ),
-    epoch-good (t .«configuration_epoch») (h .«configuration_epoch») (table-says t r .0),
+    epoch-good (t .«configuration_epoch») (h .«configuration_epoch») (says (table-is t) r .0),
   ),
   refl,
 )
@@ -542,7 +542,7 @@ tableHead-good t h r = (
 pub table-good : (t : VoterSlotTable) → HeldVoterSlotTable t → representable t ≡ true → validity t ≡ Accepted → table .Good t
 unfolding table via dep
 table-good t h r v =
-    (((((head-good, tableHead-good t h r), count-good (t .count) (valid-count t v)), slots-good t h r), open-good (t .«has_replacement») refl (table-says t r .1 .1 .1)), refl)
+    (((((head-good, tableHead-good t h r), count-good (t .count) (valid-count t v)), slots-good t h r), open-good (t .«has_replacement») refl (says (table-is t) r .1 .1 .1)), refl)
   where
     open-good : (b : Bool) → t .«has_replacement» ≡ b
         → cond b (representableReplacement (t .replacement)) (sameVoterReplacementRecord (t .replacement) blankVoterReplacementRecord) ≡ true

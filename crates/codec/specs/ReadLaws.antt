@@ -43,7 +43,7 @@ use Rattle.records.specs.declared.records.VoterReplacementEvidence.{VoterReplac
 use Rattle.records.specs.declared.records.VoterReplacementRecord.{VoterReplacementRecord}
 use Rattle.records.specs.declared.records.VoterSlotTable.{VoterSlotTable}
 use Rattle.layout.specs.Format.{require-is, slotId, incarnation, epoch, count, choice, identity, optionalLogId, logId, sized, string, string-long, placed, spiffeId, snapshotId, member, members, configuration, resultHead, result, slotMember, slot, slots, claimsSlot, claimsNames, claimsEnd, claims, attestation, snapshot, threeCuts, evidence, change, replacement, tableHead, table}
-use Rattle.codec.specs.TestLaws.{text-passes, member-passes, result-passes, slot-passes, configuration-passes, attestation-passes, evidence-passes, replacement-passes, table-passes}
+use Rattle.codec.specs.TestLaws.{passes, text-is, member-is, result-is, slot-is, configuration-is, attestation-is, evidence-is, replacement-is, table-is}
 use Rattle.writer.specs.SizeLaws.{getD-any}
 
 -- ---- the ways to make a format
@@ -152,7 +152,7 @@ module _ (bound n : ℕ) (l : List ℕ) (g : string bound .Good (n, take n l)) (
   text-tests : isText bound n l ≡ true
   text-tests =
       let z : drop n l ≡ replicate (bound - n) 0 = ap (drop n) (sym p) ∙ drop-at (take n l) (replicate (bound - n) 0) n (string-long bound (n, take n l) g) in
-      text-passes bound n l (string-tests .0, (string-tests .1, zeros-tests (bound - n) (drop n l) z))
+      passes (text-is bound n l) (string-tests .0, (string-tests .1, zeros-tests (bound - n) (drop n l) z))
 
 -- a name
 spiffeId-tests : (s : SpiffeId) → spiffeId .Good s → representableSpiffeId s ≡ true
@@ -169,13 +169,13 @@ snapshotId-tests s g = text-tests 256 (s .len) (s .bytes) (g .0) (ap (λ (x : Sn
 -- a member
 member-tests : (m : VoterSlotMember) → member .Good m → representableMember m ≡ true
 unfolding member via dep
-member-tests m g = member-passes m (identity-tests (m .identity) (g .0 .0))
+member-tests m g = passes (member-is m) (identity-tests (m .identity) (g .0 .0))
 
 -- a configuration, with blanks behind its members
 configuration-tests : (c : VoterConfiguration) → configuration .Good c → representableConfiguration c ≡ true
 unfolding configuration via dep members
 configuration-tests c g =
-    configuration-passes c (
+    passes (configuration-is c) (
       epoch-tests (c .epoch) (g .0 .0 .0),
       (
         count-tests (c .count) (g .0 .0 .1),
@@ -190,7 +190,7 @@ configuration-tests c g =
 result-tests : (r : VoterReplacementResult) → result .Good r → representableResult r ≡ true
 unfolding result resultHead via dep
 result-tests r g =
-    result-passes r (
+    passes (result-is r) (
       incarnation-tests (r .incarnation) (g .0 .0 .0 .0 .0 .0 .1),
       (epoch-tests (r .«configuration_epoch») (g .0 .0 .0 .1), up-to-tests 1 (r .kind) (g .0 .0 .1)),
     )
@@ -199,8 +199,8 @@ result-tests r g =
 slot-tests : (s : VoterSlotRecord) → slot .Good s → representableSlotRecord s ≡ true
 unfolding slot slotMember via dep
 slot-tests s g =
-    slot-passes s (
-      member-passes (s .member) (identity-tests (s .member .identity) (g .0 .0 .0 .0 .0 .0)),
+    passes (slot-is s) (
+      passes (member-is (s .member)) (identity-tests (s .member .identity) (g .0 .0 .0 .0 .0 .0)),
       (
         up-to-tests 2 (s .phase) (g .0 .0 .1),
         opt-tests result blankVoterReplacementResult (s .«last_result») (representableResult (s .«last_result»))
@@ -216,7 +216,7 @@ claims-tests : (a : LostVoterAttestationV1) → claims .Good a → representable
 unfolding claims claimsSlot claimsNames claimsEnd via dep
 claims-tests a g =
     let i = identity-tests (record { slot = a .slot; incarnation = a .«expected_incarnation» }) (g .0 .0 .0 .1 .0 .0 .0 .1) in
-    attestation-passes a (
+    passes (attestation-is a) (
       i .0,
       (
         i .1,
@@ -243,7 +243,7 @@ snapshot-tests s g = snapshotId-tests (s .«snapshot_id») (g .0 .0 .1)
 evidence-tests : (e : VoterReplacementEvidence) → evidence .Good e → representableEvidence e ≡ true
 unfolding evidence threeCuts via dep
 evidence-tests e g =
-    evidence-passes e (
+    passes (evidence-is e) (
       opt-tests snapshot blankVoterSnapshotEvidence (e .snapshot) (representableSnapshotId (e .snapshot .«snapshot_id»))
           (λ s. sameVoterSnapshotEvidence s blankVoterSnapshotEvidence) (snapshot-tests (e .snapshot))
           (sameVoterSnapshotEvidence-refl blankVoterSnapshotEvidence) (e .«has_snapshot») (g .0 .0 .0 .1),
@@ -266,7 +266,7 @@ evidence-tests e g =
 replacement-tests : (r : VoterReplacementRecord) → replacement .Good r → representableReplacement r ≡ true
 unfolding replacement change via dep
 replacement-tests r g =
-    replacement-passes r (
+    passes (replacement-is r) (
       attestation-tests (r .attestation) (boxed-is attestation 8192 (r .attestation) (g .0 .0 .0 .1)),
       (
         configuration-tests (r .predecessor) (g .0 .0 .1 .0 .0 .0),
@@ -283,7 +283,7 @@ replacement-tests r g =
 pub table-tests : (t : VoterSlotTable) → table .Good t → representable t ≡ true
 unfolding table tableHead slots via dep
 table-tests t g =
-    table-passes t (
+    passes (table-is t) (
       epoch-tests (t .«configuration_epoch») (g .0 .0 .0 .0 .1 .0 .1),
       (
         count-tests (t .count) (g .0 .0 .0 .1),
