@@ -2,7 +2,7 @@
 -- `report` is of an answer that stands beside its value, and `outcome` puts both together, with the blank beside a refusal.
 -- Assumes nothing.
 use Prim.Native.Nat.{ℕ, _+_}
-use mathlib.Core.Bool.{Bool, true}
+use mathlib.Core.Bool.{Bool}
 use mathlib.Core.List.{List}
 use lib.ListN.{take, drop}
 use Rattle.format.specs.Res.{Res}
@@ -13,11 +13,6 @@ use Rattle.identity.specs.declared.answer.Answer.the-variants.{InvalidRecord}
 use Rattle.identity.specs.declared.identity.VoterSlotIdentity.{VoterSlotIdentity}
 use Rattle.records.specs.declared.records.VoterSlotLogId.{VoterSlotLogId}
 use Rattle.records.specs.declared.records.OptionalLogId.{OptionalLogId}
-use Rattle.records.specs.declared.records.VoterReplacementRecord.{VoterReplacementRecord}
-use Rattle.records.specs.declared.records.VoterSlotRecord.{VoterSlotRecord}
-use Rattle.records.specs.declared.records.VoterSlotTable.{VoterSlotTable}
-use Rattle.layout.specs.Parts.{tableOf}
-use Rattle.layout.specs.declared.parts.TableHead.{TableHead}
 use Rattle.layout.specs.declared.parts.ThreeCuts.{ThreeCuts}
 use Rattle.layout.specs.declared.parts.Times.{Times}
 use Rattle.layout.specs.declared.reading.Reading.{Reading}
@@ -52,11 +47,6 @@ report (reading.Refused a) = no (numberOf a)
 unfoldable pub outcome : {A : Type 0} → A → Res A → Res (Unit {0}) × A
 outcome blank (ok a n) = (ok tt n, a)
 outcome blank (no k) = (no k, blank)
-
--- the reading of a table with an open request: what stands before that was read up to `at`, and that follows, or its refusal
-unfoldable pub openTable : ℕ → TableHead → ℕ → List VoterSlotRecord → Res VoterReplacementRecord → Res VoterSlotTable
-openTable at head count slots (ok r n) = ok (tableOf head count slots true r) (at + n)
-openTable at head count slots (no k) = no k
 
 -- the refusal; of what was not refused, which nobody asks, some refusal (this and each `why..` below)
 abbrev pub whyOf : Reading → Answer

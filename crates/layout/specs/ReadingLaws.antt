@@ -1,19 +1,13 @@
--- What an answer beside its value tells of the reading, and what the reading tells of it: all that a reader's proof cites of `report`, `outcome` and `openTable`.
+-- What an answer beside its value tells of the reading, and what the reading tells of it: all that a reader's proof cites of `report` and `outcome`.
 -- Assumes nothing.
-use Prim.Native.Nat.{ℕ, _+_}
+use Prim.Native.Nat.{ℕ}
 use native.Mathlib.Omega.{arith}
 use mathlib.Core.Path.{_≡_, sym, ap, ap₂, _∙_}
-use mathlib.Core.Bool.{true}
-use mathlib.Core.List.{List}
 use Rattle.format.specs.Res.{Res, ok-count, no-ok}
 use Rattle.format.specs.Res.Res.{ok, no}
 use Rattle.identity.specs.Answer.{numberOf}
 use Rattle.identity.specs.declared.answer.Answer.{Answer}
-use Rattle.records.specs.declared.records.VoterReplacementRecord.{VoterReplacementRecord}
-use Rattle.records.specs.declared.records.VoterSlotRecord.{VoterSlotRecord}
-use Rattle.layout.specs.Parts.{tableOf}
-use Rattle.layout.specs.Reading.{report, outcome, openTable}
-use Rattle.layout.specs.declared.parts.TableHead.{TableHead}
+use Rattle.layout.specs.Reading.{report, outcome}
 use Rattle.layout.specs.declared.reading.Reading.{Reading}
 use Rattle.layout.specs.declared.reading.Reading.the-variants as reading
 
@@ -48,13 +42,3 @@ outcome-no blank e f = e ∙ ap (outcome blank) (sym f)
 -- what an answer that carries its value says of the reading
 pub got : {R A : Type 0} (f : R → Res A) {r q : R} {x : Res A} → f r ≡ x → r ≡ q → x ≡ f q
 got f e q = sym e ∙ ap f q
-
--- a table whose open request was read, and one whose open request was refused
-module _ (at : ℕ) (head : TableHead) (count : ℕ) (slots : List VoterSlotRecord) {x : Res VoterReplacementRecord} where
-  pub open-ok : {r : VoterReplacementRecord} {n : ℕ} → x ≡ ok r n → openTable at head count slots x ≡ ok (tableOf head count slots true r) (at + n)
-  unfolding openTable
-  open-ok e = ap (openTable at head count slots) e
-
-  pub open-no : {k : ℕ} → x ≡ no k → openTable at head count slots x ≡ no k
-  unfolding openTable
-  open-no e = ap (openTable at head count slots) e

@@ -3,14 +3,17 @@
 // Ported from crates/opc-consensus/src/voter_slots/codec.rs of openpacketcore-sdk, commit
 // 717de332e7, Apache-2.0 (see NOTICE). Changed: each field has a reader of its own, which is handed
 // the rest of the bytes and gives the count that it took.
+ghost use mathlib.Core.Bool.{true};
 ghost use mathlib.Core.Path.{_≡_};
-ghost use Prim.Native.Nat.{_≤_};
+ghost use Prim.Native.Nat.{_+_, _≤_};
 ghost use lib.ListN.{length, drop};
+ghost use Rattle.format.specs.Res.{andThen};
+ghost use Rattle.format.specs.Res.Res.{ok};
 ghost use Rattle.format.specs.List.{opt};
 ghost use Rattle.format.specs.Through.{whole, boxed};
 ghost use Rattle.records.specs.Blank.{blankVoterSlotMember, blankVoterConfiguration, blankVoterReplacementResult, blankVoterSlotRecord, blankLostVoterAttestationV1, blankVoterSnapshotEvidence, blankVoterReplacementEvidence, blankVoterReplacementRecord, blankVoterSlotTable};
-ghost use Rattle.layout.specs.Parts.{absentResult, absentSnapshot, blankBinding, blankClaimsRequest, blankClaimsSlot, blankClaimsNames, blankClaimsEnd, blankResultHead, blankSlotMember, blankChange, blankTableHead, blankVoterSlotMembers, blankVoterSlotRecords};
-ghost use Rattle.layout.specs.Reading.{report, outcome, openTable};
+ghost use Rattle.layout.specs.Parts.{absentResult, absentSnapshot, blankBinding, blankClaimsRequest, blankClaimsSlot, blankClaimsNames, blankClaimsEnd, blankResultHead, blankSlotMember, blankChange, blankTableHead, blankVoterSlotMembers, blankVoterSlotRecords, tableOf};
+ghost use Rattle.layout.specs.Reading.{report, outcome};
 ghost use Rattle.layout.specs.Format.{binding, member, members, configuration, resultHead, result, slotMember, slot, slots, claimsRequest, claimsSlot, claimsNames, claimsEnd, claims, attestation, snapshot, evidence, change, replacement, tableHead, table};
 use crate::reader::read_array16;
 use crate::reader::read_array32;
@@ -819,7 +822,8 @@ pub fn read_table_head(bytes: &[u8]) -> TableHeadRead
     }
 }
 
-// What ends a table with an open request, behind the yes that says so.
+// What ends a table with an open request, behind the yes that says so: what stands before that was
+// read up to `at`.
 fn read_open_table(
     bytes: &[u8],
     at: usize,
@@ -828,7 +832,7 @@ fn read_open_table(
     slots: [VoterSlotRecord; 9],
 ) -> TableRead
     requires { ⌜ at ≤ length (now bytes) ⌝ }
-    ensures { λ r. ⌜ (report (r .answer), r .value) ≡ outcome blankVoterSlotTable (openTable at head count slots (replacement .dec (drop at (now (bytes .entry))))) ⌝ }
+    ensures { λ r. ⌜ (report (r .answer), r .value) ≡ outcome blankVoterSlotTable (andThen (replacement .dec (drop at (now (bytes .entry)))) (λ x n. ok (tableOf head count slots true x) (at + n))) ⌝ }
 {
     let replacement_read = read_replacement(&bytes[at..]);
     let replacement_to = replacement_read.answer;

@@ -8,7 +8,7 @@ use native.Mathlib.Nat.{lt-of-le-of-lt}
 use borrow.Author.Needs.{needs}
 use lib.ListN.{drop}
 use lib.Seq.{drop-drop}
-use Rattle.format.specs.Res.{Res}
+use Rattle.format.specs.Res.{Res, andThen}
 use Rattle.format.specs.Res.Res.{ok, no}
 use Rattle.format.specs.Codec.{Codec, dep, dep-ok, dep-no-1, dep-no-2, via-ok, via-no, rest}
 use Rattle.records.specs.Blank.{blankVoterSlotTable}
@@ -16,11 +16,12 @@ use Rattle.layout.specs.Parts.{tableOf, blankTableHead, blankVoterSlotRecords}
 use Rattle.format.specs.List.{flag, opt-no, opt-none, opt-some, opt-bad}
 use Rattle.layout.specs.Format.{count, head, slots, replacement, tableHead, table}
 use Rattle.layout.specs.FormatLaws.{count-read}
-use Rattle.layout.specs.Reading.{report, outcome, openTable, u8Read, boolRead, whyOf, whyU8, whyBool}
-use Rattle.layout.specs.ReadingLaws.{told, told-not, got, outcome-ok, outcome-no, open-ok, open-no}
+use Rattle.layout.specs.Reading.{report, outcome, u8Read, boolRead, whyOf, whyU8, whyBool}
+use Rattle.layout.specs.ReadingLaws.{told, told-not, got, outcome-ok, outcome-no}
 use Rattle.identity.specs.Answer.{numberOf}
 use Rattle.records.specs.declared.records.VoterSlotRecord.{VoterSlotRecord}
 use Rattle.records.specs.declared.records.VoterReplacementRecord.{VoterReplacementRecord}
+use Rattle.records.specs.declared.records.VoterSlotTable.{VoterSlotTable}
 use Rattle.layout.specs.declared.parts.TableHead.{TableHead}
 use Rattle.reader.proofs.decode.read_table.Statement.{statement}
 use Rattle.reader.proofs.decode.read_table.Tie as tie
@@ -62,17 +63,20 @@ got-5 c = dep-ok _ _ _ (got-4 (c .before .before .before .before .before)) (flag
 
 -- behind a yes the table is what the open request behind it makes of it
 module _ (bs : List ℕ) {h : TableHead} {n : ℕ} {s : List VoterSlotRecord} {k m : ℕ} (p : c4 .dec bs ≡ ok (((tt, h), n), s) k) (f : flag .dec (drop k bs) ≡ ok true m) where
-  opened-by : (x : Res VoterReplacementRecord) → replacement .dec (drop (k + m) bs) ≡ x → table .dec bs ≡ openTable (k + m) h n s (replacement .dec (drop (k + m) bs))
-  unfolding table
+  abbrev goes-on : VoterReplacementRecord → ℕ → Res VoterSlotTable
+  goes-on x j = ok (tableOf h n s true x) ((k + m) + j)
+
+  opened-by : (x : Res VoterReplacementRecord) → replacement .dec (drop (k + m) bs) ≡ x → table .dec bs ≡ andThen (replacement .dec (drop (k + m) bs)) goes-on
+  unfolding table andThen
   opened-by (ok r j) e =
       let sum : k + (m + j) ≡ (k + m) + j = omega arith in
       via-ok _ _ _ _ _ (dep-ok _ _ _ p (opt-some _ _ _ f (ap (replacement .dec) (drop-drop m k bs) ∙ e)))
       ∙ ap (ok (tableOf h n s true r)) sum
-      ∙ sym (open-ok (k + m) h n s e)
+      ∙ sym (ap (λ x. andThen x goes-on) e)
   opened-by (no j) e =
-      via-no _ _ _ _ _ (dep-no-2 _ _ _ p (opt-bad _ _ _ f (ap (replacement .dec) (drop-drop m k bs) ∙ e))) ∙ sym (open-no (k + m) h n s e)
+      via-no _ _ _ _ _ (dep-no-2 _ _ _ p (opt-bad _ _ _ f (ap (replacement .dec) (drop-drop m k bs) ∙ e))) ∙ sym (ap (λ x. andThen x goes-on) e)
 
-  opened : table .dec bs ≡ openTable (k + m) h n s (replacement .dec (drop (k + m) bs))
+  opened : table .dec bs ≡ andThen (replacement .dec (drop (k + m) bs)) goes-on
   opened = opened-by _ refl
 
 counted : (c : tie.After-known-told3) → count .dec (drop (c .before .before .before .before .before .before .before .before .before .before .before .before .magic .given .0 .0 + c .before .before .before .before .before .before .before .head-to .given .0 .0) (c .before .before .before .before .before .before .before .before .before .before .before .before .before .before .before .before .args .bytes .now)) ≡ ok (c .before .count-read .given .0 .0) (c .before .count-read .given .0 .1 .0)
