@@ -177,10 +177,10 @@ use mathlib.Core.List.{List, [], _∷_}
 use lib.Dec.{eqb}
 %s''' % (BY, DECLARED), '''
 -- every test of a list holds
-unfoldable pub all : List Bool → Bool
-all [] = true
-all (p ∷ []) = p
-all (p ∷ (q ∷ ps)) = p && all (q ∷ ps)
+unfoldable pub allTrue : List Bool → Bool
+allTrue [] = true
+allTrue (p ∷ []) = p
+allTrue (p ∷ (q ∷ ps)) = p && allTrue (q ∷ ps)
 ''', '''
 -- two lists of one length, element by element
 unfoldable pub eqList : {A : Type 0} → (A → A → Bool) → List A → List A → Bool
@@ -197,7 +197,7 @@ eqBytes a b = eqList eqb a b
         parts.append('''
 unfoldable pub same{0} : {0} → {0} → Bool
 same{0} a b =
-    all
+    allTrue
     ({1}[])
 '''.format(name, tests))
     write('specs/Equality.antt', *parts)
@@ -242,7 +242,7 @@ use lib.ListN.{length, getD, take}
 use lib.Seq.{take-all}
 use lib.Dec.{eqb}
 use borrow.Author.Tests.{eqb-true, eq-eqb}
-use Rattle.records.specs.Equality.{all, eqList, eqBytes, %s}
+use Rattle.records.specs.Equality.{allTrue, eqList, eqBytes, %s}
 %s''' % (BY, all_of('same'), DECLARED), '''
 -- ---- any test with the laws `-true` and `-refl`
 
@@ -279,15 +279,15 @@ abbrev Each : List Bool → Type 0
 Each [] = Unit {0}
 Each (p ∷ ps) = (p ≡ true) × Each ps
 
-all-each : (ps : List Bool) → all ps ≡ true → Each ps
-unfolding all
+all-each : (ps : List Bool) → allTrue ps ≡ true → Each ps
+unfolding allTrue
 all-each [] h = tt
 all-each (p ∷ []) h = (h, tt)
-all-each (p ∷ (q ∷ ps)) h = let k = and-eq-true-iff p (all (q ∷ ps)) .0 h in (k .0, all-each (q ∷ ps) (k .1))
+all-each (p ∷ (q ∷ ps)) h = let k = and-eq-true-iff p (allTrue (q ∷ ps)) .0 h in (k .0, all-each (q ∷ ps) (k .1))
 
 -- the first test fails
-pub all-first : (p q : Bool) (ps : List Bool) → p ≡ false → all (p ∷ (q ∷ ps)) ≡ false
-unfolding all
+pub all-first : (p q : Bool) (ps : List Bool) → p ≡ false → allTrue (p ∷ (q ∷ ps)) ≡ false
+unfolding allTrue
 all-first p q ps h = rw h
 ''', '''
 -- ---- lists
@@ -357,7 +357,7 @@ same{0}-true a b h =
 {1}{2}
 
 pub same{0}-refl : (a : {0}) → same{0} a a ≡ true
-unfolding all same{0}
+unfolding allTrue same{0}
 {3}
 '''.format(name, lets, paths, clause('same%s-refl a' % name, selves)))
     write('specs/EqualityLaws.antt', *parts)
@@ -523,8 +523,8 @@ def equality_proofs():
         needs, known = requires(calls)
         apart = is_apart(fields)
         answer = 'returns-2' if apart else 'returns'
-        head = 'unfolding all same%s\n' % name
-        uses = ['Rattle.records.specs.Equality.{all, same%s}' % name]
+        head = 'unfolding allTrue same%s\n' % name
+        uses = ['Rattle.records.specs.Equality.{allTrue, same%s}' % name]
         if calls:
             # from the return back to each call: two steps for each comparison, and none where an array is lent; then seven for a call with
             # two lent arrays and three for one with two copied structs; one more to a test by itself
@@ -720,14 +720,14 @@ def zero_code():
 // the first is tested by itself: LLVM would make one test of them and take it apart byte by byte.
 ghost use mathlib.Core.Path.{_≡_};
 ghost use lib.ListN.{replicate};
-ghost use Rattle.identity.specs.Text.{all};
+ghost use Rattle.identity.specs.Text.{every};
 ghost use Rattle.records.specs.Blank.{%s};
 ghost use Rattle.records.specs.Equality.{eqList, %s};
 ghost use Rattle.records.specs.Representable.{isZero};
 %s''' % (BY, all_of('blank', PARTS), all_of('same', PARTS), use_rattle(PARTS)), '''
 // Whether every byte is zero.
 pub fn zeros(bytes: &[u8]) -> bool
-    ensures { λ r. ⌜ r ≡ all isZero (now (bytes .entry)) ⌝ }
+    ensures { λ r. ⌜ r ≡ every isZero (now (bytes .entry)) ⌝ }
 {
     let mut all = true;
     let mut i = 0;
@@ -812,8 +812,8 @@ def zero_proofs():
         needs, known = requires([zero_of(field) for field in asked])
         apart = is_apart(fields)
         answer = 'returns-2' if apart else 'returns'
-        head = 'unfolding all same%s blank%s\n' % (name, name)
-        blank, same = ['blank' + name], ['all', 'same' + name]
+        head = 'unfolding allTrue same%s blank%s\n' % (name, name)
+        blank, same = ['blank' + name], ['allTrue', 'same' + name]
         for field in asked:
             if field.kind == 'bytes':
                 same.append('eqBytes')
@@ -907,7 +907,7 @@ def zeros_proof():
         'native.Mathlib.Omega.{arith}',
         'lib.ListN.{length, getD, take}',
         'lib.Seq.{take-all}',
-        'Rattle.identity.specs.Text.{all as every}',
+        'Rattle.identity.specs.Text.{every}',
         'Rattle.identity.specs.TextLaws.{all-more}',
         'Rattle.records.specs.Representable.{isZero}',
     ], [

@@ -12,7 +12,7 @@ use lib.Dec.{leb, lit<}
 use borrow.Author.Tests.{le-leb, leb-true, leb-false}
 use Rattle.identity.specs.Answer.{numberOf}
 use Rattle.identity.specs.Identity.{isSlotId, isVoterIncarnation, isConfigurationEpoch, validateSlotId, validateVoterIncarnation}
-use Rattle.identity.specs.Text.{all, isUtf8}
+use Rattle.identity.specs.Text.{every, isUtf8}
 use Rattle.identity.specs.Utf8Laws.{and-right}
 use Rattle.identity.specs.declared.answer.Answer.{Answer}
 use Rattle.identity.specs.declared.answer.Answer.the-variants.{Accepted, InvalidSlot, InvalidIncarnation}
@@ -140,7 +140,7 @@ optionalLogId-tests c g =
     opt-tests logId blankVoterSlotLogId (c .cut) true (λ k. sameVoterSlotLogId k blankVoterSlotLogId) (λ k. refl) (sameVoterSlotLogId-refl blankVoterSlotLogId) (c .«is_some») (g .0)
 
 -- a text in a place of `bound` bytes
-zeros-tests : (k : ℕ) (a : List ℕ) → a ≡ replicate k 0 → all isZero a ≡ true
+zeros-tests : (k : ℕ) (a : List ℕ) → a ≡ replicate k 0 → every isZero a ≡ true
 zeros-tests k a e =
     sym (eqBytes-zeros a k (ap length e ∙ length-replicate k 0)) ∙ ap (λ b. eqBytes b (replicate k 0)) e ∙ eqBytes-refl (replicate k 0)
 

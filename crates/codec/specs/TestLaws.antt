@@ -8,10 +8,10 @@ use mathlib.Core.List.{List, [], _∷_}
 use lib.ListN.{take, drop}
 use lib.Dec.{leb}
 use Rattle.identity.specs.Identity.{isSlotId, isVoterIncarnation, isConfigurationEpoch}
-use Rattle.identity.specs.Text.{all, isUtf8}
+use Rattle.identity.specs.Text.{every, isUtf8}
 use Rattle.identity.specs.Utf8Laws.{and-left, and-right}
 use Rattle.records.specs.Blank.{blankVoterReplacementResult, blankVoterReplacementRecord}
-use Rattle.records.specs.Equality.{all as every, sameVoterReplacementResult, sameVoterReplacementRecord}
+use Rattle.records.specs.Equality.{allTrue, sameVoterReplacementResult, sameVoterReplacementRecord}
 use Rattle.records.specs.Records.{maxFixedVoterSlots, voting, uniform, superseded, storageLost, timeBoundLoss, allBelow, slotAt, memberAt}
 use Rattle.records.specs.Representable.{isZero, isText, representableSpiffeId, representableOptionalLogId, representableMember, representableResult, representableSlotRecord, memberPlace, slotPlace, representableConfiguration, representableAttestation, snapshotPart, representableEvidence, representableReplacement, representable}
 use Rattle.records.specs.declared.records.VoterSlotMember.{VoterSlotMember}
@@ -23,31 +23,31 @@ use Rattle.records.specs.declared.records.VoterReplacementEvidence.{VoterReplac
 use Rattle.records.specs.declared.records.VoterReplacementRecord.{VoterReplacementRecord}
 use Rattle.records.specs.declared.records.VoterSlotTable.{VoterSlotTable}
 
--- tests one by one; all of them at once is `all` of Equality
+-- tests one by one; all of them at once is `allTrue` of Equality
 abbrev pub Each : List Bool → Type 0
 Each [] = Unit {0}
 Each (p ∷ []) = p ≡ true
 Each (p ∷ (q ∷ ps)) = (p ≡ true) × Each (q ∷ ps)
 
-each : (ps : List Bool) → every ps ≡ true → Each ps
-unfolding every
+each : (ps : List Bool) → allTrue ps ≡ true → Each ps
+unfolding allTrue
 each [] h = tt
 each (p ∷ []) h = h
-each (p ∷ (q ∷ ps)) h = (and-left p (every (q ∷ ps)) h, each (q ∷ ps) (and-right p (every (q ∷ ps)) h))
+each (p ∷ (q ∷ ps)) h = (and-left p (allTrue (q ∷ ps)) h, each (q ∷ ps) (and-right p (allTrue (q ∷ ps)) h))
 
 pub and-both : (p q : Bool) → p ≡ true → q ≡ true → (p && q) ≡ true
 and-both true q h k = k
 and-both false q h k = h
 
-passed : (ps : List Bool) → Each ps → every ps ≡ true
-unfolding every
+passed : (ps : List Bool) → Each ps → allTrue ps ≡ true
+unfolding allTrue
 passed [] h = refl
 passed (p ∷ []) h = h
-passed (p ∷ (q ∷ ps)) h = and-both p (every (q ∷ ps)) (h .0) (passed (q ∷ ps) (h .1))
+passed (p ∷ (q ∷ ps)) h = and-both p (allTrue (q ∷ ps)) (h .0) (passed (q ∷ ps) (h .1))
 
 -- a test that is all of these at once: what it says where it is passed, and what passes it
 pub record MadeOf (ps : List Bool) (test : Bool) : Type 0 where
-  pub is : test ≡ every ps
+  pub is : test ≡ allTrue ps
 
 module _ {ps : List Bool} {test : Bool} (made : MadeOf ps test) where
   pub says : test ≡ true → Each ps
@@ -60,9 +60,9 @@ module _ {ps : List Bool} {test : Bool} (made : MadeOf ps test) where
 pub text-is : (most len : ℕ) (bytes : List ℕ) → MadeOf (
     leb len most
     ∷ isUtf8 (take len bytes)
-    ∷ all isZero (drop len bytes)
+    ∷ every isZero (drop len bytes)
     ∷ []) (isText most len bytes)
-unfolding isText every
+unfolding isText allTrue
 text-is most len bytes = record { is = refl }
 
 -- a member: slot, incarnation
@@ -70,7 +70,7 @@ pub member-is : (m : VoterSlotMember) → MadeOf (
     isSlotId (m .identity .slot)
     ∷ isVoterIncarnation (m .identity .incarnation)
     ∷ []) (representableMember m)
-unfolding representableMember every
+unfolding representableMember allTrue
 member-is m = record { is = refl }
 
 -- a receipt: incarnation, epoch, kind
@@ -79,7 +79,7 @@ pub result-is : (r : VoterReplacementResult) → MadeOf (
     ∷ isConfigurationEpoch (r .«configuration_epoch»)
     ∷ leb (r .kind) superseded
     ∷ []) (representableResult r)
-unfolding representableResult every
+unfolding representableResult allTrue
 result-is r = record { is = refl }
 
 -- a slot: member, phase, receipt
@@ -88,7 +88,7 @@ pub slot-is : (s : VoterSlotRecord) → MadeOf (
     ∷ leb (s .phase) voting
     ∷ cond (s .«has_last_result») (representableResult (s .«last_result»)) (sameVoterReplacementResult (s .«last_result») blankVoterReplacementResult)
     ∷ []) (representableSlotRecord s)
-unfolding representableSlotRecord every
+unfolding representableSlotRecord allTrue
 slot-is s = record { is = refl }
 
 -- a configuration: epoch, count, places
@@ -97,7 +97,7 @@ pub configuration-is : (c : VoterConfiguration) → MadeOf (
     ∷ leb (c .count) maxFixedVoterSlots
     ∷ allBelow (λ i. memberPlace (leb (c .count) i) (memberAt c i)) maxFixedVoterSlots
     ∷ []) (representableConfiguration c)
-unfolding representableConfiguration every
+unfolding representableConfiguration allTrue
 configuration-is c = record { is = refl }
 
 -- an attestation: slot, incarnation, both names, reason
@@ -108,7 +108,7 @@ pub attestation-is : (a : LostVoterAttestationV1) → MadeOf (
     ∷ representableSpiffeId (a .«controller_spiffe_id»)
     ∷ (leb storageLost (a .reason) && leb (a .reason) timeBoundLoss)
     ∷ []) (representableAttestation a)
-unfolding representableAttestation every
+unfolding representableAttestation allTrue
 attestation-is a = record { is = refl }
 
 -- the evidence: snapshot, six cuts
@@ -121,7 +121,7 @@ pub evidence-is : (e : VoterReplacementEvidence) → MadeOf (
     ∷ representableOptionalLogId (e .joint)
     ∷ representableOptionalLogId (e .uniform)
     ∷ []) (representableEvidence e)
-unfolding representableEvidence every
+unfolding representableEvidence allTrue
 evidence-is e = record { is = refl }
 
 -- an open request: attestation, both configurations, phase, evidence
@@ -132,7 +132,7 @@ pub replacement-is : (r : VoterReplacementRecord) → MadeOf (
     ∷ leb (r .phase) uniform
     ∷ representableEvidence (r .evidence)
     ∷ []) (representableReplacement r)
-unfolding representableReplacement every
+unfolding representableReplacement allTrue
 replacement-is r = record { is = refl }
 
 -- a table: epoch, count, places, open request
@@ -142,5 +142,5 @@ pub table-is : (t : VoterSlotTable) → MadeOf (
     ∷ allBelow (λ i. slotPlace (leb (t .count) i) (slotAt t i)) maxFixedVoterSlots
     ∷ cond (t .«has_replacement») (representableReplacement (t .replacement)) (sameVoterReplacementRecord (t .replacement) blankVoterReplacementRecord)
     ∷ []) (representable t)
-unfolding representable every
+unfolding representable allTrue
 table-is t = record { is = refl }

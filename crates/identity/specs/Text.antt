@@ -70,17 +70,17 @@ isDomainByte b =
 abbrev pub isSegmentByte : ℕ → Bool
 isSegmentByte b = (leb 65 b && leb b 90) || isDomainByte b
 
-unfoldable pub all : (ℕ → Bool) → List ℕ → Bool
-all p [] = true
-all p (b ∷ s) = p b && all p s
+unfoldable pub every : (ℕ → Bool) → List ℕ → Bool
+every p [] = true
+every p (b ∷ s) = p b && every p s
 
 -- "a trust domain of 1 to 255 bytes"
 abbrev pub isTrustDomain : List ℕ → Bool
-isTrustDomain d = (leb 1 (length d) && leb (length d) 255) && all isDomainByte d
+isTrustDomain d = (leb 1 (length d) && leb (length d) 255) && every isDomainByte d
 
 -- "each a slash and one or more of .."
 abbrev pub isSegment : List ℕ → Bool
-isSegment g = leb 1 (length g) && all isSegmentByte g
+isSegment g = leb 1 (length g) && every isSegmentByte g
 
 abbrev pub slash : ℕ
 slash = 47

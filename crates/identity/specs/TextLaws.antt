@@ -11,9 +11,9 @@ use lib.ListN.{length, getD, take, drop}
 use lib.Seq.{drop-cons}
 use lib.Dec.{eqb, leb, ltb}
 use borrow.Author.Tests.{not-true, ltb-true, ltb-false, lt-ltb, leb-true, le-leb, lt-leb, ne-eqb}
-use Rattle.identity.specs.Utf8.{Range, range, within, charsFrom, allChars}
+use Rattle.identity.specs.Utf8.{Range, octets, within, charsFrom, allChars}
 use Rattle.identity.specs.Utf8Laws.{and-left, and-right, decoded-one, chars-end, chars-more}
-use Rattle.identity.specs.Text.{isIn, whiteSpace, allows, all, startsWith, isDomainByte, isSegmentByte, prepend, split, allSegments, areStrictParts}
+use Rattle.identity.specs.Text.{isIn, whiteSpace, allows, every, startsWith, isDomainByte, isSegmentByte, prepend, split, allSegments, areStrictParts}
 use Rattle.identity.specs.declared.text.Allowed.{Allowed}
 use Rattle.identity.specs.declared.text.Allowed.the-variants.{Any, NoControl, NoControlNoWhitespace}
 use Rattle.identity.specs.declared.text.Part.{Part}
@@ -42,13 +42,13 @@ in-suc (x ∷ l) code (suc i) h =
 pub in-more : (l : List ℕ) (code i : ℕ) → i < length l → isIn (take (i + 1) l) code ≡ (isIn (take i l) code || eqb (getD l i 0) code)
 in-more l code i h = rw add-one (in-suc l code i h)
 
-all-suc : (p : ℕ → Bool) (l : List ℕ) (i : ℕ) → i < length l → all p (take (suc i) l) ≡ (all p (take i l) && p (getD l i 0))
-unfolding all
+all-suc : (p : ℕ → Bool) (l : List ℕ) (i : ℕ) → i < length l → every p (take (suc i) l) ≡ (every p (take i l) && p (getD l i 0))
+unfolding every
 all-suc p [] i h = absurd (omega arith)
 all-suc p (x ∷ l) zero h = and-true (p x)
-all-suc p (x ∷ l) (suc i) h = rw (all-suc p l i (omega arith)) (sym (and-assoc (p x) (all p (take i l)) (p (getD l i 0))))
+all-suc p (x ∷ l) (suc i) h = rw (all-suc p l i (omega arith)) (sym (and-assoc (p x) (every p (take i l)) (p (getD l i 0))))
 
-pub all-more : (p : ℕ → Bool) (l : List ℕ) (i : ℕ) → i < length l → all p (take (i + 1) l) ≡ (all p (take i l) && p (getD l i 0))
+pub all-more : (p : ℕ → Bool) (l : List ℕ) (i : ℕ) → i < length l → every p (take (i + 1) l) ≡ (every p (take i l) && p (getD l i 0))
 all-more p l i h = rw add-one (all-suc p l i h)
 
 starts-suc : (s p : List ℕ) (i : ℕ) → i < length s → i < length p
@@ -87,36 +87,36 @@ abbrev pub outside : ℕ → ℕ → ℕ → Bool
 outside low high c = not (between low high c)
 
 -- A list whose numbers are all outside a range has none that is between its ends.
-pub none-between : (low high code : ℕ) (l : List ℕ) → all (outside low high) l ≡ true → between low high code ≡ true → isIn l code ≡ false
-unfolding all isIn
+pub none-between : (low high code : ℕ) (l : List ℕ) → every (outside low high) l ≡ true → between low high code ≡ true → isIn l code ≡ false
+unfolding every isIn
 none-between low high code [] o h = refl
 none-between low high code (c ∷ l) o h =
-    rw (ne-eqb c code other) (none-between low high code l (and-right (outside low high c) (all (outside low high) l) o) h)
+    rw (ne-eqb c code other) (none-between low high code l (and-right (outside low high c) (every (outside low high) l) o) h)
   where
     other : c ≡ code → ⊥
     other e =
-        let n : between low high c ≡ false = not-true (between low high c) (and-left (outside low high c) (all (outside low high) l) o) in
+        let n : between low high c ≡ false = not-true (between low high c) (and-left (outside low high c) (every (outside low high) l) o) in
         let z : _≡_ {A = ℕ} 0 1 = cc (ap (between low high) e) in
         omega arith
 
 -- ---- text that is all ASCII
 
 module _ (p : ℕ → Bool) (r : Range) (good : (b : ℕ) → within r b ≡ true → (b ≤ 0x7F) × (p b ≡ true)) where
-  ascii-from : (s : List ℕ) → all (within r) s ≡ true → charsFrom p (length s) s ≡ true
-  unfolding all
+  ascii-from : (s : List ℕ) → every (within r) s ≡ true → charsFrom p (length s) s ≡ true
+  unfolding every
   ascii-from [] h = chars-end p 0 [] refl
   ascii-from (b ∷ t) h =
-      let g = good b (and-left (within r b) (all (within r) t) h) in
+      let g = good b (and-left (within r b) (every (within r) t) h) in
       chars-more p (length t) (b ∷ t) b 1 (omega arith) (decoded-one (b ∷ t) (omega arith) (g .0))
-      ∙ rw (g .1) (ascii-from t (and-right (within r b) (all (within r) t) h))
+      ∙ rw (g .1) (ascii-from t (and-right (within r b) (every (within r) t) h))
 
-  pub ascii-chars : (s : List ℕ) → all (within r) s ≡ true → allChars p s ≡ true
+  pub ascii-chars : (s : List ℕ) → every (within r) s ≡ true → allChars p s ≡ true
   unfolding allChars
   ascii-chars s h = ascii-from s h
 
 -- Every byte of a rule's ASCII range is a character that the rule allows.
-pub ascii-allowed : (rule : Allowed) (b : ℕ) → within (range (firstAscii rule) (lastAscii rule)) b ≡ true → (b ≤ 0x7F) × (allows rule b ≡ true)
-unfolding all
+pub ascii-allowed : (rule : Allowed) (b : ℕ) → within (octets (firstAscii rule) (lastAscii rule)) b ≡ true → (b ≤ 0x7F) × (allows rule b ≡ true)
+unfolding every
 ascii-allowed Any b h = (leb-true b 0x7F (and-right (leb 0 b) (leb b 0x7F) h), refl)
 ascii-allowed NoControl b h =
     let l : 0x20 ≤ b = leb-true 0x20 b (and-left (leb 0x20 b) (leb b 0x7E) h) in
@@ -196,22 +196,22 @@ and-swap : (p q r : Bool) → (p && (q && r)) ≡ (q && (p && r))
 and-swap true q r = refl
 and-swap false q r = sym (and-false q)
 
-segment-fits : (m n : ℕ) (g : List ℕ) → n + length g ≡ m → partFits false n g ≡ (leb 1 m && all isSegmentByte g)
-unfolding all
+segment-fits : (m n : ℕ) (g : List ℕ) → n + length g ≡ m → partFits false n g ≡ (leb 1 m && every isSegmentByte g)
+unfolding every
 segment-fits m n [] e = let f : n ≡ m = omega arith in rw f (sym (and-true (leb 1 m)))
-segment-fits m n (b ∷ g) e = rw (segment-fits m (n + 1) g (omega arith)) (and-swap (isSegmentByte b) (leb 1 m) (all isSegmentByte g))
+segment-fits m n (b ∷ g) e = rw (segment-fits m (n + 1) g (omega arith)) (and-swap (isSegmentByte b) (leb 1 m) (every isSegmentByte g))
 
-domain-fits : (m n : ℕ) (g : List ℕ) → n + length g ≡ m → n ≤ 255 → partFits true n g ≡ ((leb 1 m && leb m 255) && all isDomainByte g)
-unfolding all
+domain-fits : (m n : ℕ) (g : List ℕ) → n + length g ≡ m → n ≤ 255 → partFits true n g ≡ ((leb 1 m && leb m 255) && every isDomainByte g)
+unfolding every
 domain-fits m n [] e h =
     let f : n ≡ m = omega arith in
     rw (f, le-leb m 255 (omega arith)) (sym (and-true (leb 1 m && true) ∙ and-true (leb 1 m)))
 domain-fits m n (b ∷ g) e h = by (ltb n 255) refl (λ k. domain-fits m (n + 1) g (omega arith) k)
   where
-    by : (t : Bool) → ltb n 255 ≡ t → (n + 1 ≤ 255 → partFits true (n + 1) g ≡ ((leb 1 m && leb m 255) && all isDomainByte g))
-        → ((isDomainByte b && t) && partFits true (n + 1) g) ≡ ((leb 1 m && leb m 255) && (isDomainByte b && all isDomainByte g))
+    by : (t : Bool) → ltb n 255 ≡ t → (n + 1 ≤ 255 → partFits true (n + 1) g ≡ ((leb 1 m && leb m 255) && every isDomainByte g))
+        → ((isDomainByte b && t) && partFits true (n + 1) g) ≡ ((leb 1 m && leb m 255) && (isDomainByte b && every isDomainByte g))
     by true k rest =
-        rw (and-true, rest (omega (arith, ltb-true n 255 k))) (and-swap (isDomainByte b) (leb 1 m && leb m 255) (all isDomainByte g))
+        rw (and-true, rest (omega (arith, ltb-true n 255 k))) (and-swap (isDomainByte b) (leb 1 m && leb m 255) (every isDomainByte g))
     by false k rest = rw (lt-leb m 255 (omega (arith, ltb-false n 255 k)), and-false (isDomainByte b), and-false (leb 1 m))
 
 rest-segments : (l : List (List ℕ)) → restFits false 0 l ≡ allSegments l

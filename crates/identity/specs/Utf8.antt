@@ -14,28 +14,28 @@ pub record Range : Type 0 where
   pub low : ℕ
   pub high : ℕ
 
-abbrev pub range : ℕ → ℕ → Range
-range low high = record { low = low; high = high }
+abbrev pub octets : ℕ → ℕ → Range
+octets low high = record { low = low; high = high }
 
 abbrev pub within : Range → ℕ → Bool
 within r b = leb (r .low) b && leb b (r .high)
 
 -- UTF8-tail = %x80-BF
-abbrev pub tail : Range
-tail = range 0x80 0xBF
+abbrev pub utf8Tail : Range
+utf8Tail = octets 0x80 0xBF
 
 -- UTF8-char = UTF8-1 / UTF8-2 / UTF8-3 / UTF8-4: each alternative of the grammar, in its order, as the ranges of its bytes.
 abbrev pub utf8Char : List (List Range)
 utf8Char =
-    (range 0x00 0x7F ∷ [])
-    ∷ (range 0xC2 0xDF ∷ tail ∷ [])
-    ∷ (range 0xE0 0xE0 ∷ range 0xA0 0xBF ∷ tail ∷ [])
-    ∷ (range 0xE1 0xEC ∷ tail ∷ tail ∷ [])
-    ∷ (range 0xED 0xED ∷ range 0x80 0x9F ∷ tail ∷ [])
-    ∷ (range 0xEE 0xEF ∷ tail ∷ tail ∷ [])
-    ∷ (range 0xF0 0xF0 ∷ range 0x90 0xBF ∷ tail ∷ tail ∷ [])
-    ∷ (range 0xF1 0xF3 ∷ tail ∷ tail ∷ tail ∷ [])
-    ∷ (range 0xF4 0xF4 ∷ range 0x80 0x8F ∷ tail ∷ tail ∷ [])
+    (octets 0x00 0x7F ∷ [])
+    ∷ (octets 0xC2 0xDF ∷ utf8Tail ∷ [])
+    ∷ (octets 0xE0 0xE0 ∷ octets 0xA0 0xBF ∷ utf8Tail ∷ [])
+    ∷ (octets 0xE1 0xEC ∷ utf8Tail ∷ utf8Tail ∷ [])
+    ∷ (octets 0xED 0xED ∷ octets 0x80 0x9F ∷ utf8Tail ∷ [])
+    ∷ (octets 0xEE 0xEF ∷ utf8Tail ∷ utf8Tail ∷ [])
+    ∷ (octets 0xF0 0xF0 ∷ octets 0x90 0xBF ∷ utf8Tail ∷ utf8Tail ∷ [])
+    ∷ (octets 0xF1 0xF3 ∷ utf8Tail ∷ utf8Tail ∷ utf8Tail ∷ [])
+    ∷ (octets 0xF4 0xF4 ∷ octets 0x80 0x8F ∷ utf8Tail ∷ utf8Tail ∷ [])
     ∷ []
 
 -- The front of s has a byte in each range of the alternative, in order.

@@ -9,7 +9,7 @@ use native.Mathlib.Omega.{arith}
 use lib.ListN.{length, getD, take, drop}
 use lib.Dec.{eqb, leb, ltb}
 use borrow.Author.Tests.{ltb-true, leb-true, leb-false, le-leb, lt-leb, eq-eqb, ne-eqb}
-use Rattle.identity.specs.Utf8.{Range, range, within, tail, utf8Char, fits, widthIn, charWidth, codePoint, decodedOf, decoded, charsFrom}
+use Rattle.identity.specs.Utf8.{Range, octets, within, utf8Tail, utf8Char, fits, widthIn, charWidth, codePoint, decodedOf, decoded, charsFrom}
 use Rattle.identity.specs.declared.utf8.Decoded.{Decoded}
 use Rattle.identity.specs.declared.utf8.Decoded.the-variants.{Char, Malformed}
 
@@ -84,19 +84,19 @@ unfolding fits
 fits-one r z [] = sym z
 fits-one r z (b ∷ t) = and-true (within r b)
 
-fits-two : (r : Range) → within r 0 ≡ false → (t : List ℕ) → fits (r ∷ tail ∷ []) t ≡ (within r (getD t 0 0) && within tail (getD t 1 0))
+fits-two : (r : Range) → within r 0 ≡ false → (t : List ℕ) → fits (r ∷ utf8Tail ∷ []) t ≡ (within r (getD t 0 0) && within utf8Tail (getD t 1 0))
 unfolding fits
 fits-two r z [] = rw z
 fits-two r z (b ∷ []) = refl
-fits-two r z (b ∷ c ∷ t) = rw (and-true (within tail c))
+fits-two r z (b ∷ c ∷ t) = rw (and-true (within utf8Tail c))
 
 fits-three : (r : Range) → within r 0 ≡ false → (t : List ℕ)
-    → fits (r ∷ tail ∷ tail ∷ []) t ≡ (within r (getD t 0 0) && (within tail (getD t 1 0) && within tail (getD t 2 0)))
+    → fits (r ∷ utf8Tail ∷ utf8Tail ∷ []) t ≡ (within r (getD t 0 0) && (within utf8Tail (getD t 1 0) && within utf8Tail (getD t 2 0)))
 unfolding fits
 fits-three r z [] = rw z
 fits-three r z (b ∷ []) = refl
 fits-three r z (b ∷ c ∷ []) = refl
-fits-three r z (b ∷ c ∷ d ∷ t) = rw (and-true (within tail d))
+fits-three r z (b ∷ c ∷ d ∷ t) = rw (and-true (within utf8Tail d))
 
 -- ---- what stands at the front, by the range of the lead byte
 
@@ -107,17 +107,17 @@ abbrev pub secondHigh : ℕ → ℕ
 secondHigh lead = cond (eqb lead 0xED) 0x9F (cond (eqb lead 0xF4) 0x8F 0xBF)
 
 abbrev pub second : ℕ → Range
-second lead = range (secondLow lead) (secondHigh lead)
+second lead = octets (secondLow lead) (secondHigh lead)
 
 abbrev pub two : ℕ → ℕ → Decoded
-two a b = cond (within tail b) (Char (a % 32 * 64 + b % 64) 2) Malformed
+two a b = cond (within utf8Tail b) (Char (a % 32 * 64 + b % 64) 2) Malformed
 
 abbrev pub three : ℕ → ℕ → ℕ → Decoded
-three a b c = cond (within (second a) b && within tail c) (Char ((a % 16 * 64 + b % 64) * 64 + c % 64) 3) Malformed
+three a b c = cond (within (second a) b && within utf8Tail c) (Char ((a % 16 * 64 + b % 64) * 64 + c % 64) 3) Malformed
 
 abbrev pub four : ℕ → ℕ → ℕ → ℕ → Decoded
 four a b c d =
-    cond (within (second a) b && (within tail c && within tail d)) (Char (((a % 8 * 64 + b % 64) * 64 + c % 64) * 64 + d % 64) 4)
+    cond (within (second a) b && (within utf8Tail c && within utf8Tail d)) (Char (((a % 8 * 64 + b % 64) * 64 + c % 64) * 64 + d % 64) 4)
     Malformed
 
 by-width : (t : Bool) (w : ℕ) (s : List ℕ) → decodedOf (cond t (suc w) 0) s ≡ cond t (Char (codePoint (suc w) s) (suc w)) Malformed
@@ -127,7 +127,7 @@ by-width false w s = refl
 module _ (b : ℕ) (t : List ℕ) where
   one-byte : b ≤ 0x7F → decoded (b ∷ t) ≡ Char b 1
   unfolding decoded fits
-  one-byte h = rw (picked b t [] (range 0x00 0x7F) [] (drop 1 utf8Char) refl refl (omega arith) h)
+  one-byte h = rw (picked b t [] (octets 0x00 0x7F) [] (drop 1 utf8Char) refl refl (omega arith) h)
 
   no-lead : 0x7F < b → b < 0xC2 → decoded (b ∷ t) ≡ Malformed
   unfolding decoded
@@ -143,24 +143,24 @@ module _ (b : ℕ) (t : List ℕ) where
 
   two-bytes : 0xC2 ≤ b → b ≤ 0xDF → decoded (b ∷ t) ≡ two b (getD t 0 0)
   unfolding decoded
-  two-bytes h k = rw (picked b t (take 1 utf8Char) (range 0xC2 0xDF) (tail ∷ []) (drop 2 utf8Char) refl refl h k, fits-one tail refl t) (by-width (within tail (getD t 0 0)) 1 (b ∷ t))
+  two-bytes h k = rw (picked b t (take 1 utf8Char) (octets 0xC2 0xDF) (utf8Tail ∷ []) (drop 2 utf8Char) refl refl h k, fits-one utf8Tail refl t) (by-width (within utf8Tail (getD t 0 0)) 1 (b ∷ t))
 
   -- of three bytes, whatever the bounds of the second
-  three-by : (r : Range) → charWidth (b ∷ t) ≡ cond (fits (r ∷ tail ∷ []) t) 3 0 → within r 0 ≡ false → r ≡ second b
+  three-by : (r : Range) → charWidth (b ∷ t) ≡ cond (fits (r ∷ utf8Tail ∷ []) t) 3 0 → within r 0 ≡ false → r ≡ second b
       → decoded (b ∷ t) ≡ three b (getD t 0 0) (getD t 1 0)
   unfolding decoded
   three-by r e z s =
-      rw (e, fits-two r z t, s) (by-width (within (second b) (getD t 0 0) && within tail (getD t 1 0)) 2 (b ∷ t))
+      rw (e, fits-two r z t, s) (by-width (within (second b) (getD t 0 0) && within utf8Tail (getD t 1 0)) 2 (b ∷ t))
 
-  four-by : (r : Range) → charWidth (b ∷ t) ≡ cond (fits (r ∷ tail ∷ tail ∷ []) t) 4 0 → within r 0 ≡ false → r ≡ second b
+  four-by : (r : Range) → charWidth (b ∷ t) ≡ cond (fits (r ∷ utf8Tail ∷ utf8Tail ∷ []) t) 4 0 → within r 0 ≡ false → r ≡ second b
       → decoded (b ∷ t) ≡ four b (getD t 0 0) (getD t 1 0) (getD t 2 0)
   unfolding decoded
   four-by r e z s =
       rw (e, fits-three r z t, s)
-      (by-width (within (second b) (getD t 0 0) && (within tail (getD t 1 0) && within tail (getD t 2 0))) 3 (b ∷ t))
+      (by-width (within (second b) (getD t 0 0) && (within utf8Tail (getD t 1 0) && within utf8Tail (getD t 2 0))) 3 (b ∷ t))
 
   -- the bounds of the second byte behind a lead that is none of the four
-  plain-second : (b ≡ 0xE0 → ⊥) → (b ≡ 0xF0 → ⊥) → (b ≡ 0xED → ⊥) → (b ≡ 0xF4 → ⊥) → tail ≡ second b
+  plain-second : (b ≡ 0xE0 → ⊥) → (b ≡ 0xF0 → ⊥) → (b ≡ 0xED → ⊥) → (b ≡ 0xF4 → ⊥) → utf8Tail ≡ second b
   plain-second h k m n = rw (ne-eqb b 0xE0 h, ne-eqb b 0xF0 k, ne-eqb b 0xED m, ne-eqb b 0xF4 n)
 
   second-at : (n : ℕ) → b ≡ n → second n ≡ second b
@@ -169,20 +169,20 @@ module _ (b : ℕ) (t : List ℕ) where
   three-bytes : 0xE0 ≤ b → b ≤ 0xEF → decoded (b ∷ t) ≡ three b (getD t 0 0) (getD t 1 0)
   three-bytes h k =
       by-bound b 0xE0
-      (λ m. three-by (range 0xA0 0xBF) (picked b t (take 2 utf8Char) (range 0xE0 0xE0) (range 0xA0 0xBF ∷ tail ∷ []) (drop 3 utf8Char) refl refl h m) refl (second-at 0xE0 (omega arith)))
+      (λ m. three-by (octets 0xA0 0xBF) (picked b t (take 2 utf8Char) (octets 0xE0 0xE0) (octets 0xA0 0xBF ∷ utf8Tail ∷ []) (drop 3 utf8Char) refl refl h m) refl (second-at 0xE0 (omega arith)))
       (λ l. by-bound b 0xEC
-      (λ m. three-by tail (picked b t (take 3 utf8Char) (range 0xE1 0xEC) (tail ∷ tail ∷ []) (drop 4 utf8Char) refl refl l m) refl (plain-second (omega arith) (omega arith) (omega arith) (omega arith)))
+      (λ m. three-by utf8Tail (picked b t (take 3 utf8Char) (octets 0xE1 0xEC) (utf8Tail ∷ utf8Tail ∷ []) (drop 4 utf8Char) refl refl l m) refl (plain-second (omega arith) (omega arith) (omega arith) (omega arith)))
       (λ l. by-bound b 0xED
-      (λ m. three-by (range 0x80 0x9F) (picked b t (take 4 utf8Char) (range 0xED 0xED) (range 0x80 0x9F ∷ tail ∷ []) (drop 5 utf8Char) refl refl l m) refl (second-at 0xED (omega arith)))
-      (λ l. three-by tail (picked b t (take 5 utf8Char) (range 0xEE 0xEF) (tail ∷ tail ∷ []) (drop 6 utf8Char) refl refl l k) refl (plain-second (omega arith) (omega arith) (omega arith) (omega arith)))))
+      (λ m. three-by (octets 0x80 0x9F) (picked b t (take 4 utf8Char) (octets 0xED 0xED) (octets 0x80 0x9F ∷ utf8Tail ∷ []) (drop 5 utf8Char) refl refl l m) refl (second-at 0xED (omega arith)))
+      (λ l. three-by utf8Tail (picked b t (take 5 utf8Char) (octets 0xEE 0xEF) (utf8Tail ∷ utf8Tail ∷ []) (drop 6 utf8Char) refl refl l k) refl (plain-second (omega arith) (omega arith) (omega arith) (omega arith)))))
 
   four-bytes : 0xF0 ≤ b → b ≤ 0xF4 → decoded (b ∷ t) ≡ four b (getD t 0 0) (getD t 1 0) (getD t 2 0)
   four-bytes h k =
       by-bound b 0xF0
-      (λ m. four-by (range 0x90 0xBF) (picked b t (take 6 utf8Char) (range 0xF0 0xF0) (range 0x90 0xBF ∷ tail ∷ tail ∷ []) (drop 7 utf8Char) refl refl h m) refl (second-at 0xF0 (omega arith)))
+      (λ m. four-by (octets 0x90 0xBF) (picked b t (take 6 utf8Char) (octets 0xF0 0xF0) (octets 0x90 0xBF ∷ utf8Tail ∷ utf8Tail ∷ []) (drop 7 utf8Char) refl refl h m) refl (second-at 0xF0 (omega arith)))
       (λ l. by-bound b 0xF3
-      (λ m. four-by tail (picked b t (take 7 utf8Char) (range 0xF1 0xF3) (tail ∷ tail ∷ tail ∷ []) (drop 8 utf8Char) refl refl l m) refl (plain-second (omega arith) (omega arith) (omega arith) (omega arith)))
-      (λ l. four-by (range 0x80 0x8F) (picked b t (take 8 utf8Char) (range 0xF4 0xF4) (range 0x80 0x8F ∷ tail ∷ tail ∷ []) [] refl refl l k) refl (second-at 0xF4 (omega arith))))
+      (λ m. four-by utf8Tail (picked b t (take 7 utf8Char) (octets 0xF1 0xF3) (utf8Tail ∷ utf8Tail ∷ utf8Tail ∷ []) (drop 8 utf8Char) refl refl l m) refl (plain-second (omega arith) (omega arith) (omega arith) (omega arith)))
+      (λ l. four-by (octets 0x80 0x8F) (picked b t (take 8 utf8Char) (octets 0xF4 0xF4) (octets 0x80 0x8F ∷ utf8Tail ∷ utf8Tail ∷ []) [] refl refl l k) refl (second-at 0xF4 (omega arith))))
 
 -- The same of a list that is not empty, as the code reads it.
 pub decoded-none : (s : List ℕ) → length s ≡ 0 → decoded s ≡ Malformed

@@ -8,8 +8,8 @@
 ghost use mathlib.Core.Path.{_≡_};
 ghost use Prim.Native.Nat.{_+_, _<_, _≤_};
 ghost use lib.ListN.{length};
-ghost use Rattle.identity.specs.Utf8.{range, within, allChars};
-ghost use Rattle.identity.specs.Text.{isControl, isIn, isWhitespace, allows, isUtf8, all, startsWith, isName, isSnapshotId, isDomainByte, isSegmentByte, split, areStrictParts, isStrictName};
+ghost use Rattle.identity.specs.Utf8.{octets, within, allChars};
+ghost use Rattle.identity.specs.Text.{isControl, isIn, isWhitespace, allows, isUtf8, every, startsWith, isName, isSnapshotId, isDomainByte, isSegmentByte, split, areStrictParts, isStrictName};
 ghost use Rattle.identity.specs.TextLaws.{firstAscii, lastAscii, nextPart};
 use crate::utf8::Decoded;
 use crate::utf8::decode;
@@ -194,7 +194,7 @@ fn last_ascii(rule: Allowed) -> u8
 
 // No early exit, so that sixteen bytes are compared at once.
 fn all_within(bytes: &[u8], low: u8, high: u8) -> bool
-    ensures { λ r. ⌜ r ≡ all (within (range low high)) (now (bytes .entry)) ⌝ }
+    ensures { λ r. ⌜ r ≡ every (within (octets low high)) (now (bytes .entry)) ⌝ }
 {
     let mut all = true;
     let mut i = 0;

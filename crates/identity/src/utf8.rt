@@ -2,7 +2,7 @@
 // `str` for this.
 ghost use mathlib.Core.Path.{_≡_};
 ghost use lib.ListN.{getD};
-ghost use Rattle.identity.specs.Utf8.{within, tail, decoded};
+ghost use Rattle.identity.specs.Utf8.{within, utf8Tail, decoded};
 ghost use Rattle.identity.specs.Utf8Laws.{secondLow, secondHigh, two, three, four};
 
 // What stands at the front of some bytes.
@@ -49,7 +49,7 @@ fn byte_at(bytes: &[u8], i: usize) -> u8
 
 // Every byte behind the second is one of these.
 fn is_tail(b: u8) -> bool
-    ensures { λ r. ⌜ r ≡ within tail b ⌝ }
+    ensures { λ r. ⌜ r ≡ within utf8Tail b ⌝ }
 {
     (0x80 <= b) & (b <= 0xBF)
 }

@@ -21,10 +21,10 @@ use Rattle.records.specs.declared.records.VoterReplacementRecord.{VoterR
 use Rattle.records.specs.declared.records.VoterSlotTable.{VoterSlotTable}
 
 -- every test of a list holds
-unfoldable pub all : List Bool → Bool
-all [] = true
-all (p ∷ []) = p
-all (p ∷ (q ∷ ps)) = p && all (q ∷ ps)
+unfoldable pub allTrue : List Bool → Bool
+allTrue [] = true
+allTrue (p ∷ []) = p
+allTrue (p ∷ (q ∷ ps)) = p && allTrue (q ∷ ps)
 
 -- two lists of one length, element by element
 unfoldable pub eqList : {A : Type 0} → (A → A → Bool) → List A → List A → Bool
@@ -38,42 +38,42 @@ eqBytes a b = eqList eqb a b
 
 unfoldable pub sameVoterSlotIdentity : VoterSlotIdentity → VoterSlotIdentity → Bool
 sameVoterSlotIdentity a b =
-    all
+    allTrue
     (eqb (a .slot) (b .slot)
     ∷ eqb (a .incarnation) (b .incarnation)
     ∷ [])
 
 unfoldable pub sameSpiffeId : SpiffeId → SpiffeId → Bool
 sameSpiffeId a b =
-    all
+    allTrue
     (eqb (a .len) (b .len)
     ∷ eqBytes (a .bytes) (b .bytes)
     ∷ [])
 
 unfoldable pub sameSnapshotId : SnapshotId → SnapshotId → Bool
 sameSnapshotId a b =
-    all
+    allTrue
     (eqb (a .len) (b .len)
     ∷ eqBytes (a .bytes) (b .bytes)
     ∷ [])
 
 unfoldable pub sameVoterSlotLogId : VoterSlotLogId → VoterSlotLogId → Bool
 sameVoterSlotLogId a b =
-    all
+    allTrue
     (eqb (a .term) (b .term)
     ∷ eqb (a .index) (b .index)
     ∷ [])
 
 unfoldable pub sameOptionalLogId : OptionalLogId → OptionalLogId → Bool
 sameOptionalLogId a b =
-    all
+    allTrue
     (Bool·beq (a .«is_some») (b .«is_some»)
     ∷ sameVoterSlotLogId (a .cut) (b .cut)
     ∷ [])
 
 unfoldable pub sameVoterSlotMember : VoterSlotMember → VoterSlotMember → Bool
 sameVoterSlotMember a b =
-    all
+    allTrue
     (sameVoterSlotIdentity (a .identity) (b .identity)
     ∷ eqBytes (a .«key_digest») (b .«key_digest»)
     ∷ eqBytes (a .«descriptor_digest») (b .«descriptor_digest»)
@@ -82,7 +82,7 @@ sameVoterSlotMember a b =
 
 unfoldable pub sameVoterReplacementResult : VoterReplacementResult → VoterReplacementResult → Bool
 sameVoterReplacementResult a b =
-    all
+    allTrue
     (eqBytes (a .«request_id») (b .«request_id»)
     ∷ eqBytes (a .«request_digest») (b .«request_digest»)
     ∷ eqb (a .incarnation) (b .incarnation)
@@ -94,7 +94,7 @@ sameVoterReplacementResult a b =
 
 unfoldable pub sameVoterSlotRecord : VoterSlotRecord → VoterSlotRecord → Bool
 sameVoterSlotRecord a b =
-    all
+    allTrue
     (sameVoterSlotMember (a .member) (b .member)
     ∷ eqb (a .«retired_through») (b .«retired_through»)
     ∷ eqb (a .phase) (b .phase)
@@ -104,7 +104,7 @@ sameVoterSlotRecord a b =
 
 unfoldable pub sameVoterSnapshotEvidence : VoterSnapshotEvidence → VoterSnapshotEvidence → Bool
 sameVoterSnapshotEvidence a b =
-    all
+    allTrue
     (sameVoterSlotLogId (a .cut) (b .cut)
     ∷ sameSnapshotId (a .«snapshot_id») (b .«snapshot_id»)
     ∷ eqBytes (a .digest) (b .digest)
@@ -112,7 +112,7 @@ sameVoterSnapshotEvidence a b =
 
 unfoldable pub sameVoterConfiguration : VoterConfiguration → VoterConfiguration → Bool
 sameVoterConfiguration a b =
-    all
+    allTrue
     (eqb (a .epoch) (b .epoch)
     ∷ eqList sameVoterSlotMember (a .members) (b .members)
     ∷ eqb (a .count) (b .count)
@@ -120,7 +120,7 @@ sameVoterConfiguration a b =
 
 unfoldable pub sameLostVoterAttestationV1 : LostVoterAttestationV1 → LostVoterAttestationV1 → Bool
 sameLostVoterAttestationV1 a b =
-    all
+    allTrue
     (eqBytes (a .«request_id») (b .«request_id»)
     ∷ eqBytes (a .«request_digest») (b .«request_digest»)
     ∷ eqBytes (a .«cluster_instance») (b .«cluster_instance»)
@@ -143,7 +143,7 @@ sameLostVoterAttestationV1 a b =
 
 unfoldable pub sameVoterReplacementEvidence : VoterReplacementEvidence → VoterReplacementEvidence → Bool
 sameVoterReplacementEvidence a b =
-    all
+    allTrue
     (sameVoterSlotLogId (a .prepare) (b .prepare)
     ∷ Bool·beq (a .«has_snapshot») (b .«has_snapshot»)
     ∷ sameVoterSnapshotEvidence (a .snapshot) (b .snapshot)
@@ -157,7 +157,7 @@ sameVoterReplacementEvidence a b =
 
 unfoldable pub sameVoterReplacementRecord : VoterReplacementRecord → VoterReplacementRecord → Bool
 sameVoterReplacementRecord a b =
-    all
+    allTrue
     (eqb (a .«expected_revision») (b .«expected_revision»)
     ∷ sameLostVoterAttestationV1 (a .attestation) (b .attestation)
     ∷ sameVoterConfiguration (a .predecessor) (b .predecessor)
@@ -168,7 +168,7 @@ sameVoterReplacementRecord a b =
 
 unfoldable pub sameVoterSlotTable : VoterSlotTable → VoterSlotTable → Bool
 sameVoterSlotTable a b =
-    all
+    allTrue
     (eqBytes (a .«cluster_instance») (b .«cluster_instance»)
     ∷ eqBytes (a .«manifest_digest») (b .«manifest_digest»)
     ∷ eqb (a .revision) (b .revision)

@@ -11,7 +11,7 @@ use lib.ListN.{length, getD, take}
 use lib.Seq.{take-all}
 use lib.Dec.{eqb}
 use borrow.Author.Tests.{eqb-true, eq-eqb}
-use Rattle.records.specs.Equality.{all, eqList, eqBytes, sameVoterSlotIdentity, sameSpiffeId, sameSnapshotId, sameVoterSlotLogId, sameOptionalLogId, sameVoterSlotMember, sameVoterReplacementResult, sameVoterSlotRecord, sameVoterSnapshotEvidence, sameVoterConfiguration, sameLostVoterAttestationV1, sameVoterReplacementEvidence, sameVoterReplacementRecord, sameVoterSlotTable}
+use Rattle.records.specs.Equality.{allTrue, eqList, eqBytes, sameVoterSlotIdentity, sameSpiffeId, sameSnapshotId, sameVoterSlotLogId, sameOptionalLogId, sameVoterSlotMember, sameVoterReplacementResult, sameVoterSlotRecord, sameVoterSnapshotEvidence, sameVoterConfiguration, sameLostVoterAttestationV1, sameVoterReplacementEvidence, sameVoterReplacementRecord, sameVoterSlotTable}
 use Rattle.identity.specs.declared.identity.VoterSlotIdentity.{VoterSlotIdentity}
 use Rattle.records.specs.declared.records.SpiffeId.{SpiffeId}
 use Rattle.records.specs.declared.records.SnapshotId.{SnapshotId}
@@ -62,15 +62,15 @@ abbrev Each : List Bool → Type 0
 Each [] = Unit {0}
 Each (p ∷ ps) = (p ≡ true) × Each ps
 
-all-each : (ps : List Bool) → all ps ≡ true → Each ps
-unfolding all
+all-each : (ps : List Bool) → allTrue ps ≡ true → Each ps
+unfolding allTrue
 all-each [] h = tt
 all-each (p ∷ []) h = (h, tt)
-all-each (p ∷ (q ∷ ps)) h = let k = and-eq-true-iff p (all (q ∷ ps)) .0 h in (k .0, all-each (q ∷ ps) (k .1))
+all-each (p ∷ (q ∷ ps)) h = let k = and-eq-true-iff p (allTrue (q ∷ ps)) .0 h in (k .0, all-each (q ∷ ps) (k .1))
 
 -- the first test fails
-pub all-first : (p q : Bool) (ps : List Bool) → p ≡ false → all (p ∷ (q ∷ ps)) ≡ false
-unfolding all
+pub all-first : (p q : Bool) (ps : List Bool) → p ≡ false → allTrue (p ∷ (q ∷ ps)) ≡ false
+unfolding allTrue
 all-first p q ps h = rw h
 
 -- ---- lists
@@ -136,7 +136,7 @@ sameVoterSlotIdentity-true a b h =
     λ i. record { slot = e0 i; incarnation = e1 i }
 
 pub sameVoterSlotIdentity-refl : (a : VoterSlotIdentity) → sameVoterSlotIdentity a a ≡ true
-unfolding all sameVoterSlotIdentity
+unfolding allTrue sameVoterSlotIdentity
 sameVoterSlotIdentity-refl a = rw (eqb-refl (a .slot), eqb-refl (a .incarnation))
 
 pub sameSpiffeId-true : (a b : SpiffeId) → sameSpiffeId a b ≡ true → a ≡ b
@@ -148,7 +148,7 @@ sameSpiffeId-true a b h =
     λ i. record { len = e0 i; bytes = e1 i }
 
 pub sameSpiffeId-refl : (a : SpiffeId) → sameSpiffeId a a ≡ true
-unfolding all sameSpiffeId
+unfolding allTrue sameSpiffeId
 sameSpiffeId-refl a = rw (eqb-refl (a .len), eqBytes-refl (a .bytes))
 
 pub sameSnapshotId-true : (a b : SnapshotId) → sameSnapshotId a b ≡ true → a ≡ b
@@ -160,7 +160,7 @@ sameSnapshotId-true a b h =
     λ i. record { len = e0 i; bytes = e1 i }
 
 pub sameSnapshotId-refl : (a : SnapshotId) → sameSnapshotId a a ≡ true
-unfolding all sameSnapshotId
+unfolding allTrue sameSnapshotId
 sameSnapshotId-refl a = rw (eqb-refl (a .len), eqBytes-refl (a .bytes))
 
 pub sameVoterSlotLogId-true : (a b : VoterSlotLogId) → sameVoterSlotLogId a b ≡ true → a ≡ b
@@ -172,7 +172,7 @@ sameVoterSlotLogId-true a b h =
     λ i. record { term = e0 i; index = e1 i }
 
 pub sameVoterSlotLogId-refl : (a : VoterSlotLogId) → sameVoterSlotLogId a a ≡ true
-unfolding all sameVoterSlotLogId
+unfolding allTrue sameVoterSlotLogId
 sameVoterSlotLogId-refl a = rw (eqb-refl (a .term), eqb-refl (a .index))
 
 pub sameOptionalLogId-true : (a b : OptionalLogId) → sameOptionalLogId a b ≡ true → a ≡ b
@@ -184,7 +184,7 @@ sameOptionalLogId-true a b h =
     λ i. record { «is_some» = e0 i; cut = e1 i }
 
 pub sameOptionalLogId-refl : (a : OptionalLogId) → sameOptionalLogId a a ≡ true
-unfolding all sameOptionalLogId
+unfolding allTrue sameOptionalLogId
 sameOptionalLogId-refl a = rw (beq-refl (a .«is_some»), sameVoterSlotLogId-refl (a .cut))
 
 pub sameVoterSlotMember-true : (a b : VoterSlotMember) → sameVoterSlotMember a b ≡ true → a ≡ b
@@ -203,7 +203,7 @@ sameVoterSlotMember-true a b h =
     }
 
 pub sameVoterSlotMember-refl : (a : VoterSlotMember) → sameVoterSlotMember a a ≡ true
-unfolding all sameVoterSlotMember
+unfolding allTrue sameVoterSlotMember
 sameVoterSlotMember-refl a =
     rw (
       sameVoterSlotIdentity-refl (a .identity),
@@ -234,7 +234,7 @@ sameVoterReplacementResult-true a b h =
     }
 
 pub sameVoterReplacementResult-refl : (a : VoterReplacementResult) → sameVoterReplacementResult a a ≡ true
-unfolding all sameVoterReplacementResult
+unfolding allTrue sameVoterReplacementResult
 sameVoterReplacementResult-refl a =
     rw (
       eqBytes-refl (a .«request_id»),
@@ -264,7 +264,7 @@ sameVoterSlotRecord-true a b h =
     }
 
 pub sameVoterSlotRecord-refl : (a : VoterSlotRecord) → sameVoterSlotRecord a a ≡ true
-unfolding all sameVoterSlotRecord
+unfolding allTrue sameVoterSlotRecord
 sameVoterSlotRecord-refl a =
     rw (
       sameVoterSlotMember-refl (a .member),
@@ -284,7 +284,7 @@ sameVoterSnapshotEvidence-true a b h =
     λ i. record { cut = e0 i; «snapshot_id» = e1 i; digest = e2 i }
 
 pub sameVoterSnapshotEvidence-refl : (a : VoterSnapshotEvidence) → sameVoterSnapshotEvidence a a ≡ true
-unfolding all sameVoterSnapshotEvidence
+unfolding allTrue sameVoterSnapshotEvidence
 sameVoterSnapshotEvidence-refl a =
     rw (sameVoterSlotLogId-refl (a .cut), sameSnapshotId-refl (a .«snapshot_id»), eqBytes-refl (a .digest))
 
@@ -298,7 +298,7 @@ sameVoterConfiguration-true a b h =
     λ i. record { epoch = e0 i; members = e1 i; count = e2 i }
 
 pub sameVoterConfiguration-refl : (a : VoterConfiguration) → sameVoterConfiguration a a ≡ true
-unfolding all sameVoterConfiguration
+unfolding allTrue sameVoterConfiguration
 sameVoterConfiguration-refl a =
     rw (
       eqb-refl (a .epoch),
@@ -350,7 +350,7 @@ sameLostVoterAttestationV1-true a b h =
     }
 
 pub sameLostVoterAttestationV1-refl : (a : LostVoterAttestationV1) → sameLostVoterAttestationV1 a a ≡ true
-unfolding all sameLostVoterAttestationV1
+unfolding allTrue sameLostVoterAttestationV1
 sameLostVoterAttestationV1-refl a =
     rw (
       eqBytes-refl (a .«request_id»),
@@ -399,7 +399,7 @@ sameVoterReplacementEvidence-true a b h =
     }
 
 pub sameVoterReplacementEvidence-refl : (a : VoterReplacementEvidence) → sameVoterReplacementEvidence a a ≡ true
-unfolding all sameVoterReplacementEvidence
+unfolding allTrue sameVoterReplacementEvidence
 sameVoterReplacementEvidence-refl a =
     rw (
       sameVoterSlotLogId-refl (a .prepare),
@@ -433,7 +433,7 @@ sameVoterReplacementRecord-true a b h =
     }
 
 pub sameVoterReplacementRecord-refl : (a : VoterReplacementRecord) → sameVoterReplacementRecord a a ≡ true
-unfolding all sameVoterReplacementRecord
+unfolding allTrue sameVoterReplacementRecord
 sameVoterReplacementRecord-refl a =
     rw (
       eqb-refl (a .«expected_revision»),
@@ -468,7 +468,7 @@ sameVoterSlotTable-true a b h =
     }
 
 pub sameVoterSlotTable-refl : (a : VoterSlotTable) → sameVoterSlotTable a a ≡ true
-unfolding all sameVoterSlotTable
+unfolding allTrue sameVoterSlotTable
 sameVoterSlotTable-refl a =
     rw (
       eqBytes-refl (a .«cluster_instance»),

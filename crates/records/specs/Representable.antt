@@ -7,7 +7,7 @@ use mathlib.Core.List.{List}
 use lib.ListN.{take, drop}
 use lib.Dec.{eqb, leb}
 use Rattle.identity.specs.Identity.{isSlotId, isVoterIncarnation, isConfigurationEpoch}
-use Rattle.identity.specs.Text.{all, isUtf8, maxSpiffeIdBytes, maxSnapshotIdBytes}
+use Rattle.identity.specs.Text.{every, isUtf8, maxSpiffeIdBytes, maxSnapshotIdBytes}
 use Rattle.records.specs.Blank.{blankVoterSlotLogId, blankVoterSlotMember, blankVoterReplacementResult, blankVoterSlotRecord, blankVoterSnapshotEvidence, blankVoterReplacementRecord}
 use Rattle.records.specs.Equality.{sameVoterSlotLogId, sameVoterSlotMember, sameVoterReplacementResult, sameVoterSlotRecord, sameVoterSnapshotEvidence, sameVoterReplacementRecord}
 use Rattle.records.specs.Records.{maxFixedVoterSlots, voting, uniform, superseded, storageLost, timeBoundLoss, allBelow, slotAt, memberAt}
@@ -29,7 +29,7 @@ isZero b = eqb b 0
 
 -- "2,048 or 256 bytes and a length, zero behind it"; a Rust String is UTF-8
 unfoldable pub isText : ℕ → ℕ → List ℕ → Bool
-isText most len bytes = leb len most && (isUtf8 (take len bytes) && all isZero (drop len bytes))
+isText most len bytes = leb len most && (isUtf8 (take len bytes) && every isZero (drop len bytes))
 
 abbrev pub representableSpiffeId : SpiffeId → Bool
 representableSpiffeId s = isText maxSpiffeIdBytes (s .len) (s .bytes)

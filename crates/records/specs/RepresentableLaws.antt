@@ -10,7 +10,7 @@ use lib.ListN.{take, drop}
 use lib.Dec.{leb}
 use borrow.Author.Tests.{leb-true, le-leb, lt-leb}
 use Rattle.identity.specs.Identity.{isSlotId, isConfigurationEpoch, maxSlotId}
-use Rattle.identity.specs.Text.{all, isUtf8}
+use Rattle.identity.specs.Text.{every, isUtf8}
 use Rattle.identity.specs.Utf8Laws.{and-left, and-right}
 use Rattle.records.specs.Records.{maxFixedVoterSlots}
 use Rattle.records.specs.Representable.{isZero, isText, representable}
@@ -25,7 +25,7 @@ module _ (most len : ℕ) (bytes : List ℕ) where
   unfolding isText
   text-long h = rw (lt-leb len most h)
 
-  pub text-fits : len ≤ most → isText most len bytes ≡ (isUtf8 (take len bytes) && all isZero (drop len bytes))
+  pub text-fits : len ≤ most → isText most len bytes ≡ (isUtf8 (take len bytes) && every isZero (drop len bytes))
   unfolding isText
   text-fits h = rw (le-leb len most h)
 

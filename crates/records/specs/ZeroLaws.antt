@@ -7,21 +7,21 @@ use mathlib.Core.Bool.{Bool, true, false, not, Bool·beq, _&&_}
 use mathlib.Core.List.{List, [], _∷_}
 use native.Mathlib.Omega.{arith}
 use lib.ListN.{length, getD, take, replicate, length-replicate, getD-replicate}
-use Rattle.identity.specs.Text.{all}
+use Rattle.identity.specs.Text.{every}
 use Rattle.records.specs.Equality.{eqList, eqBytes}
 use Rattle.records.specs.EqualityLaws.{eqList-more}
 use Rattle.records.specs.Representable.{isZero}
 
-zeros-same : (a : List ℕ) → eqBytes a (replicate (length a) 0) ≡ all isZero a
-unfolding all eqList
+zeros-same : (a : List ℕ) → eqBytes a (replicate (length a) 0) ≡ every isZero a
+unfolding every eqList
 zeros-same [] = refl
 zeros-same (x ∷ a) = ap (λ (t : Bool). isZero x && t) (zeros-same a)
 
-pub eqBytes-zeros : (a : List ℕ) (n : ℕ) → length a ≡ n → eqBytes a (replicate n 0) ≡ all isZero a
+pub eqBytes-zeros : (a : List ℕ) (n : ℕ) → length a ≡ n → eqBytes a (replicate n 0) ≡ every isZero a
 eqBytes-zeros a n h = ap (λ (k : ℕ). eqBytes a (replicate k 0)) (sym h) ∙ zeros-same a
 
 -- of the answer of `zeros`
-pub zeros-blank : (a : List ℕ) (n : ℕ) (t : Bool) → length a ≡ n → t ≡ all isZero a → t ≡ eqBytes a (replicate n 0)
+pub zeros-blank : (a : List ℕ) (n : ℕ) (t : Bool) → length a ≡ n → t ≡ every isZero a → t ≡ eqBytes a (replicate n 0)
 zeros-blank a n t h e = e ∙ sym (eqBytes-zeros a n h)
 
 pub beq-false : (b : Bool) → not b ≡ Bool·beq b false

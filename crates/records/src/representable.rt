@@ -6,7 +6,7 @@ ghost use Prim.Native.Nat.{_≤_};
 ghost use lib.ListN.{length, take, drop};
 ghost use lib.Dec.{leb};
 ghost use Rattle.identity.specs.Identity.{isVoterIncarnation};
-ghost use Rattle.identity.specs.Text.{all, isUtf8};
+ghost use Rattle.identity.specs.Text.{every, isUtf8};
 ghost use Rattle.records.specs.Records.{allBelow, slotAt, memberAt};
 ghost use Rattle.records.specs.Representable.{isZero, representableSpiffeId, representableSnapshotId, representableOptionalLogId, representableMember, representableResult, memberPlace, slotPlace, representableSnapshot, snapshotPart, representableSlotRecord, representableConfiguration, representableAttestation, representableEvidence, representableReplacement, representable};
 use crate::records::LostVoterAttestationV1;
@@ -179,7 +179,7 @@ pub fn is_representable_snapshot_id(id: SnapshotId) -> bool
 
 fn is_text(bytes: &[u8], len: usize) -> bool
     requires { ⌜ len ≤ length (now bytes) ⌝ }
-    ensures { λ r. ⌜ r ≡ (isUtf8 (take len (now (bytes .entry))) && all isZero (drop len (now (bytes .entry)))) ⌝ }
+    ensures { λ r. ⌜ r ≡ (isUtf8 (take len (now (bytes .entry))) && every isZero (drop len (now (bytes .entry)))) ⌝ }
 {
     let utf8 = is_utf8(&bytes[..len]);
     let filler = zeros(&bytes[len..]);

@@ -3,7 +3,7 @@
 // the first is tested by itself: LLVM would make one test of them and take it apart byte by byte.
 ghost use mathlib.Core.Path.{_≡_};
 ghost use lib.ListN.{replicate};
-ghost use Rattle.identity.specs.Text.{all};
+ghost use Rattle.identity.specs.Text.{every};
 ghost use Rattle.records.specs.Blank.{blankVoterSlotIdentity, blankSpiffeId, blankSnapshotId, blankVoterSlotLogId, blankOptionalLogId, blankVoterSlotMember, blankVoterReplacementResult, blankVoterSlotRecord, blankVoterSnapshotEvidence, blankVoterConfiguration, blankLostVoterAttestationV1, blankVoterReplacementEvidence, blankVoterReplacementRecord};
 ghost use Rattle.records.specs.Equality.{eqList, sameVoterSlotIdentity, sameSpiffeId, sameSnapshotId, sameVoterSlotLogId, sameOptionalLogId, sameVoterSlotMember, sameVoterReplacementResult, sameVoterSlotRecord, sameVoterSnapshotEvidence, sameVoterConfiguration, sameLostVoterAttestationV1, sameVoterReplacementEvidence, sameVoterReplacementRecord};
 ghost use Rattle.records.specs.Representable.{isZero};
@@ -23,7 +23,7 @@ use identity::identity::VoterSlotIdentity;
 
 // Whether every byte is zero.
 pub fn zeros(bytes: &[u8]) -> bool
-    ensures { λ r. ⌜ r ≡ all isZero (now (bytes .entry)) ⌝ }
+    ensures { λ r. ⌜ r ≡ every isZero (now (bytes .entry)) ⌝ }
 {
     let mut all = true;
     let mut i = 0;

@@ -5,14 +5,14 @@ use Prim.Native.Nat.{_≤_, _<_, _-_}
 use native.Mathlib.Omega.{arith}
 use lib.ListN.{length, getD, take}
 use lib.Seq.{take-all}
-use Rattle.identity.specs.Text.{all as every}
-use Rattle.identity.specs.Utf8.{range, within}
+use Rattle.identity.specs.Text.{every}
+use Rattle.identity.specs.Utf8.{octets, within}
 use Rattle.identity.specs.TextLaws.{all-more}
 use Rattle.identity.proofs.text.all_within.Statement.{statement}
 use Rattle.identity.proofs.text.all_within.Tie as tie
 
 abbrev Inv-loop : tie.InvT-loop
-Inv-loop bytes low high all₀ i₀ all i = (i ≤ length bytes) × (all ≡ every (within (range low high)) (take i bytes))
+Inv-loop bytes low high all₀ i₀ all i = (i ≤ length bytes) × (all ≡ every (within (octets low high)) (take i bytes))
 
 abbrev μ-loop : tie.MeasureT-loop
 μ-loop bytes low high all₀ i₀ all i = length bytes - i
@@ -38,14 +38,14 @@ loop-again c =
     let l = c .before .before .before in
     let i = l .loop .i in
     let s = l .before .args in
-    let p = within (range (s .low) (s .high)) in
+    let p = within (octets (s .low) (s .high)) in
     let h : i < length (s .bytes .now) = omega arith in
     (omega arith, ap (λ (t : Bool). t && p (getD (s .bytes .now) i 0)) (l .loop .inv .1) ∙ sym (all-more p (s .bytes .now) i h))
 
 returns : tie.Need-returns Inv-loop μ-loop
 returns c =
     let s = c .before .before .args in
-    c .before .loop .inv .1 ∙ ap (every (within (range (s .low) (s .high)))) (take-all (c .before .loop .i) (s .bytes .now) (omega arith))
+    c .before .loop .inv .1 ∙ ap (every (within (octets (s .low) (s .high)))) (take-all (c .before .loop .i) (s .bytes .now) (omega arith))
 
 pub all-within-spec : {M : Type 1} → statement M
 all-within-spec =

@@ -1,8 +1,8 @@
 -- `identity::text::is_text` meets its contract: where every byte is an ASCII character that the rule allows, so is the text. Assumes nothing.
 use mathlib.Core.Path.{_≡_, sym}
 use mathlib.Core.Bool.{true}
-use Rattle.identity.specs.Utf8.{range, within}
-use Rattle.identity.specs.Text.{all, allows}
+use Rattle.identity.specs.Utf8.{octets, within}
+use Rattle.identity.specs.Text.{every, allows}
 use Rattle.identity.specs.TextLaws.{firstAscii, lastAscii, ascii-chars, ascii-allowed}
 use borrow.Author.Needs.{needs}
 use Rattle.identity.proofs.text.is_text.Statement.{statement}
@@ -22,9 +22,9 @@ returns c =
     let d = c .before in
     let s = d .before .before .before .before .args .bytes .now in
     let rule = d .before .before .before .before .args .rule in
-    let e : all (within (range (firstAscii rule) (lastAscii rule))) s ≡ true =
+    let e : every (within (octets (firstAscii rule) (lastAscii rule))) s ≡ true =
     rw (d .all-within .ensures, d .before .before .first-ascii .ensures, d .before .last-ascii .ensures) at (c .if1 .taken) in
-    sym (ascii-chars (allows rule) (range (firstAscii rule) (lastAscii rule)) (ascii-allowed rule) s e)
+    sym (ascii-chars (allows rule) (octets (firstAscii rule) (lastAscii rule)) (ascii-allowed rule) s e)
 
 all-chars-requires : tie.Need-all-chars-requires
 all-chars-requires c κs = search needs

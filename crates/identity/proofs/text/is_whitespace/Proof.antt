@@ -4,22 +4,22 @@ use mathlib.Core.Bool.{true}
 use Prim.Native.Nat.{_+_}
 use native.Mathlib.Omega.{arith}
 use borrow.Author.Tests.{lt-ltb}
-use Rattle.identity.specs.Text.{all, whiteSpace}
+use Rattle.identity.specs.Text.{every, whiteSpace}
 use Rattle.identity.specs.TextLaws.{between, none-between}
 use borrow.Author.Needs.{needs}
 use Rattle.identity.proofs.text.is_whitespace.Statement.{statement}
 use Rattle.identity.proofs.text.is_whitespace.Tie as tie
 
 returns : tie.Need-returns
-unfolding all
+unfolding every
 returns c = sym (none-between 0x20 0x85 _ whiteSpace refl (c .if1 .taken))
 
 returns-2 : tie.Need-returns-2
-unfolding all
+unfolding every
 returns-2 c = sym (none-between 0xA0 0x1680 _ whiteSpace refl (c .if2 .taken))
 
 returns-3 : tie.Need-returns-3
-unfolding all
+unfolding every
 returns-3 c =
     let code = c .before .before .before .args .code in
     let h : between 0x3000 (code + 1) code ≡ true = rw (lt-ltb 0x3000 code (c .if3 .taken), lt-ltb code (code + 1) (omega arith)) in

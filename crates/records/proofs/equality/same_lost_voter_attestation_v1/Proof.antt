@@ -3,7 +3,7 @@ use mathlib.Core.Path.{sym}
 use mathlib.Core.Bool.{_&&_}
 use lib.Dec.{eqb}
 use borrow.Author.Needs.{needs}
-use Rattle.records.specs.Equality.{all, sameLostVoterAttestationV1}
+use Rattle.records.specs.Equality.{allTrue, sameLostVoterAttestationV1}
 use Rattle.records.specs.EqualityLaws.{all-first}
 use Rattle.records.specs.ValidationLaws.{failed, held}
 use Rattle.records.proofs.equality.same_lost_voter_attestation_v1.Statement.{statement}
@@ -44,7 +44,7 @@ same-bytes-requires-8 : tie.Need-same-bytes-requires-8
 same-bytes-requires-8 c κs = search needs
 
 returns-2 : tie.Need-returns-2
-unfolding all sameLostVoterAttestationV1
+unfolding allTrue sameLostVoterAttestationV1
 returns-2 c =
     let c8 = c .before .before .before .before .before .before .before in
     let c7 = c8 .before .before .before .before .before .before .before in

@@ -1,6 +1,6 @@
 -- `records::equality::same_optional_log_id` meets its contract: field by field. Written by scripts/records.py. Assumes nothing.
 use borrow.Author.Needs.{needs}
-use Rattle.records.specs.Equality.{all, sameOptionalLogId}
+use Rattle.records.specs.Equality.{allTrue, sameOptionalLogId}
 use Rattle.records.proofs.equality.same_optional_log_id.Statement.{statement}
 use Rattle.records.proofs.equality.same_optional_log_id.Tie as tie
 
@@ -8,7 +8,7 @@ same-voter-slot-log-id-requires : tie.Need-same-voter-slot-log-id-requires
 same-voter-slot-log-id-requires c κs = search needs
 
 returns : tie.Need-returns
-unfolding all sameOptionalLogId
+unfolding allTrue sameOptionalLogId
 returns c =
     let c0 = c .before .before in
     simp (c0 .same-voter-slot-log-id .ensures)

@@ -1,6 +1,6 @@
 -- `records::equality::same_voter_replacement_evidence` meets its contract: field by field. Written by scripts/records.py. Assumes nothing.
 use borrow.Author.Needs.{needs}
-use Rattle.records.specs.Equality.{all, sameVoterReplacementEvidence}
+use Rattle.records.specs.Equality.{allTrue, sameVoterReplacementEvidence}
 use Rattle.records.proofs.equality.same_voter_replacement_evidence.Statement.{statement}
 use Rattle.records.proofs.equality.same_voter_replacement_evidence.Tie as tie
 
@@ -29,7 +29,7 @@ same-optional-log-id-requires-6 : tie.Need-same-optional-log-id-requires-6
 same-optional-log-id-requires-6 c κs = search needs
 
 returns : tie.Need-returns
-unfolding all sameVoterReplacementEvidence
+unfolding allTrue sameVoterReplacementEvidence
 returns c =
     let c7 = c .before .before in
     let c6 = c7 .before .before .before in

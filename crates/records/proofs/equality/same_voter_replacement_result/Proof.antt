@@ -1,6 +1,6 @@
 -- `records::equality::same_voter_replacement_result` meets its contract: field by field. Written by scripts/records.py. Assumes nothing.
 use borrow.Author.Needs.{needs}
-use Rattle.records.specs.Equality.{all, sameVoterReplacementResult}
+use Rattle.records.specs.Equality.{allTrue, sameVoterReplacementResult}
 use Rattle.records.proofs.equality.same_voter_replacement_result.Statement.{statement}
 use Rattle.records.proofs.equality.same_voter_replacement_result.Tie as tie
 
@@ -14,7 +14,7 @@ same-voter-slot-log-id-requires : tie.Need-same-voter-slot-log-id-requires
 same-voter-slot-log-id-requires c κs = search needs
 
 returns : tie.Need-returns
-unfolding all sameVoterReplacementResult
+unfolding allTrue sameVoterReplacementResult
 returns c =
     let c1 = c .before .before .before in
     let c0 = c1 .before .before .before .before .before .before .before in

@@ -1,6 +1,6 @@
 -- `records::equality::same_voter_slot_member` meets its contract: field by field. Written by scripts/records.py. Assumes nothing.
 use borrow.Author.Needs.{needs}
-use Rattle.records.specs.Equality.{all, sameVoterSlotMember}
+use Rattle.records.specs.Equality.{allTrue, sameVoterSlotMember}
 use Rattle.records.proofs.equality.same_voter_slot_member.Statement.{statement}
 use Rattle.records.proofs.equality.same_voter_slot_member.Tie as tie
 
@@ -14,7 +14,7 @@ same-bytes-requires-2 : tie.Need-same-bytes-requires-2
 same-bytes-requires-2 c κs = search needs
 
 returns : tie.Need-returns
-unfolding all sameVoterSlotMember
+unfolding allTrue sameVoterSlotMember
 returns c =
     let c1 = c .before .before .before .before .before .before .before in
     let c0 = c1 .before .before .before .before .before .before .before in

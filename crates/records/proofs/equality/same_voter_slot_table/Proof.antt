@@ -1,6 +1,6 @@
 -- `records::equality::same_voter_slot_table` meets its contract: field by field. Written by scripts/records.py. Assumes nothing.
 use borrow.Author.Needs.{needs}
-use Rattle.records.specs.Equality.{all, sameVoterSlotTable}
+use Rattle.records.specs.Equality.{allTrue, sameVoterSlotTable}
 use Rattle.records.proofs.equality.same_voter_slot_table.Statement.{statement}
 use Rattle.records.proofs.equality.same_voter_slot_table.Tie as tie
 
@@ -17,7 +17,7 @@ same-voter-replacement-record-requires : tie.Need-same-voter-replacement-record-
 same-voter-replacement-record-requires c κs = search needs
 
 returns : tie.Need-returns
-unfolding all sameVoterSlotTable
+unfolding allTrue sameVoterSlotTable
 returns c =
     let c2 = c .before .before .before in
     let c1 = c2 .before .before .before in

@@ -1,6 +1,6 @@
 -- `records::equality::same_voter_snapshot_evidence` meets its contract: field by field. Written by scripts/records.py. Assumes nothing.
 use borrow.Author.Needs.{needs}
-use Rattle.records.specs.Equality.{all, sameVoterSnapshotEvidence}
+use Rattle.records.specs.Equality.{allTrue, sameVoterSnapshotEvidence}
 use Rattle.records.proofs.equality.same_voter_snapshot_evidence.Statement.{statement}
 use Rattle.records.proofs.equality.same_voter_snapshot_evidence.Tie as tie
 
@@ -14,7 +14,7 @@ same-bytes-requires : tie.Need-same-bytes-requires
 same-bytes-requires c κs = search needs
 
 returns : tie.Need-returns
-unfolding all sameVoterSnapshotEvidence
+unfolding allTrue sameVoterSnapshotEvidence
 returns c =
     let c1 = c .before .before .before .before .before .before .before in
     let c0 = c1 .before .before .before in

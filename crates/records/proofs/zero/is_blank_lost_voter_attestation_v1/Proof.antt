@@ -5,7 +5,7 @@ use lib.ListN.{replicate}
 use lib.Dec.{eqb}
 use borrow.Author.Needs.{needs}
 use Rattle.records.specs.Blank.{blankLostVoterAttestationV1, blankSpiffeId}
-use Rattle.records.specs.Equality.{all, sameLostVoterAttestationV1, eqBytes, sameSpiffeId}
+use Rattle.records.specs.Equality.{allTrue, sameLostVoterAttestationV1, eqBytes, sameSpiffeId}
 use Rattle.records.specs.EqualityLaws.{all-first}
 use Rattle.records.specs.ValidationLaws.{failed, held}
 use Rattle.records.specs.ZeroLaws.{zeros-blank}
@@ -52,7 +52,7 @@ zeros-requires-8 : tie.Need-zeros-requires-8
 zeros-requires-8 c κs = search needs
 
 returns-2 : tie.Need-returns-2
-unfolding all sameLostVoterAttestationV1 blankLostVoterAttestationV1
+unfolding allTrue sameLostVoterAttestationV1 blankLostVoterAttestationV1
 returns-2 c =
     let c8 = c .before .before .before .before in
     let c7 = c8 .before .before .before .before in

@@ -3,7 +3,7 @@ use mathlib.Core.Path.{_≡_}
 use mathlib.Core.Bool.{_&&_}
 use borrow.Author.Needs.{needs}
 use Rattle.records.specs.Blank.{blankOptionalLogId, blankVoterSlotLogId}
-use Rattle.records.specs.Equality.{all, sameOptionalLogId, sameVoterSlotLogId}
+use Rattle.records.specs.Equality.{allTrue, sameOptionalLogId, sameVoterSlotLogId}
 use Rattle.records.specs.ZeroLaws.{beq-false}
 use Rattle.records.proofs.zero.is_blank_optional_log_id.Statement.{statement}
 use Rattle.records.proofs.zero.is_blank_optional_log_id.Tie as tie
@@ -12,7 +12,7 @@ is-blank-voter-slot-log-id-requires : tie.Need-is-blank-voter-slot-log-id-requir
 is-blank-voter-slot-log-id-requires c κs = search needs
 
 returns : tie.Need-returns
-unfolding all sameOptionalLogId blankOptionalLogId
+unfolding allTrue sameOptionalLogId blankOptionalLogId
 returns c =
     let c0 = c .before in
     let x = c0 .before .before .args .x in

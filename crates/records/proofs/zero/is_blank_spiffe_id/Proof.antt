@@ -5,7 +5,7 @@ use lib.ListN.{replicate}
 use lib.Dec.{eqb}
 use borrow.Author.Needs.{needs}
 use Rattle.records.specs.Blank.{blankSpiffeId}
-use Rattle.records.specs.Equality.{all, sameSpiffeId, eqBytes}
+use Rattle.records.specs.Equality.{allTrue, sameSpiffeId, eqBytes}
 use Rattle.records.specs.ZeroLaws.{zeros-blank}
 use Rattle.records.proofs.zero.is_blank_spiffe_id.Statement.{statement}
 use Rattle.records.proofs.zero.is_blank_spiffe_id.Tie as tie
@@ -14,7 +14,7 @@ zeros-requires : tie.Need-zeros-requires
 zeros-requires c κs = search needs
 
 returns : tie.Need-returns
-unfolding all sameSpiffeId blankSpiffeId
+unfolding allTrue sameSpiffeId blankSpiffeId
 returns c =
     let x = c .before .before .before .before .args .t1 in
     let e0 : c .zeros .result ≡ eqBytes (x .bytes) (replicate 2048 0) =

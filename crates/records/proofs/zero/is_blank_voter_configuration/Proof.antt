@@ -5,7 +5,7 @@ use lib.ListN.{replicate}
 use lib.Dec.{eqb}
 use borrow.Author.Needs.{needs}
 use Rattle.records.specs.Blank.{blankVoterConfiguration, blankVoterSlotMember}
-use Rattle.records.specs.Equality.{all, sameVoterConfiguration, sameVoterSlotMember, eqList}
+use Rattle.records.specs.Equality.{allTrue, sameVoterConfiguration, sameVoterSlotMember, eqList}
 use Rattle.records.proofs.zero.is_blank_voter_configuration.Statement.{statement}
 use Rattle.records.proofs.zero.is_blank_voter_configuration.Tie as tie
 
@@ -13,7 +13,7 @@ is-blank-voter-slot-members-requires : tie.Need-is-blank-voter-slot-members-requ
 is-blank-voter-slot-members-requires c κs = search needs
 
 returns : tie.Need-returns
-unfolding all sameVoterConfiguration blankVoterConfiguration
+unfolding allTrue sameVoterConfiguration blankVoterConfiguration
 returns c =
     let c0 = c .before .before in
     let x = c0 .before .before .args .x in

@@ -3,7 +3,7 @@ use mathlib.Core.Path.{_≡_}
 use mathlib.Core.Bool.{_&&_}
 use borrow.Author.Needs.{needs}
 use Rattle.records.specs.Blank.{blankVoterReplacementEvidence, blankVoterSlotLogId, blankVoterSnapshotEvidence, blankOptionalLogId}
-use Rattle.records.specs.Equality.{all, sameVoterReplacementEvidence, sameVoterSlotLogId, sameVoterSnapshotEvidence, sameOptionalLogId}
+use Rattle.records.specs.Equality.{allTrue, sameVoterReplacementEvidence, sameVoterSlotLogId, sameVoterSnapshotEvidence, sameOptionalLogId}
 use Rattle.records.specs.ZeroLaws.{beq-false}
 use Rattle.records.proofs.zero.is_blank_voter_replacement_evidence.Statement.{statement}
 use Rattle.records.proofs.zero.is_blank_voter_replacement_evidence.Tie as tie
@@ -33,7 +33,7 @@ is-blank-optional-log-id-requires-6 : tie.Need-is-blank-optional-log-id-requires
 is-blank-optional-log-id-requires-6 c κs = search needs
 
 returns : tie.Need-returns
-unfolding all sameVoterReplacementEvidence blankVoterReplacementEvidence
+unfolding allTrue sameVoterReplacementEvidence blankVoterReplacementEvidence
 returns c =
     let c7 = c .before in
     let c6 = c7 .before .before in

@@ -4,7 +4,7 @@ use mathlib.Core.Bool.{_&&_}
 use lib.Dec.{eqb}
 use borrow.Author.Needs.{needs}
 use Rattle.records.specs.Blank.{blankVoterReplacementRecord, blankLostVoterAttestationV1, blankVoterConfiguration, blankVoterReplacementEvidence}
-use Rattle.records.specs.Equality.{all, sameVoterReplacementRecord, sameLostVoterAttestationV1, sameVoterConfiguration, sameVoterReplacementEvidence}
+use Rattle.records.specs.Equality.{allTrue, sameVoterReplacementRecord, sameLostVoterAttestationV1, sameVoterConfiguration, sameVoterReplacementEvidence}
 use Rattle.records.proofs.zero.is_blank_voter_replacement_record.Statement.{statement}
 use Rattle.records.proofs.zero.is_blank_voter_replacement_record.Tie as tie
 
@@ -21,7 +21,7 @@ is-blank-voter-replacement-evidence-requires : tie.Need-is-blank-voter-replaceme
 is-blank-voter-replacement-evidence-requires c κs = search needs
 
 returns : tie.Need-returns
-unfolding all sameVoterReplacementRecord blankVoterReplacementRecord
+unfolding allTrue sameVoterReplacementRecord blankVoterReplacementRecord
 returns c =
     let c3 = c .before .before in
     let c2 = c3 .before .before in

@@ -5,7 +5,7 @@ use lib.ListN.{replicate}
 use lib.Dec.{eqb}
 use borrow.Author.Needs.{needs}
 use Rattle.records.specs.Blank.{blankVoterReplacementResult, blankVoterSlotLogId}
-use Rattle.records.specs.Equality.{all, sameVoterReplacementResult, eqBytes, sameVoterSlotLogId}
+use Rattle.records.specs.Equality.{allTrue, sameVoterReplacementResult, eqBytes, sameVoterSlotLogId}
 use Rattle.records.specs.ZeroLaws.{zeros-blank}
 use Rattle.records.proofs.zero.is_blank_voter_replacement_result.Statement.{statement}
 use Rattle.records.proofs.zero.is_blank_voter_replacement_result.Tie as tie
@@ -20,7 +20,7 @@ is-blank-voter-slot-log-id-requires : tie.Need-is-blank-voter-slot-log-id-requir
 is-blank-voter-slot-log-id-requires c κs = search needs
 
 returns : tie.Need-returns
-unfolding all sameVoterReplacementResult blankVoterReplacementResult
+unfolding allTrue sameVoterReplacementResult blankVoterReplacementResult
 returns c =
     let c1 = c .before .before in
     let c0 = c1 .before .before .before .before in

@@ -5,7 +5,7 @@ use lib.ListN.{replicate}
 use lib.Dec.{eqb}
 use borrow.Author.Needs.{needs}
 use Rattle.records.specs.Blank.{blankVoterSlotMember, blankVoterSlotIdentity}
-use Rattle.records.specs.Equality.{all, sameVoterSlotMember, sameVoterSlotIdentity, eqBytes}
+use Rattle.records.specs.Equality.{allTrue, sameVoterSlotMember, sameVoterSlotIdentity, eqBytes}
 use Rattle.records.specs.ZeroLaws.{zeros-blank}
 use Rattle.records.proofs.zero.is_blank_voter_slot_member.Statement.{statement}
 use Rattle.records.proofs.zero.is_blank_voter_slot_member.Tie as tie
@@ -20,7 +20,7 @@ zeros-requires-2 : tie.Need-zeros-requires-2
 zeros-requires-2 c κs = search needs
 
 returns : tie.Need-returns
-unfolding all sameVoterSlotMember blankVoterSlotMember
+unfolding allTrue sameVoterSlotMember blankVoterSlotMember
 returns c =
     let c1 = c .before .before .before .before in
     let c0 = c1 .before .before .before .before in

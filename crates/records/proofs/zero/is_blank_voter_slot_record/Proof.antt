@@ -4,7 +4,7 @@ use mathlib.Core.Bool.{_&&_}
 use lib.Dec.{eqb}
 use borrow.Author.Needs.{needs}
 use Rattle.records.specs.Blank.{blankVoterSlotRecord, blankVoterSlotMember, blankVoterReplacementResult}
-use Rattle.records.specs.Equality.{all, sameVoterSlotRecord, sameVoterSlotMember, sameVoterReplacementResult}
+use Rattle.records.specs.Equality.{allTrue, sameVoterSlotRecord, sameVoterSlotMember, sameVoterReplacementResult}
 use Rattle.records.specs.ZeroLaws.{beq-false}
 use Rattle.records.proofs.zero.is_blank_voter_slot_record.Statement.{statement}
 use Rattle.records.proofs.zero.is_blank_voter_slot_record.Tie as tie
@@ -16,7 +16,7 @@ is-blank-voter-replacement-result-requires : tie.Need-is-blank-voter-replacement
 is-blank-voter-replacement-result-requires c κs = search needs
 
 returns : tie.Need-returns
-unfolding all sameVoterSlotRecord blankVoterSlotRecord
+unfolding allTrue sameVoterSlotRecord blankVoterSlotRecord
 returns c =
     let c1 = c .before .before .before in
     let c0 = c1 .before .before in

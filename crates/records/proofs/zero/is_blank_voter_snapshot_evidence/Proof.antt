@@ -4,7 +4,7 @@ use mathlib.Core.Bool.{_&&_}
 use lib.ListN.{replicate}
 use borrow.Author.Needs.{needs}
 use Rattle.records.specs.Blank.{blankVoterSnapshotEvidence, blankVoterSlotLogId, blankSnapshotId}
-use Rattle.records.specs.Equality.{all, sameVoterSnapshotEvidence, sameVoterSlotLogId, sameSnapshotId, eqBytes}
+use Rattle.records.specs.Equality.{allTrue, sameVoterSnapshotEvidence, sameVoterSlotLogId, sameSnapshotId, eqBytes}
 use Rattle.records.specs.ZeroLaws.{zeros-blank}
 use Rattle.records.proofs.zero.is_blank_voter_snapshot_evidence.Statement.{statement}
 use Rattle.records.proofs.zero.is_blank_voter_snapshot_evidence.Tie as tie
@@ -19,7 +19,7 @@ zeros-requires : tie.Need-zeros-requires
 zeros-requires c κs = search needs
 
 returns : tie.Need-returns
-unfolding all sameVoterSnapshotEvidence blankVoterSnapshotEvidence
+unfolding allTrue sameVoterSnapshotEvidence blankVoterSnapshotEvidence
 returns c =
     let c1 = c .before .before .before .before in
     let c0 = c1 .before .before in

@@ -5,7 +5,7 @@ use Prim.Native.Nat.{_≤_, _<_, _-_}
 use native.Mathlib.Omega.{arith}
 use lib.ListN.{length, getD, take}
 use lib.Seq.{take-all}
-use Rattle.identity.specs.Text.{all as every}
+use Rattle.identity.specs.Text.{every}
 use Rattle.identity.specs.TextLaws.{all-more}
 use Rattle.records.specs.Representable.{isZero}
 use Rattle.records.proofs.zero.zeros.Statement.{statement}
