@@ -1,14 +1,15 @@
 -- Names, snapshot ids and strict names: document 01, section "Text". Lengths are counted in bytes.
 -- The first two are the rules on text in validation.rs; the strict name is this project's, after the SPIFFE-ID standard.
 -- Assumes nothing.
-use Prim.Native.Nat.{ℕ}
+use Prim.Native.Nat.{ℕ, _+_}
 use mathlib.Core.Bool.{Bool, true, false, cond, not, _&&_, _||_}
 use mathlib.Core.List.{List, [], _∷_}
 use lib.ListN.{length, drop}
-use lib.Dec.{eqb, leb}
+use lib.Dec.{eqb, leb, ltb}
 use Rattle.identity.specs.Utf8.{allChars}
 use Rattle.identity.specs.declared.text.Allowed.{Allowed}
 use Rattle.identity.specs.declared.text.Allowed.the-variants.{Any, NoControl, NoControlNoWhitespace}
+use Rattle.identity.specs.declared.text.Part.{Part}
 
 -- "control character (U+0000 to 001F, 007F to 009F)"
 abbrev pub isControl : ℕ → Bool
@@ -33,6 +34,18 @@ abbrev pub allows : Allowed → ℕ → Bool
 allows Any code = true
 allows NoControl code = not (isControl code)
 allows NoControlNoWhitespace code = not (isControl code) && not (isWhitespace code)
+
+-- The ASCII characters that a rule allows are those from the first to the last: the inner functions `first_ascii`, `last_ascii`, by which text that is
+-- all ASCII is judged without decoding it.
+abbrev pub firstAscii : Allowed → ℕ
+firstAscii Any = 0x00
+firstAscii NoControl = 0x20
+firstAscii NoControlNoWhitespace = 0x21
+
+abbrev pub lastAscii : Allowed → ℕ
+lastAscii Any = 0x7F
+lastAscii NoControl = 0x7E
+lastAscii NoControlNoWhitespace = 0x7E
 
 unfoldable pub isUtf8 : List ℕ → Bool
 isUtf8 s = allChars (allows Any) s
@@ -106,3 +119,12 @@ areStrictParts (domain ∷ segments) = isTrustDomain domain && allSegments segme
 -- "At most 2,048 bytes in all: `spiffe://`, then a trust domain .., then no or more segments"
 unfoldable pub isStrictName : List ℕ → Bool
 isStrictName s = leb (length s) maxSpiffeIdBytes && (startsWith s scheme && areStrictParts (split (drop (length scheme) s)))
+
+-- The part of a strict name that is being read, and one byte more: the inner function `next_part`, by which a strict name is judged in one pass. A slash
+-- ends a part, which must not be empty; any other byte must be one of those that the part may hold, and a trust domain holds 255 at most.
+abbrev pub nextPart : Part → ℕ → Part
+nextPart part b =
+    cond (eqb b slash) (record { good = part .good && ltb 0 (part .run); «in_domain» = false; run = 0 })
+    (cond (part .«in_domain»)
+    (record { good = part .good && (isDomainByte b && ltb (part .run) 255); «in_domain» = true; run = part .run + 1 })
+    (record { good = part .good && isSegmentByte b; «in_domain» = false; run = part .run + 1 }))

@@ -13,22 +13,10 @@ use lib.Dec.{eqb, leb, ltb}
 use borrow.Author.Tests.{not-true, ltb-true, ltb-false, lt-ltb, leb-true, le-leb, lt-leb, ne-eqb}
 use Rattle.identity.specs.Utf8.{Range, octets, within, charsFrom, allChars}
 use Rattle.identity.specs.Utf8Laws.{and-left, and-right, decoded-one, chars-end, chars-more}
-use Rattle.identity.specs.Text.{isIn, whiteSpace, allows, every, startsWith, isDomainByte, isSegmentByte, prepend, split, allSegments, areStrictParts}
+use Rattle.identity.specs.Text.{isIn, whiteSpace, allows, firstAscii, lastAscii, every, startsWith, isDomainByte, isSegmentByte, prepend, split, allSegments, areStrictParts, nextPart}
 use Rattle.identity.specs.declared.text.Allowed.{Allowed}
 use Rattle.identity.specs.declared.text.Allowed.the-variants.{Any, NoControl, NoControlNoWhitespace}
 use Rattle.identity.specs.declared.text.Part.{Part}
-
--- ---- the ASCII shortcut
-
-abbrev pub firstAscii : Allowed → ℕ
-firstAscii Any = 0x00
-firstAscii NoControl = 0x20
-firstAscii NoControlNoWhitespace = 0x21
-
-abbrev pub lastAscii : Allowed → ℕ
-lastAscii Any = 0x7F
-lastAscii NoControl = 0x7E
-lastAscii NoControlNoWhitespace = 0x7E
 
 -- ---- the loops' steps: one more element
 
@@ -129,13 +117,6 @@ ascii-allowed NoControlNoWhitespace b h =
     (omega arith, rw (lt-leb b 0x1F (omega arith), lt-leb 0x7F b (omega arith), none-between 0x20 0x85 b whiteSpace refl n))
 
 -- ---- the strict name, byte by byte
-
-abbrev pub nextPart : Part → ℕ → Part
-nextPart part b =
-    cond (eqb b 47) (record { good = part .good && ltb 0 (part .run); «in_domain» = false; run = 0 })
-    (cond (part .«in_domain»)
-    (record { good = part .good && (isDomainByte b && ltb (part .run) 255); «in_domain» = true; run = part .run + 1 })
-    (record { good = part .good && isSegmentByte b; «in_domain» = false; run = part .run + 1 }))
 
 abbrev part : Bool → Bool → ℕ → Part
 part good inDomain run = record { good = good; «in_domain» = inDomain; run = run }

@@ -69,6 +69,11 @@ decodedOf (suc n) s = Char (codePoint (suc n) s) (suc n)
 unfoldable pub decoded : List ℕ → Decoded
 decoded s = decodedOf (charWidth s) s
 
+-- What stands at the front of s where the first byte has picked an alternative and rs are the ranges of the bytes after it: `decode_two`,
+-- `decode_three`, `decode_four`, which are handed the bounds of the second byte.
+abbrev pub ledBy : List Range → List ℕ → Decoded
+ledBy rs s = decodedOf (cond (fits rs (drop 1 s)) (suc (length rs)) 0) s
+
 abbrev pub passes : (ℕ → Bool) → Decoded → Bool
 passes p (Char code width) = p code
 passes p Malformed = false

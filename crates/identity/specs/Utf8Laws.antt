@@ -9,7 +9,7 @@ use native.Mathlib.Omega.{arith}
 use lib.ListN.{length, getD, take, drop}
 use lib.Dec.{eqb, leb, ltb}
 use borrow.Author.Tests.{ltb-true, leb-true, leb-false, le-leb, lt-leb, eq-eqb, ne-eqb}
-use Rattle.identity.specs.Utf8.{Range, octets, within, utf8Tail, utf8Char, fits, widthIn, charWidth, codePoint, decodedOf, decoded, charsFrom}
+use Rattle.identity.specs.Utf8.{Range, octets, within, utf8Tail, utf8Char, fits, widthIn, charWidth, codePoint, decodedOf, decoded, ledBy, charsFrom}
 use Rattle.identity.specs.declared.utf8.Decoded.{Decoded}
 use Rattle.identity.specs.declared.utf8.Decoded.the-variants.{Char, Malformed}
 
@@ -20,14 +20,6 @@ and-left false q h = h
 pub and-right : (p q : Bool) → (p && q) ≡ true → q ≡ true
 and-right true q h = h
 and-right false q h = absurd (let z : _≡_ {A = ℕ} 0 1 = cc in omega arith)
-
--- by whether a number is at most a bound
-by-bound : {P : Type 0} (b n : ℕ) → (b ≤ n → P) → (n < b → P) → P
-by-bound {P} b n f g = go (leb b n) refl
-  where
-    go : (t : Bool) → leb b n ≡ t → P
-    go true e = f (leb-true b n e)
-    go false e = g (leb-false b n e)
 
 -- ---- the alternative that a lead byte picks
 
@@ -77,12 +69,45 @@ module _ (b : ℕ) (t : List ℕ) where
       → widthIn (front ++ ((r ∷ rs) ∷ more)) (b ∷ t) ≡ cond (fits rs t) (suc (length rs)) 0
   picked front r rs more f e h k = skip (r .low) front ((r ∷ rs) ∷ more) f h ∙ pick r rs more e h k
 
--- ---- the bytes behind the lead: a byte that is missing counts as 0, which no range there holds
+-- ---- what stands at the front, by the range of the lead byte
 
-fits-one : (r : Range) → within r 0 ≡ false → (t : List ℕ) → fits (r ∷ []) t ≡ within r (getD t 0 0)
+pub decoded-none : (s : List ℕ) → length s ≡ 0 → decoded s ≡ Malformed
+unfolding decoded widthIn fits
+decoded-none [] h = refl
+decoded-none (b ∷ t) h = absurd (omega arith)
+
+-- A lead byte in the first range of the alternative at n, those before it ending below and those after it starting above: the ranges after decide.
+pub decoded-led : (n : ℕ) (r : Range) (rs : List Range)
+    → utf8Char ≡ take n utf8Char ++ ((r ∷ rs) ∷ drop (suc n) utf8Char)
+    → endsBelow (r .low) (take n utf8Char) ≡ true → startsAbove (r .high) (drop (suc n) utf8Char) ≡ true
+    → (s : List ℕ) → 0 < length s → r .low ≤ getD s 0 0 → getD s 0 0 ≤ r .high → decoded s ≡ ledBy rs s
+unfolding decoded
+decoded-led n r rs e f g [] l h k = absurd (omega arith)
+decoded-led n r rs e f g (b ∷ t) l h k =
+    ap (λ (w : ℕ). decodedOf w (b ∷ t)) (ap (λ (a : List (List Range)). widthIn a (b ∷ t)) e ∙ picked b t (take n utf8Char) r rs (drop (suc n) utf8Char) f g h k)
+
+pub decoded-one : (s : List ℕ) → 0 < length s → getD s 0 0 ≤ 0x7F → decoded s ≡ Char (getD s 0 0) 1
 unfolding fits
-fits-one r z [] = sym z
-fits-one r z (b ∷ t) = and-true (within r b)
+decoded-one s l k = decoded-led 0 (octets 0x00 0x7F) [] refl refl refl s l (omega arith) k
+
+-- A lead byte between two alternatives, the front n of them and the others.
+pub decoded-gap : (n low high : ℕ) → utf8Char ≡ take n utf8Char ++ drop n utf8Char
+    → endsBelow low (take n utf8Char) ≡ true → startsAbove high (drop n utf8Char) ≡ true
+    → (s : List ℕ) → 0 < length s → low ≤ getD s 0 0 → getD s 0 0 ≤ high → decoded s ≡ Malformed
+unfolding decoded
+decoded-gap n low high e f g [] l h k = absurd (omega arith)
+decoded-gap n low high e f g (b ∷ t) l h k =
+    let w : charWidth (b ∷ t) ≡ 0 = ap (λ (a : List (List Range)). widthIn a (b ∷ t)) e ∙ (skip b t low (take n utf8Char) (drop n utf8Char) f h ∙ none b t high (drop n utf8Char) g k) in
+    rw w
+
+pub decoded-past : (s : List ℕ) → 0 < length s → 0xF5 ≤ getD s 0 0 → decoded s ≡ Malformed
+decoded-past s l h = decoded-gap 9 0xF5 (getD s 0 0) refl refl refl s l h (omega arith)
+
+-- ---- the bytes after the lead: a byte that is missing counts as 0, which no range there holds
+
+by-width : (t : Bool) (w : ℕ) (s : List ℕ) → decodedOf (cond t (suc w) 0) s ≡ cond t (Char (codePoint (suc w) s) (suc w)) Malformed
+by-width true w s = refl
+by-width false w s = refl
 
 fits-two : (r : Range) → within r 0 ≡ false → (t : List ℕ) → fits (r ∷ utf8Tail ∷ []) t ≡ (within r (getD t 0 0) && within utf8Tail (getD t 1 0))
 unfolding fits
@@ -98,123 +123,33 @@ fits-three r z (b ∷ []) = refl
 fits-three r z (b ∷ c ∷ []) = refl
 fits-three r z (b ∷ c ∷ d ∷ t) = rw (and-true (within utf8Tail d))
 
--- ---- what stands at the front, by the range of the lead byte
+pub led-two : (s : List ℕ) → ledBy (utf8Tail ∷ []) s ≡ cond (within utf8Tail (getD s 1 0)) (Char (codePoint 2 s) 2) Malformed
+unfolding fits
+led-two [] = refl
+led-two (a ∷ []) = refl
+led-two (a ∷ b ∷ t) = rw (and-true (within utf8Tail b)) (by-width (within utf8Tail b) 1 (a ∷ b ∷ t))
 
-abbrev pub secondLow : ℕ → ℕ
-secondLow lead = cond (eqb lead 0xE0) 0xA0 (cond (eqb lead 0xF0) 0x90 0x80)
+module _ (low high : ℕ) (above : 0 < low) where
+  no-zero : within (octets low high) 0 ≡ false
+  no-zero = rw (lt-leb low 0 above)
 
-abbrev pub secondHigh : ℕ → ℕ
-secondHigh lead = cond (eqb lead 0xED) 0x9F (cond (eqb lead 0xF4) 0x8F 0xBF)
+  pub led-three : (s : List ℕ)
+      → ledBy (octets low high ∷ utf8Tail ∷ []) s
+      ≡ cond (within (octets low high) (getD s 1 0) && within utf8Tail (getD s 2 0)) (Char (codePoint 3 s) 3) Malformed
+  unfolding fits
+  led-three [] = rw no-zero
+  led-three (a ∷ t) =
+      rw (fits-two (octets low high) no-zero t)
+      (by-width (within (octets low high) (getD t 0 0) && within utf8Tail (getD t 1 0)) 2 (a ∷ t))
 
-abbrev pub second : ℕ → Range
-second lead = octets (secondLow lead) (secondHigh lead)
-
-abbrev pub two : ℕ → ℕ → Decoded
-two a b = cond (within utf8Tail b) (Char (a % 32 * 64 + b % 64) 2) Malformed
-
-abbrev pub three : ℕ → ℕ → ℕ → Decoded
-three a b c = cond (within (second a) b && within utf8Tail c) (Char ((a % 16 * 64 + b % 64) * 64 + c % 64) 3) Malformed
-
-abbrev pub four : ℕ → ℕ → ℕ → ℕ → Decoded
-four a b c d =
-    cond (within (second a) b && (within utf8Tail c && within utf8Tail d)) (Char (((a % 8 * 64 + b % 64) * 64 + c % 64) * 64 + d % 64) 4)
-    Malformed
-
-by-width : (t : Bool) (w : ℕ) (s : List ℕ) → decodedOf (cond t (suc w) 0) s ≡ cond t (Char (codePoint (suc w) s) (suc w)) Malformed
-by-width true w s = refl
-by-width false w s = refl
-
-module _ (b : ℕ) (t : List ℕ) where
-  one-byte : b ≤ 0x7F → decoded (b ∷ t) ≡ Char b 1
-  unfolding decoded fits
-  one-byte h = rw (picked b t [] (octets 0x00 0x7F) [] (drop 1 utf8Char) refl refl (omega arith) h)
-
-  no-lead : 0x7F < b → b < 0xC2 → decoded (b ∷ t) ≡ Malformed
-  unfolding decoded
-  no-lead h k =
-      let e : charWidth (b ∷ t) ≡ 0 = skip b t 0x80 (take 1 utf8Char) (drop 1 utf8Char) refl (omega arith) ∙ none b t 0xC1 (drop 1 utf8Char) refl (omega arith) in
-      rw e
-
-  past-lead : 0xF4 < b → decoded (b ∷ t) ≡ Malformed
-  unfolding decoded widthIn
-  past-lead h =
-      let e : charWidth (b ∷ t) ≡ 0 = skip b t 0xF5 utf8Char [] refl (omega arith) in
-      rw e
-
-  two-bytes : 0xC2 ≤ b → b ≤ 0xDF → decoded (b ∷ t) ≡ two b (getD t 0 0)
-  unfolding decoded
-  two-bytes h k = rw (picked b t (take 1 utf8Char) (octets 0xC2 0xDF) (utf8Tail ∷ []) (drop 2 utf8Char) refl refl h k, fits-one utf8Tail refl t) (by-width (within utf8Tail (getD t 0 0)) 1 (b ∷ t))
-
-  -- of three bytes, whatever the bounds of the second
-  three-by : (r : Range) → charWidth (b ∷ t) ≡ cond (fits (r ∷ utf8Tail ∷ []) t) 3 0 → within r 0 ≡ false → r ≡ second b
-      → decoded (b ∷ t) ≡ three b (getD t 0 0) (getD t 1 0)
-  unfolding decoded
-  three-by r e z s =
-      rw (e, fits-two r z t, s) (by-width (within (second b) (getD t 0 0) && within utf8Tail (getD t 1 0)) 2 (b ∷ t))
-
-  four-by : (r : Range) → charWidth (b ∷ t) ≡ cond (fits (r ∷ utf8Tail ∷ utf8Tail ∷ []) t) 4 0 → within r 0 ≡ false → r ≡ second b
-      → decoded (b ∷ t) ≡ four b (getD t 0 0) (getD t 1 0) (getD t 2 0)
-  unfolding decoded
-  four-by r e z s =
-      rw (e, fits-three r z t, s)
-      (by-width (within (second b) (getD t 0 0) && (within utf8Tail (getD t 1 0) && within utf8Tail (getD t 2 0))) 3 (b ∷ t))
-
-  -- the bounds of the second byte behind a lead that is none of the four
-  plain-second : (b ≡ 0xE0 → ⊥) → (b ≡ 0xF0 → ⊥) → (b ≡ 0xED → ⊥) → (b ≡ 0xF4 → ⊥) → utf8Tail ≡ second b
-  plain-second h k m n = rw (ne-eqb b 0xE0 h, ne-eqb b 0xF0 k, ne-eqb b 0xED m, ne-eqb b 0xF4 n)
-
-  second-at : (n : ℕ) → b ≡ n → second n ≡ second b
-  second-at n e = ap second (sym e)
-
-  three-bytes : 0xE0 ≤ b → b ≤ 0xEF → decoded (b ∷ t) ≡ three b (getD t 0 0) (getD t 1 0)
-  three-bytes h k =
-      by-bound b 0xE0
-      (λ m. three-by (octets 0xA0 0xBF) (picked b t (take 2 utf8Char) (octets 0xE0 0xE0) (octets 0xA0 0xBF ∷ utf8Tail ∷ []) (drop 3 utf8Char) refl refl h m) refl (second-at 0xE0 (omega arith)))
-      (λ l. by-bound b 0xEC
-      (λ m. three-by utf8Tail (picked b t (take 3 utf8Char) (octets 0xE1 0xEC) (utf8Tail ∷ utf8Tail ∷ []) (drop 4 utf8Char) refl refl l m) refl (plain-second (omega arith) (omega arith) (omega arith) (omega arith)))
-      (λ l. by-bound b 0xED
-      (λ m. three-by (octets 0x80 0x9F) (picked b t (take 4 utf8Char) (octets 0xED 0xED) (octets 0x80 0x9F ∷ utf8Tail ∷ []) (drop 5 utf8Char) refl refl l m) refl (second-at 0xED (omega arith)))
-      (λ l. three-by utf8Tail (picked b t (take 5 utf8Char) (octets 0xEE 0xEF) (utf8Tail ∷ utf8Tail ∷ []) (drop 6 utf8Char) refl refl l k) refl (plain-second (omega arith) (omega arith) (omega arith) (omega arith)))))
-
-  four-bytes : 0xF0 ≤ b → b ≤ 0xF4 → decoded (b ∷ t) ≡ four b (getD t 0 0) (getD t 1 0) (getD t 2 0)
-  four-bytes h k =
-      by-bound b 0xF0
-      (λ m. four-by (octets 0x90 0xBF) (picked b t (take 6 utf8Char) (octets 0xF0 0xF0) (octets 0x90 0xBF ∷ utf8Tail ∷ utf8Tail ∷ []) (drop 7 utf8Char) refl refl h m) refl (second-at 0xF0 (omega arith)))
-      (λ l. by-bound b 0xF3
-      (λ m. four-by utf8Tail (picked b t (take 7 utf8Char) (octets 0xF1 0xF3) (utf8Tail ∷ utf8Tail ∷ utf8Tail ∷ []) (drop 8 utf8Char) refl refl l m) refl (plain-second (omega arith) (omega arith) (omega arith) (omega arith)))
-      (λ l. four-by (octets 0x80 0x8F) (picked b t (take 8 utf8Char) (octets 0xF4 0xF4) (octets 0x80 0x8F ∷ utf8Tail ∷ utf8Tail ∷ []) [] refl refl l k) refl (second-at 0xF4 (omega arith))))
-
--- The same of a list that is not empty, as the code reads it.
-pub decoded-none : (s : List ℕ) → length s ≡ 0 → decoded s ≡ Malformed
-unfolding decoded widthIn fits
-decoded-none [] h = refl
-decoded-none (b ∷ t) h = absurd (omega arith)
-
-pub decoded-one : (s : List ℕ) → 0 < length s → getD s 0 0 ≤ 0x7F → decoded s ≡ Char (getD s 0 0) 1
-decoded-one [] l k = absurd (omega arith)
-decoded-one (b ∷ t) l k = one-byte b t k
-
-pub decoded-gap : (s : List ℕ) → 0 < length s → 0x7F < getD s 0 0 → getD s 0 0 < 0xC2 → decoded s ≡ Malformed
-decoded-gap [] l h k = absurd (omega arith)
-decoded-gap (b ∷ t) l h k = no-lead b t h k
-
-pub decoded-past : (s : List ℕ) → 0 < length s → 0xF4 < getD s 0 0 → decoded s ≡ Malformed
-decoded-past [] l h = absurd (omega arith)
-decoded-past (b ∷ t) l h = past-lead b t h
-
-pub decoded-two : (s : List ℕ) → 0 < length s → 0xC2 ≤ getD s 0 0 → getD s 0 0 ≤ 0xDF → decoded s ≡ two (getD s 0 0) (getD s 1 0)
-decoded-two [] l h k = absurd (omega arith)
-decoded-two (b ∷ t) l h k = two-bytes b t h k
-
-pub decoded-three : (s : List ℕ) → 0 < length s → 0xE0 ≤ getD s 0 0 → getD s 0 0 ≤ 0xEF
-    → decoded s ≡ three (getD s 0 0) (getD s 1 0) (getD s 2 0)
-decoded-three [] l h k = absurd (omega arith)
-decoded-three (b ∷ t) l h k = three-bytes b t h k
-
-pub decoded-four : (s : List ℕ) → 0 < length s → 0xF0 ≤ getD s 0 0 → getD s 0 0 ≤ 0xF4
-    → decoded s ≡ four (getD s 0 0) (getD s 1 0) (getD s 2 0) (getD s 3 0)
-decoded-four [] l h k = absurd (omega arith)
-decoded-four (b ∷ t) l h k = four-bytes b t h k
+  pub led-four : (s : List ℕ)
+      → ledBy (octets low high ∷ utf8Tail ∷ utf8Tail ∷ []) s
+      ≡ cond (within (octets low high) (getD s 1 0) && (within utf8Tail (getD s 2 0) && within utf8Tail (getD s 3 0))) (Char (codePoint 4 s) 4) Malformed
+  unfolding fits
+  led-four [] = rw no-zero
+  led-four (a ∷ t) =
+      rw (fits-three (octets low high) no-zero t)
+      (by-width (within (octets low high) (getD t 0 0) && (within utf8Tail (getD t 1 0) && within utf8Tail (getD t 2 0))) 3 (a ∷ t))
 
 -- ---- from character to character
 

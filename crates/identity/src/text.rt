@@ -9,8 +9,7 @@ ghost use mathlib.Core.Path.{_≡_};
 ghost use Prim.Native.Nat.{_+_, _<_, _≤_};
 ghost use lib.ListN.{length};
 ghost use Rattle.identity.specs.Utf8.{octets, within, allChars};
-ghost use Rattle.identity.specs.Text.{isControl, isIn, isWhitespace, allows, isUtf8, every, startsWith, isName, isSnapshotId, isDomainByte, isSegmentByte, split, areStrictParts, isStrictName};
-ghost use Rattle.identity.specs.TextLaws.{firstAscii, lastAscii, nextPart};
+ghost use Rattle.identity.specs.Text.{isControl, isIn, isWhitespace, allows, firstAscii, lastAscii, isUtf8, every, startsWith, isName, isSnapshotId, isDomainByte, isSegmentByte, split, areStrictParts, isStrictName, nextPart};
 use crate::utf8::Decoded;
 use crate::utf8::decode;
 
@@ -237,7 +236,7 @@ fn starts_with(bytes: &[u8], prefix: &[u8]) -> bool
     same
 }
 
-// The trust domain and the segments behind it, with slashes between them.
+// The trust domain and the segments after it, with slashes between them.
 fn are_strict_parts(bytes: &[u8]) -> bool
     ensures { λ r. ⌜ r ≡ areStrictParts (split (now (bytes .entry))) ⌝ }
 {

@@ -45,7 +45,6 @@ enum-known-code c = search needs
 enum-told : tie.Need-enum-told Inv-loop μ-loop
 enum-told c = search needs
 
--- what is known of the bytes that are left, wherever one character was decoded
 -- what is known of the bytes that are left, where a character was looked for
 module _ (c : tie.After-decode Inv-loop μ-loop) where
   abbrev head : tie.At-loop Inv-loop μ-loop

@@ -4,8 +4,8 @@ use mathlib.Core.Path.{_≡_, sym, ap, _∙_}
 use Prim.Native.Nat.{_≤_, _<_, _-_}
 use native.Mathlib.Omega.{arith}
 use lib.ListN.{length, getD, drop, drop-of-length-le}
-use Rattle.identity.specs.Text.{split, areStrictParts}
-use Rattle.identity.specs.TextLaws.{nextPart, partsFrom, strict-parts, parts-more, next-run}
+use Rattle.identity.specs.Text.{split, areStrictParts, nextPart}
+use Rattle.identity.specs.TextLaws.{partsFrom, strict-parts, parts-more, next-run}
 use Rattle.identity.proofs.text.are_strict_parts.Statement.{statement}
 use Rattle.identity.proofs.text.are_strict_parts.Tie as tie
 

@@ -2,8 +2,8 @@
 use mathlib.Core.Path.{_≡_, sym}
 use mathlib.Core.Bool.{true}
 use Rattle.identity.specs.Utf8.{octets, within}
-use Rattle.identity.specs.Text.{every, allows}
-use Rattle.identity.specs.TextLaws.{firstAscii, lastAscii, ascii-chars, ascii-allowed}
+use Rattle.identity.specs.Text.{every, allows, firstAscii, lastAscii}
+use Rattle.identity.specs.TextLaws.{ascii-chars, ascii-allowed}
 use borrow.Author.Needs.{needs}
 use Rattle.identity.proofs.text.is_text.Statement.{statement}
 use Rattle.identity.proofs.text.is_text.Tie as tie
