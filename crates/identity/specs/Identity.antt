@@ -27,6 +27,14 @@ isVoterIncarnation value = leb 1 value && leb value maxVoterIncarnation
 abbrev pub isConfigurationEpoch : ℕ → Bool
 isConfigurationEpoch value = leb 1 value
 
+-- `CONSENSUS_NODE_ID_MAX` and `ConsensusNodeId::new` of identity.rs: not 0, and below 2^63. Document 01 refuses a node id from 2^63 on in an observation
+-- with 30; 0, which the Rust's type can hold all the same, is compared there (DECISIONS, reading 1).
+abbrev pub maxConsensusNodeId : ℕ
+maxConsensusNodeId = 2 ^ 63 - 1
+
+abbrev pub isConsensusNodeId : ℕ → Bool
+isConsensusNodeId value = leb 1 value && leb value maxConsensusNodeId
+
 -- numbers 1 and 2
 unfoldable pub validateSlotId : ℕ → Answer
 validateSlotId value = cond (isSlotId value) Accepted InvalidSlot
@@ -46,7 +54,7 @@ numberWhere answer value = cond (isAccepted answer) (NumberResult.Ok value) (Num
 abbrev pub identityWhere : Answer → VoterSlotIdentity → VoterSlotIdentityResult
 identityWhere answer identity = cond (isAccepted answer) (VoterSlotIdentityResult.Ok identity) (VoterSlotIdentityResult.Err answer)
 
--- the next incarnation; 3 behind the largest
+-- the next incarnation; 3 after the largest
 unfoldable pub nextVoterIncarnation : ℕ → NumberResult
 nextVoterIncarnation incarnation =
     cond (eqb incarnation maxVoterIncarnation) (NumberResult.Err IncarnationExhausted)
@@ -72,7 +80,8 @@ nodeId identity =
 unfoldable pub fromNodeId : ℕ → VoterSlotIdentityResult
 fromNodeId node = newVoterSlotIdentity (node % nodeIdSpan) (node / nodeIdSpan + 1)
 
--- The number and the value of each case of the two results. A refusal has the value 0, or slot 0 and incarnation 0.
+-- "For every case of an enum answer, a definition gives this paper's number and values": those of the two results. A refusal has the value 0, or slot 0
+-- and incarnation 0. The contracts equate the pair of both.
 abbrev pub numberOfNumber : NumberResult → ℕ
 numberOfNumber (NumberResult.Ok value) = 0
 numberOfNumber (NumberResult.Err answer) = numberOf answer
@@ -81,6 +90,9 @@ abbrev pub valueOfNumber : NumberResult → ℕ
 valueOfNumber (NumberResult.Ok value) = value
 valueOfNumber (NumberResult.Err answer) = 0
 
+abbrev pub numberAndValue : NumberResult → ℕ × ℕ
+numberAndValue r = (numberOfNumber r, valueOfNumber r)
+
 abbrev pub numberOfIdentity : VoterSlotIdentityResult → ℕ
 numberOfIdentity (VoterSlotIdentityResult.Ok identity) = 0
 numberOfIdentity (VoterSlotIdentityResult.Err answer) = numberOf answer
@@ -88,3 +100,6 @@ numberOfIdentity (VoterSlotIdentityResult.Err answer) = numberOf answer
 abbrev pub valueOfIdentity : VoterSlotIdentityResult → VoterSlotIdentity
 valueOfIdentity (VoterSlotIdentityResult.Ok identity) = identity
 valueOfIdentity (VoterSlotIdentityResult.Err answer) = identityOf 0 0
+
+abbrev pub numberAndIdentity : VoterSlotIdentityResult → ℕ × VoterSlotIdentity
+numberAndIdentity r = (numberOfIdentity r, valueOfIdentity r)

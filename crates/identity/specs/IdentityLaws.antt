@@ -1,16 +1,18 @@
--- Laws of slots, incarnations and node ids: what passed a check is within its bounds, and node ids are made and read without loss.
+-- Laws of slots, incarnations and node ids: what passed a check is within its bounds, node ids are made and read without loss, and document 01's number and
+-- value of a result leave one result.
 -- Each name here is a step of a proof or a law for the layers above; what is right is said in Identity.
 -- Assumes nothing.
-use Prim.Native.Nat.{ℕ, _+_, _-_, _*_, _/_, _%_, _≤_}
-use mathlib.Core.Path.{_≡_, refl, sym}
+use Prim.Native.Nat.{ℕ, _+_, _-_, _*_, _/_, _%_, _^_, _≤_}
+use mathlib.Core.Path.{_≡_, refl, sym, ap, _∙_}
 use mathlib.Core.Bool.{Bool, true, false, cond, _&&_}
 use native.Mathlib.Omega.{arith}
-use lib.Dec.{leb}
-use borrow.Author.Tests.{leb-true}
-use Rattle.identity.specs.Answer.{isAccepted}
-use Rattle.identity.specs.Identity.{maxSlotId, maxVoterIncarnation, nodeIdSpan, isSlotId, isVoterIncarnation, validateVoterIncarnation, validateVoterSlotIdentity, numberWhere, identityWhere, identityOf, newVoterSlotIdentity, nodeId, fromNodeId}
+use lib.Dec.{eqb, leb}
+use borrow.Author.Tests.{leb-true, le-leb}
+use Rattle.identity.specs.Answer.{numberOf, isAccepted}
+use Rattle.identity.specs.AnswerLaws.{number-injective}
+use Rattle.identity.specs.Identity.{maxSlotId, maxVoterIncarnation, maxConsensusNodeId, nodeIdSpan, isSlotId, isVoterIncarnation, isConsensusNodeId, validateVoterIncarnation, validateVoterSlotIdentity, numberWhere, identityWhere, nextVoterIncarnation, identityOf, newVoterSlotIdentity, nodeId, fromNodeId, numberAndValue, numberAndIdentity}
 use Rattle.identity.specs.declared.answer.Answer.{Answer}
-use Rattle.identity.specs.declared.answer.Answer.the-variants.{Accepted, InvalidSlot, InvalidIncarnation}
+use Rattle.identity.specs.declared.answer.Answer.the-variants.{Accepted, InvalidSlot, InvalidIncarnation, IncarnationExhausted}
 use Rattle.identity.specs.declared.identity.NumberResult.{NumberResult}
 use Rattle.identity.specs.declared.identity.VoterSlotIdentity.{VoterSlotIdentity}
 use Rattle.identity.specs.declared.identity.VoterSlotIdentityResult.{VoterSlotIdentityResult}
@@ -87,3 +89,82 @@ made-read node identity h =
     let e = identity-where (validateVoterSlotIdentity found) found identity h in
     let n : numberOfNode found ≡ node = omega arith in
     rw (sym (e .1), e .0, n)
+
+-- A node id that was made is one that `ConsensusNodeId::new` takes.
+pub made-held : (identity : VoterSlotIdentity) (node : ℕ) → nodeId identity ≡ NumberResult.Ok node → isConsensusNodeId node ≡ true
+unfolding nodeId
+made-held identity node h =
+    let e = number-where (validateVoterSlotIdentity identity) (numberOfNode identity) node h in
+    let s = identity-sound identity (e .0) in
+    let n : numberOfNode identity ≡ node = e .1 in
+    let p : 1 ≤ node = omega (arith, s .slot .above) in
+    let q : node ≤ maxConsensusNodeId = omega (arith, s .slot .below, s .incarnation .below) in
+    rw (le-leb 1 node p, le-leb node maxConsensusNodeId q)
+
+-- ---- document 01's number and value leave one result: a value is never that of a refusal, and a refusal's number never 0
+
+abbrev pub TellingNumber : NumberResult → Type 0
+TellingNumber (NumberResult.Ok value) = 1 ≤ value
+TellingNumber (NumberResult.Err answer) = isAccepted answer ≡ false
+
+abbrev pub TellingIdentity : VoterSlotIdentityResult → Type 0
+TellingIdentity (VoterSlotIdentityResult.Ok identity) = Sound identity
+TellingIdentity (VoterSlotIdentityResult.Err answer) = isAccepted answer ≡ false
+
+not-zero : (a : Answer) → isAccepted a ≡ false → 0 ≡ numberOf a → ⊥
+not-zero a h e = let z : true ≡ false = ap (λ (n : ℕ). eqb n 0) e ∙ h in let y : _≡_ {A = ℕ} 0 1 = cc in omega arith
+
+-- What the contract says of a number, made an equation of results.
+pub number-told : (r d : NumberResult) → TellingNumber d → numberAndValue r ≡ numberAndValue d → r ≡ d
+number-told (NumberResult.Ok v) (NumberResult.Ok w) t e = λ i. NumberResult.Ok (e i .1)
+number-told (NumberResult.Ok v) (NumberResult.Err b) t e = absurd (not-zero b t (λ i. e i .0))
+number-told (NumberResult.Err a) (NumberResult.Ok w) t e = absurd (let z : 0 ≡ w = λ i. e i .1 in omega arith)
+number-told (NumberResult.Err a) (NumberResult.Err b) t e = ap NumberResult.Err (number-injective a b (λ i. e i .0))
+
+-- The same of an identity.
+pub identity-told : (r d : VoterSlotIdentityResult) → TellingIdentity d → numberAndIdentity r ≡ numberAndIdentity d → r ≡ d
+identity-told (VoterSlotIdentityResult.Ok v) (VoterSlotIdentityResult.Ok w) t e = λ i. VoterSlotIdentityResult.Ok (e i .1)
+identity-told (VoterSlotIdentityResult.Ok v) (VoterSlotIdentityResult.Err b) t e = absurd (not-zero b t (λ i. e i .0))
+identity-told (VoterSlotIdentityResult.Err a) (VoterSlotIdentityResult.Ok w) t e =
+    absurd (let z : 0 ≡ w .slot = λ i. e i .1 .slot in omega (arith, t .slot .above))
+identity-told (VoterSlotIdentityResult.Err a) (VoterSlotIdentityResult.Err b) t e = ap VoterSlotIdentityResult.Err (number-injective a b (λ i. e i .0))
+
+number-telling : (t : Answer) (value : ℕ) → (isAccepted t ≡ true → 1 ≤ value) → TellingNumber (numberWhere t value)
+number-telling t value h = go (isAccepted t) refl
+  where
+    go : (b : Bool) → isAccepted t ≡ b → TellingNumber (cond b (NumberResult.Ok value) (NumberResult.Err t))
+    go true e = h e
+    go false e = e
+
+identity-telling : (identity : VoterSlotIdentity) → TellingIdentity (identityWhere (validateVoterSlotIdentity identity) identity)
+identity-telling identity = go (isAccepted (validateVoterSlotIdentity identity)) refl
+  where
+    go : (b : Bool) → isAccepted (validateVoterSlotIdentity identity) ≡ b
+        → TellingIdentity (cond b (VoterSlotIdentityResult.Ok identity) (VoterSlotIdentityResult.Err (validateVoterSlotIdentity identity)))
+    go true e = identity-sound identity e
+    go false e = e
+
+-- `next_voter_incarnation`
+pub next-telling : (incarnation : ℕ) → TellingNumber (nextVoterIncarnation incarnation)
+unfolding nextVoterIncarnation
+next-telling incarnation = go (eqb incarnation maxVoterIncarnation)
+  where
+    go : (b : Bool) → TellingNumber (cond b (NumberResult.Err IncarnationExhausted) (numberWhere (validateVoterIncarnation incarnation) (incarnation + 1)))
+    go true = refl
+    go false = number-telling (validateVoterIncarnation incarnation) (incarnation + 1) (λ h. omega arith)
+
+-- `VoterSlotIdentity::node_id`
+pub node-telling : (identity : VoterSlotIdentity) → TellingNumber (nodeId identity)
+unfolding nodeId
+node-telling identity =
+    number-telling (validateVoterSlotIdentity identity) (numberOfNode identity) (λ h. omega (arith, identity-sound identity h .slot .above))
+
+-- `VoterSlotIdentity::new`
+pub new-telling : (slot incarnation : ℕ) → TellingIdentity (newVoterSlotIdentity slot incarnation)
+unfolding newVoterSlotIdentity
+new-telling slot incarnation = identity-telling (identityOf slot incarnation)
+
+-- `VoterSlotIdentity::from_node_id`
+pub read-telling : (node : ℕ) → TellingIdentity (fromNodeId node)
+unfolding fromNodeId
+read-telling node = new-telling (node % nodeIdSpan) (node / nodeIdSpan + 1)

@@ -7,7 +7,7 @@
 // and what made it is a check of the number; a `Result` is an enum of this file; what hashes,
 // serializes or prints is left out.
 ghost use mathlib.Core.Path.{_≡_};
-ghost use Rattle.identity.specs.Identity.{validateSlotId, validateVoterIncarnation, nextVoterIncarnation, isConfigurationEpoch, validateVoterSlotIdentity, newVoterSlotIdentity, nodeId, fromNodeId};
+ghost use Rattle.identity.specs.Identity.{validateSlotId, validateVoterIncarnation, nextVoterIncarnation, isConfigurationEpoch, isConsensusNodeId, validateVoterSlotIdentity, newVoterSlotIdentity, nodeId, fromNodeId, numberAndValue, numberAndIdentity};
 use crate::answer::Answer;
 use crate::answer::accepted;
 
@@ -24,6 +24,9 @@ pub type ConsensusRequestId = [u8; 16];
 pub type SlotId = u16;
 
 pub type VoterIncarnation = u64;
+
+// Largest node id: the engine's stores keep signed numbers of 64 bits.
+pub const CONSENSUS_NODE_ID_MAX: ConsensusNodeId = 9223372036854775807;
 
 // Largest incarnation: with it a node id still fits 63 bits.
 pub const MAX_VOTER_INCARNATION: VoterIncarnation = 140737488355328;
@@ -79,9 +82,9 @@ pub fn validate_voter_incarnation(value: VoterIncarnation) -> Answer
     Answer::Accepted
 }
 
-// `VoterIncarnation::next`. A number that is no incarnation has none behind it.
+// `VoterIncarnation::next`. A number that is no incarnation has none after it.
 pub fn next_voter_incarnation(incarnation: VoterIncarnation) -> NumberResult
-    ensures { λ r. ⌜ r ≡ nextVoterIncarnation incarnation ⌝ }
+    ensures { λ r. ⌜ numberAndValue r ≡ numberAndValue (nextVoterIncarnation incarnation) ⌝ }
 {
     if incarnation == MAX_VOTER_INCARNATION {
         return NumberResult::Err(Answer::IncarnationExhausted);
@@ -100,10 +103,18 @@ pub fn is_configuration_epoch(value: ConsensusConfigurationEpoch) -> bool
     1 <= value
 }
 
+// `ConsensusNodeId::new`: a node id is 1 to 2^63 - 1. An observation refuses one from 2^63 on with 30;
+// 0, which the Rust's type can hold all the same, it compares.
+pub fn is_consensus_node_id(value: ConsensusNodeId) -> bool
+    ensures { λ r. ⌜ r ≡ isConsensusNodeId value ⌝ }
+{
+    (1 <= value) & (value <= CONSENSUS_NODE_ID_MAX)
+}
+
 impl VoterSlotIdentity {
     // The identity of an incarnation of a slot.
     pub fn new(slot: SlotId, incarnation: VoterIncarnation) -> VoterSlotIdentityResult
-        ensures { λ r. ⌜ r ≡ newVoterSlotIdentity slot incarnation ⌝ }
+        ensures { λ r. ⌜ numberAndIdentity r ≡ numberAndIdentity (newVoterSlotIdentity slot incarnation) ⌝ }
     {
         let identity = VoterSlotIdentity { slot, incarnation };
         let answer = identity.validate();
@@ -125,7 +136,7 @@ impl VoterSlotIdentity {
 
     // The engine's number for the identity: (incarnation - 1) * 65,536 + slot.
     pub fn node_id(self) -> NumberResult
-        ensures { λ r. ⌜ r ≡ nodeId self ⌝ }
+        ensures { λ r. ⌜ numberAndValue r ≡ numberAndValue (nodeId self) ⌝ }
     {
         let answer = self.validate();
         if !accepted(answer) {
@@ -136,7 +147,7 @@ impl VoterSlotIdentity {
 
     // Reverses `node_id`, for any 64-bit number.
     pub fn from_node_id(node: ConsensusNodeId) -> VoterSlotIdentityResult
-        ensures { λ r. ⌜ r ≡ fromNodeId node ⌝ }
+        ensures { λ r. ⌜ numberAndIdentity r ≡ numberAndIdentity (fromNodeId node) ⌝ }
     {
         VoterSlotIdentity::new((node % NODE_ID_SPAN) as u16, node / NODE_ID_SPAN + 1)
     }

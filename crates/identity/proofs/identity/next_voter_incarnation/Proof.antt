@@ -6,7 +6,8 @@ use borrow.Author.Tests.{eq-eqb, ne-eqb}
 use Rattle.identity.specs.AnswerLaws.{refused, passed}
 use Rattle.identity.specs.Answer.{isAccepted}
 use Rattle.identity.specs.IdentityLaws.{incarnation-within}
-use Rattle.identity.specs.Identity.{validateVoterIncarnation, nextVoterIncarnation}
+use Rattle.identity.specs.Identity.{validateVoterIncarnation, nextVoterIncarnation, numberAndValue}
+use Rattle.identity.specs.declared.answer.Answer.{Answer}
 use Rattle.identity.specs.declared.identity.NumberResult.{NumberResult}
 use borrow.Author.Needs.{needs}
 use Rattle.identity.proofs.identity.next_voter_incarnation.Statement.{statement}
@@ -28,7 +29,7 @@ accepted-requires c κs = search needs
 
 returns-2 : tie.Need-returns-2
 unfolding nextVoterIncarnation
-returns-2 c = rw (ne-eqb _ _ (c .before .before .before .if1 .left), refused _ _ _ (c .before .before .validate-voter-incarnation .ensures) (c .before .accepted .ensures) (c .if2 .taken)) (ap NumberResult.Err (c .before .before .validate-voter-incarnation .ensures))
+returns-2 c = rw (ne-eqb _ _ (c .before .before .before .if1 .left), refused _ _ _ (c .before .before .validate-voter-incarnation .ensures) (c .before .accepted .ensures) (c .if2 .taken)) (ap (λ (a : Answer). numberAndValue (NumberResult.Err a)) (c .before .before .validate-voter-incarnation .ensures))
 
 add-t6 : tie.Need-add-t6
 add-t6 c = omega (arith, incarnation-within _ (valid c) .below)

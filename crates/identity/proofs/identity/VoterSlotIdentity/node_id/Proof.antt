@@ -5,7 +5,8 @@ use native.Mathlib.Omega.{arith}
 use Rattle.identity.specs.AnswerLaws.{refused, passed}
 use Rattle.identity.specs.Answer.{isAccepted}
 use Rattle.identity.specs.IdentityLaws.{Sound, identity-sound}
-use Rattle.identity.specs.Identity.{validateVoterSlotIdentity, nodeId}
+use Rattle.identity.specs.Identity.{validateVoterSlotIdentity, nodeId, numberAndValue}
+use Rattle.identity.specs.declared.answer.Answer.{Answer}
 use Rattle.identity.specs.declared.identity.NumberResult.{NumberResult}
 use borrow.Author.Needs.{needs}
 use Rattle.identity.proofs.identity.VoterSlotIdentity.node_id.Statement.{statement}
@@ -27,7 +28,7 @@ accepted-requires c κs = search needs
 
 returns : tie.Need-returns
 unfolding nodeId
-returns c = rw (refused _ _ _ (c .before .before .validate .ensures) (c .before .accepted .ensures) (c .if1 .taken)) (ap NumberResult.Err (c .before .before .validate .ensures))
+returns c = rw (refused _ _ _ (c .before .before .validate .ensures) (c .before .accepted .ensures) (c .if1 .taken)) (ap (λ (a : Answer). numberAndValue (NumberResult.Err a)) (c .before .before .validate .ensures))
 
 sub-t5 : tie.Need-sub-t5
 sub-t5 c = omega (arith, sound (c .before) .incarnation .above)
