@@ -2,7 +2,7 @@
 -- value of a result leave one result.
 -- Each name here is a step of a proof or a law for the layers above; what is right is said in Identity.
 -- Assumes nothing.
-use Prim.Native.Nat.{ℕ, _+_, _-_, _*_, _/_, _%_, _^_, _≤_}
+use Prim.Native.Nat.{ℕ, _+_, _-_, _*_, _/_, _%_, _≤_}
 use mathlib.Core.Path.{_≡_, refl, sym, ap, _∙_}
 use mathlib.Core.Bool.{Bool, true, false, cond, _&&_}
 use native.Mathlib.Omega.{arith}
@@ -101,8 +101,9 @@ made-held identity node h =
     let q : node ≤ maxConsensusNodeId = omega (arith, s .slot .below, s .incarnation .below) in
     rw (le-leb 1 node p, le-leb node maxConsensusNodeId q)
 
--- ---- document 01's number and value leave one result: a value is never that of a refusal, and a refusal's number never 0
+-- ---- document 01's number and value leave one result
 
+-- A result that its number and value tell from every other: a value that is no refusal's, or a refusal whose number is not 0.
 abbrev pub TellingNumber : NumberResult → Type 0
 TellingNumber (NumberResult.Ok value) = 1 ≤ value
 TellingNumber (NumberResult.Err answer) = isAccepted answer ≡ false
@@ -114,7 +115,7 @@ TellingIdentity (VoterSlotIdentityResult.Err answer) = isAccepted answer ≡ fal
 not-zero : (a : Answer) → isAccepted a ≡ false → 0 ≡ numberOf a → ⊥
 not-zero a h e = let z : true ≡ false = ap (λ (n : ℕ). eqb n 0) e ∙ h in let y : _≡_ {A = ℕ} 0 1 = cc in omega arith
 
--- What the contract says of a number, made an equation of results.
+-- What a contract says of number and value, made an equation of results: `number-told r (nodeId identity) (node-telling identity) (c .node-id .ensures)`.
 pub number-told : (r d : NumberResult) → TellingNumber d → numberAndValue r ≡ numberAndValue d → r ≡ d
 number-told (NumberResult.Ok v) (NumberResult.Ok w) t e = λ i. NumberResult.Ok (e i .1)
 number-told (NumberResult.Ok v) (NumberResult.Err b) t e = absurd (not-zero b t (λ i. e i .0))
@@ -129,6 +130,7 @@ identity-told (VoterSlotIdentityResult.Err a) (VoterSlotIdentityResult.Ok w) t e
     absurd (let z : 0 ≡ w .slot = λ i. e i .1 .slot in omega (arith, t .slot .above))
 identity-told (VoterSlotIdentityResult.Err a) (VoterSlotIdentityResult.Err b) t e = ap VoterSlotIdentityResult.Err (number-injective a b (λ i. e i .0))
 
+-- A check's answer with the value that it lets pass is such a result.
 number-telling : (t : Answer) (value : ℕ) → (isAccepted t ≡ true → 1 ≤ value) → TellingNumber (numberWhere t value)
 number-telling t value h = go (isAccepted t) refl
   where
@@ -144,7 +146,7 @@ identity-telling identity = go (isAccepted (validateVoterSlotIdentity identity))
     go true e = identity-sound identity e
     go false e = e
 
--- `next_voter_incarnation`
+-- So is what each of the four definitions gives: of `next_voter_incarnation`,
 pub next-telling : (incarnation : ℕ) → TellingNumber (nextVoterIncarnation incarnation)
 unfolding nextVoterIncarnation
 next-telling incarnation = go (eqb incarnation maxVoterIncarnation)
@@ -153,18 +155,18 @@ next-telling incarnation = go (eqb incarnation maxVoterIncarnation)
     go true = refl
     go false = number-telling (validateVoterIncarnation incarnation) (incarnation + 1) (λ h. omega arith)
 
--- `VoterSlotIdentity::node_id`
+-- of `VoterSlotIdentity::node_id`,
 pub node-telling : (identity : VoterSlotIdentity) → TellingNumber (nodeId identity)
 unfolding nodeId
 node-telling identity =
     number-telling (validateVoterSlotIdentity identity) (numberOfNode identity) (λ h. omega (arith, identity-sound identity h .slot .above))
 
--- `VoterSlotIdentity::new`
+-- of `VoterSlotIdentity::new`,
 pub new-telling : (slot incarnation : ℕ) → TellingIdentity (newVoterSlotIdentity slot incarnation)
 unfolding newVoterSlotIdentity
 new-telling slot incarnation = identity-telling (identityOf slot incarnation)
 
--- `VoterSlotIdentity::from_node_id`
+-- and of `VoterSlotIdentity::from_node_id`.
 pub read-telling : (node : ℕ) → TellingIdentity (fromNodeId node)
 unfolding fromNodeId
 read-telling node = new-telling (node % nodeIdSpan) (node / nodeIdSpan + 1)

@@ -1,16 +1,15 @@
 -- Laws of UTF-8's definition: what the lead byte decides, and the steps of a reader that goes from character to character.
 -- Each name here is a step of a proof; what is right is said in Utf8.
 -- Assumes nothing.
-use Prim.Native.Nat.{ℕ, zero, suc, _+_, _*_, _%_, _<_, _≤_}
-use mathlib.Core.Path.{_≡_, refl, sym, ap, _∙_}
+use Prim.Native.Nat.{ℕ, zero, suc, _<_, _≤_}
+use mathlib.Core.Path.{_≡_, refl, ap, _∙_}
 use mathlib.Core.Bool.{Bool, true, false, cond, _&&_, and-true, and-false}
 use mathlib.Core.List.{List, [], _∷_, _++_}
 use native.Mathlib.Omega.{arith}
 use lib.ListN.{length, getD, take, drop}
-use lib.Dec.{eqb, leb, ltb}
-use borrow.Author.Tests.{ltb-true, leb-true, leb-false, le-leb, lt-leb, eq-eqb, ne-eqb}
+use lib.Dec.{leb, ltb}
+use borrow.Author.Tests.{ltb-true, leb-true, le-leb, lt-leb, eq-eqb, ne-eqb}
 use Rattle.identity.specs.Utf8.{Range, octets, within, utf8Tail, utf8Char, fits, widthIn, charWidth, codePoint, decodedOf, decoded, ledBy, charsFrom}
-use Rattle.identity.specs.declared.utf8.Decoded.{Decoded}
 use Rattle.identity.specs.declared.utf8.Decoded.the-variants.{Char, Malformed}
 
 pub and-left : (p q : Bool) → (p && q) ≡ true → p ≡ true
@@ -100,6 +99,7 @@ decoded-gap n low high e f g (b ∷ t) l h k =
     let w : charWidth (b ∷ t) ≡ 0 = ap (λ (a : List (List Range)). widthIn a (b ∷ t)) e ∙ (skip b t low (take n utf8Char) (drop n utf8Char) f h ∙ none b t high (drop n utf8Char) g k) in
     rw w
 
+-- A lead byte after the last alternative.
 pub decoded-past : (s : List ℕ) → 0 < length s → 0xF5 ≤ getD s 0 0 → decoded s ≡ Malformed
 decoded-past s l h = decoded-gap 9 0xF5 (getD s 0 0) refl refl refl s l h (omega arith)
 

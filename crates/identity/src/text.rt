@@ -6,8 +6,7 @@
 // for UTF-8 and the bound on the length in it; Rust's `char::is_control` and `char::is_whitespace` are
 // written out; the strict name is new.
 ghost use mathlib.Core.Path.{_≡_};
-ghost use Prim.Native.Nat.{_+_, _<_, _≤_};
-ghost use lib.ListN.{length};
+ghost use Prim.Native.Nat.{_<_};
 ghost use Rattle.identity.specs.Utf8.{octets, within, allChars};
 ghost use Rattle.identity.specs.Text.{isControl, isIn, isWhitespace, allows, firstAscii, lastAscii, isUtf8, every, startsWith, isName, isSnapshotId, isDomainByte, isSegmentByte, split, areStrictParts, isStrictName, nextPart};
 use crate::utf8::Decoded;
