@@ -14,7 +14,7 @@ use Rattle.identity.specs.Text.{isName}
 use Rattle.identity.specs.declared.answer.Answer.{Answer}
 use Rattle.identity.specs.declared.answer.Answer.the-variants.{Accepted, InvalidRecord}
 use Rattle.records.specs.Records.{allBelow, slotAt, memberAt}
-use Rattle.records.specs.RecordsLaws.{allBelow-true}
+use Rattle.records.specs.RecordsLaws.{allBelow-all}
 use Rattle.records.specs.Equality.{sameVoterSlotMember}
 use Rattle.records.specs.Validation.{requireOf, validCount, textOf, validAttestation, validOperation, distinctResults, claimsOf, otherMember, otherRequest, validateMember, validateMembers, validateOperation}
 use Rattle.records.specs.declared.records.LostVoterAttestationV1.{LostVoterAttestationV1}
@@ -72,7 +72,7 @@ controller-fails t h = rw (h, and-false (isName (textOf (t .replacement .attesta
 -- a slot without a receipt is distinct from all others
 pub distinct-without : (t : VoterSlotTable) (i : ℕ) → slotAt t i .«has_last_result» ≡ false
     → allBelow (λ j. distinctResults (slotAt t j) (slotAt t i)) i ≡ true
-distinct-without t i h = allBelow-true (λ j. distinctResults (slotAt t j) (slotAt t i)) i (λ j. rw (h, and-false (slotAt t j .«has_last_result»)))
+distinct-without t i h = allBelow-all (λ j. distinctResults (slotAt t j) (slotAt t i)) i (λ j l. rw (h, and-false (slotAt t j .«has_last_result»)))
 
 -- ---- the slots one by one
 
