@@ -120,7 +120,7 @@ table-is t = record { is = refl }
 
 -- ---- an open request
 
--- that of a table that the Rust types can hold
+-- that of a table that passes the test for 30
 pub replacement-fits : (t : VoterSlotTable) → representable t ≡ true → t .«has_replacement» ≡ true → representableReplacement (t .replacement) ≡ true
 replacement-fits t h e = sym (cond-true (t .«has_replacement») _ _ e) ∙ says (table-is t) h .1 .1 .1
 

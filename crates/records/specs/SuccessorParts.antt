@@ -141,7 +141,7 @@ slot-same s = slot-in-phase s (s .phase) (le-refl _)
 
 -- ---- two tables that are valid
 
--- Tables of one revision are equal; else each slot follows its like, and the open request does.
+-- The head follows; tables of one revision are equal; of another, each slot follows the old one, and so does the open request.
 pub record SuccessionHolds (new old : VoterSlotTable) : Type 0 where
   pub head : headSucceeds new old ≡ true
   pub same : new .revision ≡ old .revision → new ≡ old
@@ -149,6 +149,7 @@ pub record SuccessionHolds (new old : VoterSlotTable) : Type 0 where
   pub replacement : (new .revision ≡ old .revision → ⊥) → replacementSucceeds new old ≡ Accepted
 
 module _ (new old : VoterSlotTable) where
+  -- the slot at a place follows the old one; the answers for one revision and for two
   follows-at : ℕ → Bool
   follows-at i = slotSucceeds (slotAt new i) (slotAt old i)
 
@@ -158,6 +159,7 @@ module _ (new old : VoterSlotTable) where
   ifLater : Answer
   ifLater = orRegression (allBelow follows-at (new .count)) (replacementSucceeds new old)
 
+  -- the check of two valid tables taken apart
   pub succession-holds : succession new old ≡ Accepted → SuccessionHolds new old
   unfolding succession follows-at ifSame ifLater
   succession-holds h =
@@ -172,6 +174,7 @@ module _ (new old : VoterSlotTable) where
         replacement = λ d. later d .1;
       }
 
+  -- and put together again
   pub succession-accepted : SuccessionHolds new old → succession new old ≡ Accepted
   unfolding succession follows-at ifSame ifLater
   succession-accepted h =
@@ -190,7 +193,7 @@ module _ (new old : VoterSlotTable) where
 
 -- ---- the whole check
 
--- of tables that the Rust types can hold, and an old one that is valid
+-- what is left of it where both tables passed the test for 30 and the old one is valid
 pub check-is : (new old : VoterSlotTable) → representable new ≡ true → representable old ≡ true → validity old ≡ Accepted
     → validateSuccessorOf new old ≡ andThen (validity new) (succession new old)
 unfolding validateSuccessorOf
@@ -204,6 +207,7 @@ pub record CheckHolds (new old : VoterSlotTable) : Type 0 where
   pub old-valid : validate old ≡ Accepted
   pub follows : succession new old ≡ Accepted
 
+-- the whole check taken apart
 pub check-holds : (new old : VoterSlotTable) → validateSuccessorOf new old ≡ Accepted → CheckHolds new old
 unfolding validateSuccessorOf
 check-holds new old h =
@@ -216,6 +220,7 @@ check-holds new old h =
       follows = w .1;
     }
 
+-- and put together again
 pub check-accepted : (new old : VoterSlotTable) → CheckHolds new old → validateSuccessorOf new old ≡ Accepted
 check-accepted new old h =
     let v = valid-parts new (h .new-valid) in

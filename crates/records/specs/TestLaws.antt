@@ -111,5 +111,6 @@ both-accepted a b h = by (isAccepted a) refl h
     by true e k = (is-accepted a e, k)
     by false e k = absurd (false≢true (sym e ∙ ap isAccepted k))
 
+-- and where both are, it is
 pub then-accepted : (a b : Answer) → a ≡ Accepted → b ≡ Accepted → andThen a b ≡ Accepted
 then-accepted a b h k = ap (λ (x : Answer). andThen x b) h ∙ k

@@ -49,23 +49,26 @@ pub record ResultHolds (now era : ℕ) (active : Bool) (s : VoterSlotRecord) : T
   pub settled : s .«last_result» .incarnation ≡ s .member .identity .incarnation → (eqb (s .phase) voting && eqb (s .«last_result» .kind) completed) ≡ true
 
 module _ (revision epoch : ℕ) (active : Bool) (s : VoterSlotRecord) where
-  result-numbers : MadeOf (
+  -- its revision, epoch and incarnation
+  abbrev numbers : Bool
+  numbers =
+      ltb 0 (s .«last_result» .revision)
+      && (leb (s .«last_result» .revision) revision
+      && (leb (s .«last_result» .«configuration_epoch») epoch && (ltb 1 (s .«last_result» .incarnation) && leb (s .«last_result» .incarnation) (s .member .identity .incarnation))))
+
+  numbers-are : MadeOf (
       ltb 0 (s .«last_result» .revision)
       ∷ leb (s .«last_result» .revision) revision
       ∷ leb (s .«last_result» .«configuration_epoch») epoch
       ∷ ltb 1 (s .«last_result» .incarnation)
       ∷ leb (s .«last_result» .incarnation) (s .member .identity .incarnation)
-      ∷ []) (ltb 0 (s .«last_result» .revision)
-      && (leb (s .«last_result» .revision) revision
-      && (leb (s .«last_result» .«configuration_epoch») epoch && (ltb 1 (s .«last_result» .incarnation) && leb (s .«last_result» .incarnation) (s .member .identity .incarnation)))))
+      ∷ []) numbers
   unfolding allTrue
-  result-numbers = record { is = refl }
+  numbers-are = record { is = refl }
 
   result-is : MadeOf (
       validLogId (s .«last_result» .terminal)
-      ∷ (ltb 0 (s .«last_result» .revision)
-      && (leb (s .«last_result» .revision) revision
-      && (leb (s .«last_result» .«configuration_epoch») epoch && (ltb 1 (s .«last_result» .incarnation) && leb (s .«last_result» .incarnation) (s .member .identity .incarnation)))))
+      ∷ numbers
       ∷ (not active || ltb (s .«last_result» .incarnation) (s .member .identity .incarnation))
       ∷ (not (eqb (s .«last_result» .incarnation) (s .member .identity .incarnation)) || (eqb (s .phase) voting && eqb (s .«last_result» .kind) completed))
       ∷ []) (validResult revision epoch active s)
@@ -75,7 +78,7 @@ module _ (revision epoch : ℕ) (active : Bool) (s : VoterSlotRecord) where
   pub result-holds : validResult revision epoch active s ≡ true → ResultHolds revision epoch active s
   result-holds h =
       let e = says result-is h in
-      let n = says result-numbers (e .1 .0) in
+      let n = says numbers-are (e .1 .0) in
       record {
         terminal = e .0;
         some = ltb-true _ _ (n .0);
@@ -92,7 +95,7 @@ module _ (revision epoch : ℕ) (active : Bool) (s : VoterSlotRecord) where
       passes result-is (
         h .terminal,
         (
-          passes result-numbers (lt-ltb _ _ (h .some), (le-leb _ _ (h .revision), (le-leb _ _ (h .epoch), (lt-ltb _ _ (h .later), le-leb _ _ (h .own))))),
+          passes numbers-are (lt-ltb _ _ (h .some), (le-leb _ _ (h .revision), (le-leb _ _ (h .epoch), (lt-ltb _ _ (h .later), le-leb _ _ (h .own))))),
           (then-passes active _ (λ a. lt-ltb _ _ (h .earlier a)), then-passes (eqb (s .«last_result» .incarnation) (s .member .identity .incarnation)) _ (λ a. h .settled (eqb-true _ _ a))),
         ),
       )
@@ -190,6 +193,7 @@ distinct-holds a b h x y e =
     never-says (a .«has_last_result» && (b .«has_last_result» && eqBytes (a .«last_result» .«request_id») (b .«last_result» .«request_id»))) h
     (and-both _ _ x (and-both _ _ y (same-bytes _ _ e)))
 
+-- in either order
 pub distinct-sym : (a b : VoterSlotRecord) → Distinct a b → Distinct b a
 distinct-sym a b n x y e = n y x (sym e)
 
@@ -298,7 +302,7 @@ module _ (c : VoterConfiguration) where
 
 -- ---- the phase of the slot being replaced
 
--- it is one of the three
+-- it is one of the three phases
 pub phase-held : (phase : ℕ) → leb (targetPhase phase) voting ≡ true
 phase-held phase = go (leb phase snapshotInstalled) (leb phase fenced)
   where
@@ -307,7 +311,7 @@ phase-held phase = go (leb phase snapshotInstalled) (leb phase fenced)
     go false true = refl
     go false false = refl
 
--- it never falls
+-- it does not fall where the request's phase does not
 pub phase-rises : (p q : ℕ) → p ≤ q → targetPhase p ≤ targetPhase q
 phase-rises p q l = go (leb p snapshotInstalled) (leb p fenced) (leb q snapshotInstalled) (leb q fenced) refl refl refl refl
   where
@@ -322,7 +326,7 @@ phase-rises p q l = go (leb p snapshotInstalled) (leb p fenced) (leb q snapshotI
 
 -- ---- the open request
 
--- with the table's head
+-- What it has in common with the table's head.
 pub record HeadHolds (t : VoterSlotTable) (op : VoterReplacementRecord) : Type 0 where
   pub some : 0 < op .«expected_revision»
   pub earlier : op .«expected_revision» < t .revision
@@ -332,7 +336,7 @@ pub record HeadHolds (t : VoterSlotTable) (op : VoterReplacementRecord) : Type 0
   pub successor : op .successor .count ≡ t .count
   pub next : op .predecessor .epoch + 1 ≡ op .successor .epoch
 
--- all of it but the members
+-- The request itself, without the slots.
 pub record OperationHolds (t : VoterSlotTable) (op : VoterReplacementRecord) : Type 0 where
   pub attestation : validAttestation (op .attestation) ≡ true
   pub predecessor : validConfiguration (op .predecessor) ≡ true
@@ -414,7 +418,7 @@ other-valid : (c : Claims) (s : VoterSlotRecord) → Other (c .«request_id») s
 other-valid c s n =
     then-passes (s .«has_last_result») _ (λ a. never-passes (eqBytes (s .«last_result» .«request_id») (c .«request_id»)) (λ e. n a (eqBytes-true _ _ e)))
 
--- The slot being replaced, and the member before it.
+-- The slot being replaced, where p is the member before it.
 pub record TargetHolds (c : Claims) (s : VoterSlotRecord) (p : VoterSlotMember) : Type 0 where
   pub slot : p .identity .slot ≡ s .member .identity .slot
   pub more : c .«expected_incarnation» ≡ maxVoterIncarnation → ⊥
@@ -427,38 +431,39 @@ pub record TargetHolds (c : Claims) (s : VoterSlotRecord) (p : VoterSlotMember) 
   pub retired : retiredMember c s p ≡ true
   pub other : Other (c .«request_id») s
 
--- A slot that is not being replaced, and the member before it.
+-- A slot that is not being replaced, where p is the member before it: the same.
 pub record OtherHolds (c : Claims) (s : VoterSlotRecord) (p : VoterSlotMember) : Type 0 where
   pub member : p ≡ s .member
   pub phase : s .phase ≡ voting
   pub other : Other (c .«request_id») s
 
 module _ (c : Claims) (s : VoterSlotRecord) (p q : VoterSlotMember) where
-  target-is : MadeOf (
-      (eqb (c .«expected_incarnation» + 1) (q .identity .incarnation)
+  -- the candidate: of the next incarnation, admitted later, with the attested key
+  abbrev candidate : Bool
+  candidate =
+      eqb (c .«expected_incarnation» + 1) (q .identity .incarnation)
       && (leb (p .identity .incarnation) (c .«expected_incarnation»)
       && (ltb (p .«admission_generation») (q .«admission_generation»)
       && (eqb (q .«admission_generation») (c .«admission_generation»)
-      && eqBytes (q .«key_digest») (c .«candidate_key_digest»)))))
+      && eqBytes (q .«key_digest») (c .«candidate_key_digest»))))
+
+  target-is : MadeOf (
+      candidate
       ∷ eqb (s .phase) (targetPhase (c .phase))
       ∷ retiredMember c s p
       ∷ []) (validTarget c s p q)
   unfolding allTrue validTarget
   target-is = record { is = refl }
 
-  target-numbers : MadeOf (
+  candidate-is : MadeOf (
       eqb (c .«expected_incarnation» + 1) (q .identity .incarnation)
       ∷ leb (p .identity .incarnation) (c .«expected_incarnation»)
       ∷ ltb (p .«admission_generation») (q .«admission_generation»)
       ∷ eqb (q .«admission_generation») (c .«admission_generation»)
       ∷ eqBytes (q .«key_digest») (c .«candidate_key_digest»)
-      ∷ []) (eqb (c .«expected_incarnation» + 1) (q .identity .incarnation)
-      && (leb (p .identity .incarnation) (c .«expected_incarnation»)
-      && (ltb (p .«admission_generation») (q .«admission_generation»)
-      && (eqb (q .«admission_generation») (c .«admission_generation»)
-      && eqBytes (q .«key_digest») (c .«candidate_key_digest»)))))
+      ∷ []) candidate
   unfolding allTrue
-  target-numbers = record { is = refl }
+  candidate-is = record { is = refl }
 
   abbrev fits : Bool
   fits = sameVoterSlotMember (s .member) q && eqb (p .identity .slot) (q .identity .slot)
@@ -480,7 +485,7 @@ module _ (c : Claims) (s : VoterSlotRecord) (p q : VoterSlotMember) where
       let n = eqb-true _ _ (and-right (sameVoterSlotMember (s .member) q) _ (e .0)) in
       (sym m, (n ∙ ap (λ (x : VoterSlotMember). x .identity .slot) (sym m), e .1))
 
-  -- a slot has the number of its member before
+  -- the member before has the slot's number
   pub member-number : validateMember c s p q ≡ Accepted → p .identity .slot ≡ s .member .identity .slot
   member-number h = member-parts h .1 .0
 
@@ -492,7 +497,7 @@ module _ (c : Claims) (s : VoterSlotRecord) (p q : VoterSlotMember) where
       (sym (cond-true isTarget ifTarget ifOther (eq-eqb _ _ e)) ∙ f .1 .1) in
       let k = chosen (validTarget c s p q && otherRequest c s) Accepted InvalidRecord refl (g .1) .0 in
       let m = says target-is (and-left (validTarget c s p q) _ k) in
-      let n = says target-numbers (m .0) in
+      let n = says candidate-is (m .0) in
       let q-inc : q .identity .incarnation ≡ s .member .identity .incarnation = ap (λ (x : VoterSlotMember). x .identity .incarnation) (f .0) in
       let q-gen : q .«admission_generation» ≡ s .member .«admission_generation» = ap (λ (x : VoterSlotMember). x .«admission_generation») (f .0) in
       record {
@@ -520,7 +525,7 @@ module _ (c : Claims) (s : VoterSlotRecord) (p q : VoterSlotMember) where
         other = other-holds c s (and-right (otherMember s p q) _ k);
       }
 
--- The successor's member is the slot's own.
+-- the way back, where the successor's member is the slot's own
 module _ (c : Claims) (s : VoterSlotRecord) (p : VoterSlotMember) where
   member-valid : p .identity .slot ≡ s .member .identity .slot → cond (isTarget c s p (s .member)) (ifTarget c s p (s .member)) (ifOther c s p (s .member)) ≡ Accepted
       → validateMember c s p (s .member) ≡ Accepted
@@ -535,7 +540,7 @@ module _ (c : Claims) (s : VoterSlotRecord) (p : VoterSlotMember) where
       ∙ (cond-false (eqb (c .«expected_incarnation») maxVoterIncarnation) IncarnationExhausted _ (ne-eqb _ _ (h .more))
       ∙ cond-true (validTarget c s p (s .member) && otherRequest c s) Accepted InvalidRecord
       (and-both _ _
-      (passes (target-is c s p (s .member)) (passes (target-numbers c s p (s .member)) (eq-eqb _ _ (h .next), (le-leb _ _ (h .earlier), (lt-ltb _ _ (h .generation), (eq-eqb _ _ (h .admitted), h .key)))), (eq-eqb _ _ (h .phase), h .retired)))
+      (passes (target-is c s p (s .member)) (passes (candidate-is c s p (s .member)) (eq-eqb _ _ (h .next), (le-leb _ _ (h .earlier), (lt-ltb _ _ (h .generation), (eq-eqb _ _ (h .admitted), h .key)))), (eq-eqb _ _ (h .phase), h .retired)))
       (other-valid c s (h .other)))))
 
   -- and another slot
@@ -562,6 +567,7 @@ module _ (t : VoterSlotTable) where
       by true e f g = ap (λ (k : ℕ). memberAnswer t k) (eqb-true i n e) ∙ g
       by false e f g = let d = eqb-false i n e in f (omega arith)
 
+  -- and where none is refused, the members are accepted
   pub members-all : (n : ℕ) → ((i : ℕ) → i < n → memberAnswer t i ≡ Accepted) → validateMembers t n ≡ Accepted
   unfolding validateMembers
   members-all zero h = refl
@@ -584,6 +590,7 @@ module _ (t : VoterSlotTable) where
   unfolding validity
   valid-slots-hold h = slots-hold t (chosen (validSlots t) _ InvalidRecord refl h .0)
 
+  -- validity taken apart, where no request is open
   pub idle-holds : validity t ≡ Accepted → t .«has_replacement» ≡ false → IdleHolds
   unfolding validity
   idle-holds h e =
@@ -592,6 +599,7 @@ module _ (t : VoterSlotTable) where
       let n = chosen (allBelow (λ i. eqb (slotAt t i .phase) voting) (t .count)) Accepted InvalidRecord refl m .0 in
       record { slots = slots-hold t (k .0); phase = λ i l. eqb-true _ _ (allBelow-at (λ i. eqb (slotAt t i .phase) voting) _ i n l) }
 
+  -- and where one is
   pub open-holds : validity t ≡ Accepted → t .«has_replacement» ≡ true → OpenHolds
   unfolding validity validateOperation
   open-holds h e =
@@ -606,6 +614,7 @@ module _ (t : VoterSlotTable) where
         target = chosen (hasTarget t) Accepted InvalidRecord refl (o .1) .0;
       }
 
+  -- put together again, where a request is open
   pub open-valid : t .«has_replacement» ≡ true → OpenHolds → validity t ≡ Accepted
   unfolding validity validateOperation
   open-valid e h =
@@ -615,6 +624,7 @@ module _ (t : VoterSlotTable) where
       ∙ then-accepted (validateMembers t (t .count)) (requireOf (hasTarget t) Accepted) (members-all (t .count) (h .member))
       (cond-true (hasTarget t) Accepted InvalidRecord (h .target))))
 
+  -- and where none is
   pub idle-valid : t .«has_replacement» ≡ false → IdleHolds → validity t ≡ Accepted
   unfolding validity
   idle-valid e h =
@@ -625,7 +635,7 @@ module _ (t : VoterSlotTable) where
 
 -- ---- after the test for 30
 
--- a table that is accepted can be held by the Rust types and is valid
+-- a table that is accepted has passed the test for 30 and is valid
 pub valid-parts : (t : VoterSlotTable) → validate t ≡ Accepted → (representable t ≡ true) × (validity t ≡ Accepted)
 unfolding validate
 valid-parts t h = chosen (representable t) (validity t) Unrepresentable refl h
