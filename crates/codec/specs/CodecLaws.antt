@@ -1,5 +1,5 @@
 -- The two round trips of a table, and of an attestation. Document 01's demand: reading a written valid table returns it; writing a table just read gives its bytes.
--- Of every table that the types hold (`HeldVoterSlotTable`), with no bound beside: GoodLaws and SizeLaws say that a valid one is read whole.
+-- Of every table that the types hold (`HeldVoterSlotTable`), with no other bound: GoodLaws and SizeLaws say that a valid one is read whole.
 -- Assumes nothing.
 use Prim.Native.Nat.{ℕ, zero, suc, _≤_}
 use mathlib.Core.Path.{_≡_, refl, sym, ap, _∙_, subst}
@@ -21,23 +21,25 @@ use Rattle.format.specs.Through.{whole, whole-is, whole-there}
 use Rattle.records.specs.Held.{HeldLostVoterAttestationV1, HeldVoterSlotTable}
 use Rattle.records.specs.Representable.{representableAttestation}
 use Rattle.records.specs.Validation.{validAttestation, validity, validate}
+use Rattle.records.specs.ValidationLaws.{count-some}
+use Rattle.records.specs.ValidParts.{valid-parts, valid-joined, valid-slots-hold}
 use Rattle.records.specs.declared.records.LostVoterAttestationV1.{LostVoterAttestationV1}
 use Rattle.records.specs.declared.records.VoterSlotTable.{VoterSlotTable}
 use Rattle.layout.specs.Format.{maxAttestationBytes, attestation, table}
 use Rattle.codec.specs.Codec.{maxTableBytes, bounded, decodeVoterSlotTable, decodeLostVoterAttestation, tableBytes, encodeVoterSlotTable, restarted}
-use Rattle.codec.specs.ValidLaws.{validate-says, validate-passes, count-some, valid-count}
 use Rattle.writer.specs.SizeLaws.{attestation-long, table-long, table-bounds}
 use Rattle.codec.specs.GoodLaws.{attestation-good, table-good}
 use Rattle.codec.specs.FitsLaws.{attestation-fits, table-fits}
+use Rattle.codec.specs.ReadHeld.{attestation-held, table-held}
 use Rattle.codec.specs.ReadLaws.{table-tests}
 
 -- The bytes of a valid table are between 180 and 8072.
 pub bytes-bounds : (t : VoterSlotTable) → HeldVoterSlotTable t → validate t ≡ Accepted → (180 ≤ length (tableBytes t)) × (length (tableBytes t) ≤ 8072)
 unfolding tableBytes
 bytes-bounds t h v =
-    let s = validate-says t v in
+    let s = valid-parts t v in
     let f = table-fits t (s .0) in
-    let b = table-bounds t f (count-some (t .count) (valid-count t (s .1))) in
+    let b = table-bounds t f (omega (arith, count-some (t .count) (valid-slots-hold t (s .1) .odd))) in
     let l = table-long t h f in
     (omega arith, omega arith)
 
@@ -45,11 +47,11 @@ bytes-bounds t h v =
 pub written-read : (t : VoterSlotTable) → HeldVoterSlotTable t → validate t ≡ Accepted → decodeVoterSlotTable (tableBytes t) ≡ ok t (length (tableBytes t))
 unfolding decodeVoterSlotTable tableBytes bounded andThen gate pick
 written-read t h v =
-    let s = validate-says t v in
+    let s = valid-parts t v in
     let b = bytes-bounds t h v in
     rw (le-leb (length (table .enc t)) maxTableBytes (omega arith)) (rw (whole-there table t (table-good t h (s .0) (s .1))) (rw (s .1)))
 
--- Writing a valid table into a buffer that is long enough: its bytes, and behind them what stood there.
+-- Writing a valid table into a buffer that is long enough: its bytes, and after them what was there.
 pub encoded-is : (t : VoterSlotTable) (buffer : List ℕ) → validate t ≡ Accepted → length (tableBytes t) ≤ length buffer
     → encodeVoterSlotTable t buffer ≡ ok (tableBytes t ++ drop (length (tableBytes t)) buffer) (length (tableBytes t))
 unfolding encodeVoterSlotTable andThen gate pick
@@ -93,9 +95,18 @@ read-written bs z e = back-and-there table bs z (read-is bs e .0)
 pub read-valid : (bs : List ℕ) {t : VoterSlotTable} {n : ℕ} → Bytes bs → decodeVoterSlotTable bs ≡ ok t n → validate t ≡ Accepted
 read-valid bs {t} {n} z e =
     let r = read-is bs e in
-    validate-passes t (table-tests t (table .good bs z (r .0))) (r .1)
+    valid-joined t (table-tests t (table .good bs z (r .0))) (r .1)
 
--- So it is written again, into every buffer that is long enough, and the bytes are those that were read.
+-- What was read has the bounds of its types: each number fits, each array has its length.
+pub read-held : (bs : List ℕ) {t : VoterSlotTable} {n : ℕ} → Bytes bs → decodeVoterSlotTable bs ≡ ok t n → HeldVoterSlotTable t
+read-held bs {t} {n} z e = table-held t (table .good bs z (read-is bs e .0))
+
+-- So bytes that are accepted number 180 to 8072.
+pub read-bounds : (bs : List ℕ) {t : VoterSlotTable} {n : ℕ} → Bytes bs → decodeVoterSlotTable bs ≡ ok t n → (180 ≤ length bs) × (length bs ≤ 8072)
+read-bounds bs {t} {n} z e =
+    subst (λ (x : List ℕ). (180 ≤ length x) × (length x ≤ 8072)) (read-written bs z e) (bytes-bounds t (read-held bs z e) (read-valid bs z e))
+
+-- It is written again, into every buffer that is long enough, and the bytes are those that were read.
 pub read-encoded : (bs : List ℕ) {t : VoterSlotTable} {n : ℕ} → Bytes bs → decodeVoterSlotTable bs ≡ ok t n → (buffer : List ℕ) → length bs ≤ length buffer
     → encodeVoterSlotTable t buffer ≡ ok (bs ++ drop (length bs) buffer) (length bs)
 read-encoded bs {t} {n} z e buffer l =
@@ -118,8 +129,15 @@ attestation-written-read a h r v =
     let l = attestation-long a h (f .0) (f .1) in
     rw (le-leb (length (attestation .enc a)) maxAttestationBytes (omega arith)) (whole-there attestation a (attestation-good a h r v))
 
+-- what was read is all of the bytes
+attestation-read-is : (bs : List ℕ) {a : LostVoterAttestationV1} {n : ℕ} → decodeLostVoterAttestation bs ≡ ok a n → attestation .dec bs ≡ ok a (length bs)
+unfolding decodeLostVoterAttestation bounded
+attestation-read-is bs e = whole-is attestation bs (bounded-by (leb (length bs) maxAttestationBytes) (whole attestation bs) e)
+
 -- And writing an attestation just read gives its bytes.
 pub attestation-read-written : (bs : List ℕ) {a : LostVoterAttestationV1} {n : ℕ} → Bytes bs → decodeLostVoterAttestation bs ≡ ok a n → attestation .enc a ≡ bs
-unfolding decodeLostVoterAttestation bounded
-attestation-read-written bs z e =
-    back-and-there attestation bs z (whole-is attestation bs (bounded-by (leb (length bs) maxAttestationBytes) (whole attestation bs) e))
+attestation-read-written bs z e = back-and-there attestation bs z (attestation-read-is bs e)
+
+-- It has the bounds of its types.
+pub attestation-read-held : (bs : List ℕ) {a : LostVoterAttestationV1} {n : ℕ} → Bytes bs → decodeLostVoterAttestation bs ≡ ok a n → HeldLostVoterAttestationV1 a
+attestation-read-held bs {a} {n} z e = attestation-held a (attestation .good bs z (attestation-read-is bs e))

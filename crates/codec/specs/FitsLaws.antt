@@ -18,7 +18,8 @@ use Rattle.records.specs.declared.records.VoterReplacementEvidence.{VoterReplac
 use Rattle.records.specs.declared.records.VoterReplacementRecord.{VoterReplacementRecord}
 use Rattle.records.specs.declared.records.VoterSlotTable.{VoterSlotTable}
 use Rattle.layout.specs.Parts.{ReplacementFits, TableFits}
-use Rattle.codec.specs.TestLaws.{says, text-is, configuration-is, attestation-is, evidence-is, replacement-is, table-is}
+use Rattle.records.specs.RepresentableParts.{text-is, configuration-is, attestation-is, evidence-is, replacement-is, table-is}
+use Rattle.records.specs.TestLaws.{says}
 
 -- a text is no longer than its place
 pub text-fits : (most len : ℕ) (bytes : List ℕ) → isText most len bytes ≡ true → len ≤ most

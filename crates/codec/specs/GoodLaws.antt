@@ -45,9 +45,10 @@ use Rattle.records.specs.declared.records.VoterReplacementRecord.{VoterReplacem
 use Rattle.records.specs.declared.records.VoterSlotTable.{VoterSlotTable}
 use Rattle.layout.specs.Parts.{bindingOf, resultHeadOf, slotMemberOf, claimsRequestOf, claimsSlotOf, claimsNamesOf, claimsEndOf, timesOf, changeOf, tableHeadOf}
 use Rattle.layout.specs.Format.{require, slotId, incarnation, epoch, count, choice, identity, logId, optionalLogId, sized, string, placed, spiffeId, snapshotId, binding, member, members, configuration, resultHead, result, slotMember, slot, slots, version, claimsRequest, claimsSlot, claimsNames, times, claimsEnd, claims, attestation, snapshot, threeCuts, evidence, change, replacement, magic, headTest, head, tableHead, table}
-use Rattle.codec.specs.TestLaws.{and-both, says, text-is, member-is, result-is, slot-is, configuration-is, attestation-is, evidence-is, replacement-is, table-is}
+use Rattle.records.specs.RepresentableParts.{text-is, member-is, result-is, slot-is, configuration-is, attestation-is, evidence-is, replacement-is, table-is}
+use Rattle.records.specs.TestLaws.{and-both, says, cond-true, cond-false}
 use Rattle.codec.specs.FitsLaws.{text-fits, attestation-fits, configuration-count}
-use Rattle.codec.specs.ValidLaws.{cond-yes, cond-not, valid-count, valid-attestation, valid-predecessor, valid-successor, configuration-valid}
+use Rattle.records.specs.ValidParts.{valid-slots-hold, configuration-holds, open-holds}
 use Rattle.writer.specs.SizeLaws.{attestation-long, getD-any}
 
 -- ---- the ways to make a format
@@ -102,9 +103,9 @@ module _ {A : Type 0} (C : Codec A) (blank d : A) (P : A → Type 0) (test same 
       let used : (i : ℕ) → i < n → C .Good (getD (take n l) i blank) =
       λ i q.
       subst (C .Good) (sym (getD-take n l i blank q ∙ getD-any l i blank d (omega arith)))
-      (good (getD l i d) (all-at P d l i (omega arith) (h .each)) (cond-not (leb n i) (same (getD l i d)) (test (getD l i d)) true (lt-leb n i q) (place i (omega arith)))) in
+      (good (getD l i d) (all-at P d l i (omega arith) (h .each)) (sym (cond-false (leb n i) (same (getD l i d)) (test (getD l i d)) (lt-leb n i q)) ∙ place i (omega arith))) in
       let behind : (i : ℕ) → n ≤ i → i < 9 → getD l i d ≡ blank =
-      λ i q r. is (getD l i d) (cond-yes (leb n i) (same (getD l i d)) (test (getD l i d)) true (le-leb n i q) (place i r)) in
+      λ i q r. is (getD l i d) (sym (cond-true (leb n i) (same (getD l i d)) (test (getD l i d)) (le-leb n i q)) ∙ place i r) in
       ((length-take-le n l (omega arith), used), ap (λ r. take n l ++ r) (sym (blanks-behind blank d l n 9 c behind)) ∙ take-append-drop n l)
 
 -- ---- numbers and names
@@ -225,7 +226,7 @@ members-good c h r =
 pub configuration-good : (c : VoterConfiguration) → HeldVoterConfiguration c → representableConfiguration c ≡ true → validConfiguration c ≡ true → configuration .Good c
 unfolding configuration via dep
 configuration-good c h r v =
-    (((epoch-good (c .epoch) (h .epoch) (says (configuration-is c) r .0), count-good (c .count) (configuration-valid c v)), members-good c h r), refl)
+    (((epoch-good (c .epoch) (h .epoch) (says (configuration-is c) r .0), count-good (c .count) (configuration-holds c v .odd)), members-good c h r), refl)
 
 -- ---- slots
 
@@ -542,14 +543,15 @@ tableHead-good t h r = (
 pub table-good : (t : VoterSlotTable) → HeldVoterSlotTable t → representable t ≡ true → validity t ≡ Accepted → table .Good t
 unfolding table via dep
 table-good t h r v =
-    (((((head-good, tableHead-good t h r), count-good (t .count) (valid-count t v)), slots-good t h r), open-good (t .«has_replacement») refl (says (table-is t) r .1 .1 .1)), refl)
+    (((((head-good, tableHead-good t h r), count-good (t .count) (valid-slots-hold t v .odd)), slots-good t h r), open-good (t .«has_replacement») refl (says (table-is t) r .1 .1 .1)), refl)
   where
     open-good : (b : Bool) → t .«has_replacement» ≡ b
         → cond b (representableReplacement (t .replacement)) (sameVoterReplacementRecord (t .replacement) blankVoterReplacementRecord) ≡ true
         → opt replacement blankVoterReplacementRecord .Good (b, t .replacement)
     open-good true e k =
+        let o = open-holds t v e .operation in
         opt-good replacement blankVoterReplacementRecord (t .replacement) (representableReplacement (t .replacement)) false
-        (λ q. replacement-good (t .replacement) (h .replacement) q (valid-predecessor t v e) (valid-successor t v e) (valid-attestation t v e))
+        (λ q. replacement-good (t .replacement) (h .replacement) q (o .predecessor) (o .successor) (o .attestation))
         (λ q. absurd (false≢true q))
         true k
     open-good false e k =

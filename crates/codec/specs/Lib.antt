@@ -1,8 +1,7 @@
 pub mod Codec
-pub mod TestLaws
-pub mod ValidLaws
 pub mod FitsLaws
 pub mod GoodLaws
+pub mod ReadHeld
 pub mod ReadLaws
 pub mod CodecLaws
 pub mod EntryLaws

@@ -25,7 +25,7 @@ use Rattle.records.specs.Blank.{blankVoterSlotLogId, blankVoterSlotMember, blan
 use Rattle.records.specs.Equality.{eqBytes, sameVoterSlotLogId, sameVoterSlotMember, sameVoterReplacementResult, sameVoterSlotRecord, sameVoterSnapshotEvidence, sameVoterReplacementRecord}
 use Rattle.records.specs.EqualityLaws.{eqBytes-refl, sameVoterSlotLogId-refl, sameVoterSlotMember-refl, sameVoterReplacementResult-refl, sameVoterSlotRecord-refl, sameVoterSnapshotEvidence-refl, sameVoterReplacementRecord-refl}
 use Rattle.records.specs.Records.{allBelow, noMember, noSlotRecord}
-use Rattle.records.specs.RecordsLaws.{allBelow-same, allBelow-true}
+use Rattle.records.specs.RecordsLaws.{allBelow-all}
 use Rattle.records.specs.Representable.{isZero, isText, representableSpiffeId, representableSnapshotId, representableOptionalLogId, representableMember, representableResult, representableSlotRecord, representableConfiguration, representableAttestation, representableEvidence, representableReplacement, representable}
 use Rattle.records.specs.Validation.{validCount}
 use Rattle.records.specs.ValidationLaws.{count-small}
@@ -43,7 +43,8 @@ use Rattle.records.specs.declared.records.VoterReplacementEvidence.{VoterReplac
 use Rattle.records.specs.declared.records.VoterReplacementRecord.{VoterReplacementRecord}
 use Rattle.records.specs.declared.records.VoterSlotTable.{VoterSlotTable}
 use Rattle.layout.specs.Format.{require-is, slotId, incarnation, epoch, count, choice, identity, optionalLogId, logId, sized, string, string-long, placed, spiffeId, snapshotId, member, members, configuration, resultHead, result, slotMember, slot, slots, claimsSlot, claimsNames, claimsEnd, claims, attestation, snapshot, threeCuts, evidence, change, replacement, tableHead, table}
-use Rattle.codec.specs.TestLaws.{passes, text-is, member-is, result-is, slot-is, configuration-is, attestation-is, evidence-is, replacement-is, table-is}
+use Rattle.records.specs.RepresentableParts.{text-is, member-is, result-is, slot-is, configuration-is, attestation-is, evidence-is, replacement-is, table-is}
+use Rattle.records.specs.TestLaws.{passes}
 use Rattle.writer.specs.SizeLaws.{getD-any}
 
 -- ---- the ways to make a format
@@ -89,8 +90,7 @@ module _ {A : Type 0} (C : Codec A) (blank d : A) (test same : A → Bool) (test
         subst (λ a. test a ≡ true) (getD-take n l i blank q ∙ getD-any l i blank d (omega (arith, reaches))) (tests (getD (take n l) i blank) (used i q))
 
     places-test : allBelow (λ i. cond (leb n i) (same (getD l i d)) (test (getD l i d))) 9 ≡ true
-    places-test =
-        allBelow-same (λ i. cond (leb n i) (same (getD l i d)) (test (getD l i d))) (λ i. true) 9 (λ i k. place i k (leb n i) refl) ∙ allBelow-true (λ i. true) 9 (λ i. refl)
+    places-test = allBelow-all (λ i. cond (leb n i) (same (getD l i d)) (test (getD l i d))) 9 (λ i k. place i k (leb n i) refl)
 
 -- ---- numbers and names
 

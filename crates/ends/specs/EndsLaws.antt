@@ -1,11 +1,11 @@
 -- Both bounds of a table's size are met: `smallest` and `largest` are tables that the types hold, valid, of 180 and of 8072 bytes.
 -- Each other name here is a step of a proof; the tables are in Ends.
 -- Assumes nothing.
-use Prim.Native.Nat.{ℕ, zero, suc, _<_}
+use Prim.Native.Nat.{ℕ, _<_}
 use native.Mathlib.Omega.{arith}
 use mathlib.Core.Path.{_≡_, refl, _∙_}
-use mathlib.Core.List.{List, [], _∷_, _++_}
-use lib.ListN.{length, replicate, length-replicate}
+use mathlib.Core.List.{_∷_}
+use lib.ListN.{length, replicate}
 use lib.Dec.{lit<}
 use Rattle.identity.specs.Text.{scheme, isIn, startsWith, isName, isSnapshotId, isUtf8, every}
 use Rattle.identity.specs.Utf8.{fits, widthIn, decoded, charsFrom, allChars}
@@ -13,13 +13,14 @@ use Rattle.identity.specs.declared.answer.Answer.the-variants.{Accepted}
 use Rattle.records.specs.Blank.{blankVoterSlotIdentity, blankSpiffeId, blankSnapshotId, blankVoterSlotLogId, blankOptionalLogId, blankVoterSlotMember, blankVoterReplacementResult, blankVoterSlotRecord, blankVoterSnapshotEvidence, blankVoterConfiguration, blankLostVoterAttestationV1, blankVoterReplacementEvidence, blankVoterReplacementRecord}
 use Rattle.records.specs.Equality.{allTrue, eqList, sameVoterSlotIdentity, sameSpiffeId, sameSnapshotId, sameVoterSlotLogId, sameOptionalLogId, sameVoterSlotMember, sameVoterReplacementResult, sameVoterSlotRecord, sameVoterSnapshotEvidence, sameVoterConfiguration, sameLostVoterAttestationV1, sameVoterReplacementEvidence, sameVoterReplacementRecord}
 use Rattle.records.specs.Evidence.{follows, validStage, stageOr, validStages, validBeside, validContinuation, validEvidence}
-use Rattle.records.specs.Held.{AllOf, HeldArray, Byte, HeldBytes, HeldSpiffeId, HeldVoterSlotLogId, HeldOptionalLogId, HeldVoterSlotMember, HeldVoterReplacementResult, HeldVoterSlotRecord, HeldVoterSnapshotEvidence, HeldVoterConfiguration, HeldLostVoterAttestationV1, HeldVoterReplacementEvidence, HeldVoterReplacementRecord, HeldVoterSlotTable}
+use Rattle.records.specs.Held.{AllOf, HeldArray, Byte, HeldBytes, HeldSpiffeId, HeldOptionalLogId, HeldVoterSlotMember, HeldVoterReplacementResult, HeldVoterSlotRecord, HeldVoterConfiguration, HeldLostVoterAttestationV1, HeldVoterReplacementEvidence, HeldVoterSlotTable}
+use Rattle.records.specs.HeldParts.{all-replicate, held-replicate, all-append, zeros-held, blank-result-held, blank-slot-held, blank-replacement-held}
 use Rattle.records.specs.Records.{allBelow}
 use Rattle.records.specs.Representable.{isText, representableOptionalLogId, representableMember, representableResult, representableSlotRecord, representableConfiguration, representableAttestation, representableEvidence, representableReplacement, representable}
 use Rattle.records.specs.Validation.{validConfiguration, validAttestation, validResult, validSlot, validSlots, validOperationHead, isCurrentEpoch, validOperation, retiredMember, validTarget, validateMember, validateMembers, validateOperation, validity, validate}
+use Rattle.records.specs.ValidParts.{valid-parts}
 use Rattle.codec.specs.Codec.{tableBytes}
 use Rattle.writer.specs.Size.{slotsSize, evidenceSize, replacementSize, tableSize}
-use Rattle.codec.specs.ValidLaws.{validate-says}
 use Rattle.codec.specs.FitsLaws.{table-fits}
 use Rattle.writer.specs.SizeLaws.{table-long}
 use Rattle.ends.specs.Ends.{memberOf, cut, smallest, others, receiptOf, slotOf, configurationOf, longName, longAttestation, present, longEvidence, largest}
@@ -35,115 +36,9 @@ largest-valid = refl
 
 -- ---- what the types hold
 
-all-replicate : {A : Type 0} (P : A → Type 0) (n : ℕ) (x : A) → P x → AllOf P (replicate n x)
-all-replicate P zero x p = tt
-all-replicate P (suc n) x p = (p, all-replicate P n x p)
-
-held-replicate : {A : Type 0} (P : A → Type 0) (n : ℕ) (x : A) → P x → HeldArray P n (replicate n x)
-held-replicate P n x p = record { count = length-replicate n x; each = all-replicate P n x p }
-
+-- one byte, so many times
 held-bytes : (n b : ℕ) → b < 256 → HeldBytes n (replicate n b)
 held-bytes n b h = held-replicate Byte n b h
-
-zeros-held : (n : ℕ) → HeldBytes n (replicate n 0)
-zeros-held n = held-bytes n 0 (lit< tt)
-
-blank-logId-held : HeldVoterSlotLogId blankVoterSlotLogId
-unfolding blankVoterSlotLogId
-blank-logId-held = record { term = lit< tt; index = lit< tt }
-
-blank-member-held : HeldVoterSlotMember blankVoterSlotMember
-unfolding blankVoterSlotMember blankVoterSlotIdentity
-blank-member-held =
-    record {
-      identity = record { slot = lit< tt; incarnation = lit< tt };
-      «key_digest» = zeros-held 32;
-      «descriptor_digest» = zeros-held 32;
-      «admission_generation» = lit< tt;
-    }
-
-blank-result-held : HeldVoterReplacementResult blankVoterReplacementResult
-unfolding blankVoterReplacementResult
-blank-result-held =
-    record {
-      «request_id» = zeros-held 16;
-      «request_digest» = zeros-held 32;
-      incarnation = lit< tt;
-      revision = lit< tt;
-      «configuration_epoch» = lit< tt;
-      kind = lit< tt;
-      terminal = blank-logId-held;
-    }
-
-blank-slot-held : HeldVoterSlotRecord blankVoterSlotRecord
-unfolding blankVoterSlotRecord
-blank-slot-held = record { member = blank-member-held; «retired_through» = lit< tt; phase = lit< tt; «last_result» = blank-result-held }
-
-blank-configuration-held : HeldVoterConfiguration blankVoterConfiguration
-unfolding blankVoterConfiguration
-blank-configuration-held = record { epoch = lit< tt; members = held-replicate HeldVoterSlotMember 9 blankVoterSlotMember blank-member-held; count = lit< tt }
-
-blank-name-held : HeldSpiffeId blankSpiffeId
-unfolding blankSpiffeId
-blank-name-held = record { len = lit< tt; bytes = zeros-held 2048 }
-
-blank-attestation-held : HeldLostVoterAttestationV1 blankLostVoterAttestationV1
-unfolding blankLostVoterAttestationV1
-blank-attestation-held =
-    record {
-      «request_id» = zeros-held 16;
-      «request_digest» = zeros-held 32;
-      «cluster_instance» = zeros-held 32;
-      slot = lit< tt;
-      «expected_incarnation» = lit< tt;
-      «old_descriptor_digest» = zeros-held 32;
-      «candidate_key_digest» = zeros-held 32;
-      «admission_generation» = lit< tt;
-      «candidate_spiffe_id» = blank-name-held;
-      «controller_spiffe_id» = blank-name-held;
-      «signing_key_digest» = zeros-held 32;
-      reason = lit< tt;
-      «policy_digest» = zeros-held 32;
-      «observation_start_ms» = lit< tt;
-      «decision_ms» = lit< tt;
-      «issued_ms» = lit< tt;
-      «expires_ms» = lit< tt;
-      signature = zeros-held 64;
-    }
-
-blank-snapshot-held : HeldVoterSnapshotEvidence blankVoterSnapshotEvidence
-unfolding blankVoterSnapshotEvidence blankSnapshotId
-blank-snapshot-held = record { cut = blank-logId-held; «snapshot_id» = record { len = lit< tt; bytes = zeros-held 256 }; digest = zeros-held 32 }
-
-blank-cut-held : HeldOptionalLogId blankOptionalLogId
-unfolding blankOptionalLogId
-blank-cut-held = record { cut = blank-logId-held }
-
-blank-evidence-held : HeldVoterReplacementEvidence blankVoterReplacementEvidence
-unfolding blankVoterReplacementEvidence
-blank-evidence-held =
-    record {
-      prepare = blank-logId-held;
-      snapshot = blank-snapshot-held;
-      learner = blank-cut-held;
-      «caught_up» = blank-cut-held;
-      continuation = blank-cut-held;
-      fence = blank-cut-held;
-      joint = blank-cut-held;
-      uniform = blank-cut-held;
-    }
-
-blank-replacement-held : HeldVoterReplacementRecord blankVoterReplacementRecord
-unfolding blankVoterReplacementRecord
-blank-replacement-held =
-    record {
-      «expected_revision» = lit< tt;
-      attestation = blank-attestation-held;
-      predecessor = blank-configuration-held;
-      successor = blank-configuration-held;
-      phase = lit< tt;
-      evidence = blank-evidence-held;
-    }
 
 module _ (own slot : ℕ) (o : own < 10) (s : slot < 10) where
   member-held : HeldVoterSlotMember (memberOf own slot)
@@ -182,15 +77,11 @@ nine-held P f own o h =
 configuration-held : (epoch own : ℕ) → epoch < 10 → own < 10 → HeldVoterConfiguration (configurationOf epoch own)
 configuration-held epoch own e o = record { epoch = omega arith; members = nine-held HeldVoterSlotMember memberOf own o member-held; count = lit< tt }
 
-all-append : (a b : List ℕ) → AllOf Byte a → AllOf Byte b → AllOf Byte (a ++ b)
-all-append [] b h k = k
-all-append (x ∷ a) b h k = (h .0, all-append a b (h .1) k)
-
 scheme-held : AllOf Byte scheme
 scheme-held = (lit< tt, (lit< tt, (lit< tt, (lit< tt, (lit< tt, (lit< tt, (lit< tt, (lit< tt, (lit< tt, tt)))))))))
 
 name-held : HeldSpiffeId longName
-name-held = record { len = lit< tt; bytes = record { count = refl; each = all-append scheme (replicate 2039 97) scheme-held (all-replicate Byte 2039 97 (lit< tt)) } }
+name-held = record { len = lit< tt; bytes = record { count = refl; each = all-append Byte scheme (replicate 2039 97) scheme-held (all-replicate Byte 2039 97 (lit< tt)) } }
 
 attestation-held : HeldLostVoterAttestationV1 longAttestation
 attestation-held =
@@ -278,7 +169,7 @@ largest-held =
 -- the bytes of a valid table are as many as its size
 valid-long : (t : VoterSlotTable) → HeldVoterSlotTable t → validate t ≡ Accepted → length (tableBytes t) ≡ tableSize t
 unfolding tableBytes
-valid-long t h v = table-long t h (table-fits t (validate-says t v .0))
+valid-long t h v = table-long t h (table-fits t (valid-parts t v .0))
 
 smallest-size : tableSize smallest ≡ 180
 unfolding tableSize slotsSize smallest

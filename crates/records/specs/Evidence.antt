@@ -5,10 +5,11 @@ use Prim.Native.Nat.{ℕ}
 use mathlib.Core.Bool.{Bool, true, false, cond, not, Bool·beq, _&&_, _||_}
 use lib.ListN.{take}
 use lib.Dec.{eqb, leb, ltb}
-use Rattle.identity.specs.Text.{isSnapshotId}
+use Rattle.identity.specs.Text.{isSnapshotId, maxSnapshotIdBytes}
 use Rattle.records.specs.Equality.{sameVoterSlotLogId, sameVoterSnapshotEvidence}
 use Rattle.records.specs.Records.{snapshotInstalled, learnerAdded, caughtUp, fenced, joint, uniform}
 use Rattle.records.specs.declared.records.OptionalLogId.{OptionalLogId}
+use Rattle.records.specs.declared.records.SnapshotId.{SnapshotId}
 use Rattle.records.specs.declared.records.VoterSlotLogId.{VoterSlotLogId}
 use Rattle.records.specs.declared.records.VoterReplacementEvidence.{VoterReplacementEvidence}
 
@@ -48,7 +49,7 @@ validStages e phase =
     && (validStage (e .fence) (leb fenced phase) third false
     && (validStage (e .joint) (leb joint phase) fourth false && validStage (e .uniform) (leb uniform phase) fifth false))))
 
--- The continuation beside one other cut, whichever of the two is later.
+-- The continuation and one other cut, whichever of the two is later.
 unfoldable pub validBeside : VoterSlotLogId → OptionalLogId → Bool → Bool
 validBeside continuation other isSnapshot =
     not (other .«is_some»)
@@ -63,11 +64,15 @@ validContinuation e =
     && ((not (e .fence .«is_some») || follows (e .fence .cut) c false)
     && (validBeside c (snapshotCut e) true && (validBeside c (e .learner) false && validBeside c (e .«caught_up») false)))))
 
+-- A snapshot id. One that is longer than its field is none, whatever the field holds.
+abbrev pub validSnapshotId : SnapshotId → Bool
+validSnapshotId s = leb (s .len) maxSnapshotIdBytes && isSnapshotId (take (s .len) (s .bytes))
+
 -- `VoterReplacementEvidence::validate`
 unfoldable pub validEvidence : VoterReplacementEvidence → ℕ → Bool
 validEvidence e phase =
     validLogId (e .prepare)
-    && ((not (e .«has_snapshot») || isSnapshotId (take (e .snapshot .«snapshot_id» .len) (e .snapshot .«snapshot_id» .bytes)))
+    && ((not (e .«has_snapshot») || validSnapshotId (e .snapshot .«snapshot_id»))
     && (validStages e phase && validContinuation e))
 
 -- A cut that was there is still there.

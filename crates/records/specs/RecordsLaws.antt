@@ -1,4 +1,4 @@
--- Laws of the names in Records: one more place passed, and the places behind a count left out.
+-- Laws of the names in Records: a test of every place below a count, one more place passed, and the first place of which a test holds.
 -- Each name here is a step of a proof; what is right is said in Records.
 -- Assumes nothing.
 use Prim.Native.Nat.{ℕ, zero, suc, _+_, _-_, _<_, _≤_}
@@ -76,7 +76,8 @@ allBelow-at p (suc n) i h l =
     let e = and-eq-true-iff (allBelow p n) (p n) .0 h in
     at-or-below p n i (eqb i n) refl l (λ k. allBelow-at p n i (e .0) k) (e .1)
 
-pub allBelow-true : (p : ℕ → Bool) (n : ℕ) → ((i : ℕ) → p i ≡ true) → allBelow p n ≡ true
+-- what holds of every number below n
+pub allBelow-all : (p : ℕ → Bool) (n : ℕ) → ((i : ℕ) → i < n → p i ≡ true) → allBelow p n ≡ true
 unfolding allBelow
-allBelow-true p zero h = refl
-allBelow-true p (suc n) h = rw (allBelow-true p n h, h n)
+allBelow-all p zero h = refl
+allBelow-all p (suc n) h = rw (allBelow-all p n (λ i l. h i (omega arith)), h n (omega arith))

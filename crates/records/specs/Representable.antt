@@ -1,4 +1,4 @@
--- The values that the Rust types can hold: what else is handed to a call gets 30 (document 01, "Refusals from the input").
+-- The test for 30 (document 01, "Refusals from the input"), part by part. A call gives 30 to
 -- "one that the Rust types cannot hold, count above 9, text length above its field, nonzero filler behind a count or in an absent part"
 -- Assumes nothing.
 use Prim.Native.Nat.{ℕ}
@@ -54,7 +54,7 @@ representableSlotRecord s =
     && (leb (s .phase) voting
     && cond (s .«has_last_result») (representableResult (s .«last_result»)) (sameVoterReplacementResult (s .«last_result») blankVoterReplacementResult))
 
--- "nine places always, the first so many in use": one behind the count is blank
+-- "nine places always, the first so many in use": one that is not in use is blank
 abbrev pub memberPlace : Bool → VoterSlotMember → Bool
 memberPlace behind m = cond behind (sameVoterSlotMember m blankVoterSlotMember) (representableMember m)
 

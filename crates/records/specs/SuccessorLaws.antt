@@ -4,49 +4,27 @@
 -- installation, revision, epoch and slots is transitive.
 -- Assumes nothing.
 use Prim.Native.Nat.{ℕ, _+_, _-_, _%_, _<_, _≤_}
-use mathlib.Core.Path.{_≡_, refl, sym, ap, subst}
-use mathlib.Core.Bool.{Bool, true, false, cond, not, _&&_, _||_, and-eq-true-iff}
+use mathlib.Core.Path.{refl, sym, subst, _≡_}
+use mathlib.Core.Bool.{Bool, true, false}
 use mathlib.Core.Logic.{inl}
 use native.Mathlib.Nat.{le-refl}
-use native.Mathlib.Omega.{arith}
-use lib.Dec.{eqb, leb, ltb}
-use borrow.Author.Tests.{eqb-true, leb-true, ltb-true, eq-eqb, le-leb}
-use Rattle.identity.specs.Answer.{isAccepted}
-use Rattle.identity.specs.declared.answer.Answer.{Answer}
-use Rattle.identity.specs.declared.answer.Answer.the-variants.{Accepted, InvalidRecord, Regression, Unrepresentable}
-use Rattle.records.specs.Equality.{eqBytes, sameVoterSlotMember, sameLostVoterAttestationV1, sameVoterConfiguration, sameVoterSlotTable}
-use Rattle.records.specs.EqualityLaws.{eqBytes-true, eqBytes-refl, sameVoterSlotTable-true, sameVoterSlotTable-refl}
-use Rattle.records.specs.Evidence.{retains}
-use Rattle.records.specs.EvidenceLaws.{Kept, retains-caught-up}
-use Rattle.records.specs.Records.{maxFixedVoterSlots, allBelow, slotAt}
-use Rattle.records.specs.RecordsLaws.{allBelow-at}
-use Rattle.records.specs.Representable.{representable}
-use Rattle.records.specs.Successor.{resultSucceeds, slotSucceeds, requestSucceeds, orRegression, replacementSucceeds, headSucceeds, succession, andThen, validateSuccessorOf}
-use Rattle.records.specs.Validation.{validCount, validSlot, isActive, distinctResults, validSlots, validity, validate}
-use Rattle.records.specs.ValidationLaws.{is-accepted}
+use lib.Dec.{eqb}
+use borrow.Author.Tests.{eqb-true, eqb-false, leb-true, ltb-true, eq-eqb, le-leb}
+use Rattle.identity.specs.declared.answer.Answer.the-variants.{Accepted, Regression}
 use Rattle.records.specs.declared.records.VoterSlotRecord.{VoterSlotRecord}
 use Rattle.records.specs.declared.records.VoterReplacementRecord.{VoterReplacementRecord}
 use Rattle.records.specs.declared.records.VoterSlotTable.{VoterSlotTable}
-
--- ---- answers that lead on
-
--- of a choice that is accepted, where the other branch is a refusal
-chosen : (t : Bool) (a b : Answer) → isAccepted b ≡ false → cond t a b ≡ Accepted → (t ≡ true) × (a ≡ Accepted)
-chosen true a b n h = (refl, h)
-chosen false a b n h = absurd (let k : isAccepted b ≡ true = ap isAccepted h in let z : _≡_ {A = ℕ} 0 1 = cc in omega arith)
-
-both-accepted : (a b : Answer) → andThen a b ≡ Accepted → (a ≡ Accepted) × (b ≡ Accepted)
-both-accepted a b h = by (isAccepted a) refl
-  where
-    by : (t : Bool) → isAccepted a ≡ t → (a ≡ Accepted) × (b ≡ Accepted)
-    by true e = (is-accepted a e, let k : b ≡ Accepted = rw e at h in k)
-    by false e = absurd (let k : a ≡ Accepted = rw e at h in let m = ap isAccepted k in let z : _≡_ {A = ℕ} 0 1 = cc in omega arith)
+use Rattle.records.specs.Equality.{eqBytes}
+use Rattle.records.specs.EqualityLaws.{eqBytes-true, eqBytes-refl}
+use Rattle.records.specs.EvidenceLaws.{Kept, retains-caught-up}
+use Rattle.records.specs.Records.{maxFixedVoterSlots, slotAt}
+use Rattle.records.specs.Successor.{slotSucceeds, requestSucceeds, orRegression, replacementSucceeds, validateSuccessorOf}
+use Rattle.records.specs.SuccessorParts.{slot-succeeds-is, request-succeeds-is, head-succeeds-is, SuccessionHolds, succession-holds, succession-accepted, check-holds, check-accepted}
+use Rattle.records.specs.TestLaws.{says, passes, chosen}
+use Rattle.records.specs.Validation.{validate}
+use Rattle.records.specs.ValidParts.{count-is, valid-slots-hold, valid-parts}
 
 -- ---- what a valid table has
-
-pub valid-parts : (t : VoterSlotTable) → validate t ≡ Accepted → (representable t ≡ true) × (validity t ≡ Accepted)
-unfolding validate
-valid-parts t h = chosen (representable t) (validity t) Unrepresentable refl h
 
 -- "odd count, 1 to 9, slot numbers strictly rising"
 pub record Slots (t : VoterSlotTable) : Type 0 where
@@ -57,24 +35,15 @@ pub record Slots (t : VoterSlotTable) : Type 0 where
   pub revision : 0 < t .revision
 
 pub valid-slots : (t : VoterSlotTable) → validate t ≡ Accepted → Slots t
-unfolding validity validSlots
 valid-slots t h =
-    let rises : ℕ → Bool = λ i. ltb (slotAt t i .member .identity .slot) (slotAt t (i + 1) .member .identity .slot) in
-    let each : ℕ → Bool = λ i. validSlot (t .revision) (t .«configuration_epoch») (isActive t (slotAt t i)) (slotAt t i) in
-    let apart : ℕ → Bool = λ i. allBelow (λ j. distinctResults (slotAt t j) (slotAt t i)) i in
-    let rest = allBelow each (t .count) && allBelow apart (t .count) in
-    let e = chosen (validSlots t) _ InvalidRecord refl (valid-parts t h .1) .0 in
-    let e1 = and-eq-true-iff (validCount (t .count)) (ltb 0 (t .revision) && (allBelow rises (t .count - 1) && rest)) .0 e in
-    let e2 = and-eq-true-iff (ltb 0 (t .revision)) (allBelow rises (t .count - 1) && rest) .0 (e1 .1) in
-    let e3 = and-eq-true-iff (allBelow rises (t .count - 1)) rest .0 (e2 .1) in
-    let c1 = and-eq-true-iff (ltb 0 (t .count)) (leb (t .count) maxFixedVoterSlots && eqb (t .count % 2) 1) .0 (e1 .0) in
-    let c2 = and-eq-true-iff (leb (t .count) maxFixedVoterSlots) (eqb (t .count % 2) 1) .0 (c1 .1) in
+    let s = valid-slots-hold t (valid-parts t h .1) in
+    let c = says (count-is (t .count)) (s .odd) in
     record {
-      some = ltb-true 0 (t .count) (c1 .0);
-      few = leb-true (t .count) maxFixedVoterSlots (c2 .0);
-      odd = eqb-true (t .count % 2) 1 (c2 .1);
-      rise = λ i l. ltb-true _ _ (allBelow-at rises (t .count - 1) i (e3 .0) l);
-      revision = ltb-true 0 (t .revision) (e2 .0);
+      some = ltb-true 0 (t .count) (c .0);
+      few = leb-true (t .count) maxFixedVoterSlots (c .1 .0);
+      odd = eqb-true (t .count % 2) 1 (c .1 .1);
+      rise = s .rise;
+      revision = s .revision;
     }
 
 -- ---- what a table that may follow another keeps
@@ -113,37 +82,14 @@ keeps-itself t =
     }
 
 slot-kept : (new old : VoterSlotRecord) → slotSucceeds new old ≡ true → SlotKept new old
-unfolding slotSucceeds
 slot-kept new old h =
-    let mine = new .member .identity .incarnation in
-    let theirs = old .member .identity .incarnation in
-    let a = eqb (new .member .identity .slot) (old .member .identity .slot) in
-    let b = leb (old .«retired_through») (new .«retired_through») in
-    let c = leb theirs mine in
-    let d =
-    (not (eqb mine theirs) || (sameVoterSlotMember (new .member) (old .member) && leb (old .phase) (new .phase)))
-    && ((not (ltb theirs mine) || ltb (old .member .«admission_generation») (new .member .«admission_generation»))
-    && (not (old .«has_last_result») || (new .«has_last_result» && resultSucceeds (new .«last_result») (old .«last_result»)))) in
-    let e1 = and-eq-true-iff a (b && (c && d)) .0 h in
-    let e2 = and-eq-true-iff b (c && d) .0 (e1 .1) in
-    let e3 = and-eq-true-iff c d .0 (e2 .1) in
-    record { slot = eqb-true _ _ (e1 .0); retired = leb-true _ _ (e2 .0); incarnation = leb-true _ _ (e3 .0) }
+    let e = says (slot-succeeds-is new old) h in
+    record { slot = eqb-true _ _ (e .0); retired = leb-true _ _ (e .1 .0); incarnation = leb-true _ _ (e .1 .1 .0) }
 
 request-kept : (new old : VoterReplacementRecord) → requestSucceeds new old ≡ true → RequestKept new old
-unfolding requestSucceeds
 request-kept new old h =
-    let a = eqb (new .«expected_revision») (old .«expected_revision») in
-    let b = sameLostVoterAttestationV1 (new .attestation) (old .attestation) in
-    let c = sameVoterConfiguration (new .predecessor) (old .predecessor) in
-    let d = sameVoterConfiguration (new .successor) (old .successor) in
-    let f = leb (old .phase) (new .phase) in
-    let g = retains (new .evidence) (old .evidence) (old .phase) in
-    let e1 = and-eq-true-iff a (b && (c && (d && (f && g)))) .0 h in
-    let e2 = and-eq-true-iff b (c && (d && (f && g))) .0 (e1 .1) in
-    let e3 = and-eq-true-iff c (d && (f && g)) .0 (e2 .1) in
-    let e4 = and-eq-true-iff d (f && g) .0 (e3 .1) in
-    let e5 = and-eq-true-iff f g .0 (e4 .1) in
-    record { phase = leb-true _ _ (e5 .0); marker = λ m. retains-caught-up (new .evidence) (old .evidence) (old .phase) (e5 .1) m }
+    let e = says (request-succeeds-is new old) h .1 .1 .1 .1 in
+    record { phase = leb-true _ _ (e .0); marker = λ m. retains-caught-up (new .evidence) (old .evidence) (old .phase) (e .1) m }
 
 -- The replacement's part, where the same request is open in both.
 same-request : (new old : VoterSlotTable) → replacementSucceeds new old ≡ Accepted → old .«has_replacement» ≡ true → new .«has_replacement» ≡ true
@@ -155,45 +101,25 @@ same-request new old h o n e =
     chosen (requestSucceeds (new .replacement) (old .replacement)) Accepted Regression refl k .0
 
 -- Tables of different revisions.
-keeps-later : (new old : VoterSlotTable) → headSucceeds new old ≡ true → allBelow (λ i. slotSucceeds (slotAt new i) (slotAt old i)) (new .count) ≡ true
-    → replacementSucceeds new old ≡ Accepted → Keeps new old
-unfolding headSucceeds
-keeps-later new old h s r =
-    let a = eqBytes (new .«cluster_instance») (old .«cluster_instance») in
-    let b = eqBytes (new .«manifest_digest») (old .«manifest_digest») in
-    let c = leb (old .revision) (new .revision) in
-    let d = leb (old .«configuration_epoch») (new .«configuration_epoch») in
-    let f = eqb (new .count) (old .count) in
-    let e1 = and-eq-true-iff a (b && (c && (d && f))) .0 h in
-    let e2 = and-eq-true-iff b (c && (d && f)) .0 (e1 .1) in
-    let e3 = and-eq-true-iff c (d && f) .0 (e2 .1) in
-    let e4 = and-eq-true-iff d f .0 (e3 .1) in
+keeps-later : (new old : VoterSlotTable) → SuccessionHolds new old → (new .revision ≡ old .revision → ⊥) → Keeps new old
+keeps-later new old h d =
+    let e = says (head-succeeds-is new old) (h .head) in
     record {
-      cluster = eqBytes-true _ _ (e1 .0);
-      manifest = eqBytes-true _ _ (e2 .0);
-      revision = leb-true _ _ (e3 .0);
-      epoch = leb-true _ _ (e4 .0);
-      count = eqb-true _ _ (e4 .1);
-      slots = λ i l. slot-kept (slotAt new i) (slotAt old i) (allBelow-at (λ i. slotSucceeds (slotAt new i) (slotAt old i)) (new .count) i s l);
-      request = λ o n e. request-kept (new .replacement) (old .replacement) (same-request new old r o n e);
+      cluster = eqBytes-true _ _ (e .0);
+      manifest = eqBytes-true _ _ (e .1 .0);
+      revision = leb-true _ _ (e .1 .1 .0);
+      epoch = leb-true _ _ (e .1 .1 .1 .0);
+      count = eqb-true _ _ (e .1 .1 .1 .1);
+      slots = λ i l. slot-kept (slotAt new i) (slotAt old i) (h .slots d i l);
+      request = λ o n e. request-kept (new .replacement) (old .replacement) (same-request new old (h .replacement d) o n e);
     }
 
-succession-keeps : (new old : VoterSlotTable) → succession new old ≡ Accepted → Keeps new old
-unfolding succession
-succession-keeps new old h =
-    let e = chosen (headSucceeds new old) (cond (eqb (new .revision) (old .revision)) (orRegression (sameVoterSlotTable new old) Accepted) (later)) Regression refl h in
-    by (eqb (new .revision) (old .revision)) (e .0) (e .1)
+succession-keeps : (new old : VoterSlotTable) → SuccessionHolds new old → Keeps new old
+succession-keeps new old h = by (eqb (new .revision) (old .revision)) refl
   where
-    later : Answer
-    later = orRegression (allBelow (λ i. slotSucceeds (slotAt new i) (slotAt old i)) (new .count)) (replacementSucceeds new old)
-
-    by : (t : Bool) → headSucceeds new old ≡ true → cond t (orRegression (sameVoterSlotTable new old) Accepted) later ≡ Accepted → Keeps new old
-    by true a k =
-        let p : new ≡ old = sameVoterSlotTable-true new old (chosen (sameVoterSlotTable new old) Accepted Regression refl k .0) in
-        subst (λ (t : VoterSlotTable). Keeps t old) (sym p) (keeps-itself old)
-    by false a k =
-        let s = chosen (allBelow (λ i. slotSucceeds (slotAt new i) (slotAt old i)) (new .count)) (replacementSucceeds new old) Regression refl k in
-        keeps-later new old a (s .0) (s .1)
+    by : (t : Bool) → eqb (new .revision) (old .revision) ≡ t → Keeps new old
+    by true e = subst (λ (t : VoterSlotTable). Keeps t old) (sym (h .same (eqb-true _ _ e))) (keeps-itself old)
+    by false e = keeps-later new old h (eqb-false _ _ e)
 
 -- ---- the successor check
 
@@ -203,17 +129,23 @@ pub record Succeeds (new old : VoterSlotTable) : Type 0 where
   pub keeps : Keeps new old
 
 pub successor : (new old : VoterSlotTable) → validateSuccessorOf new old ≡ Accepted → Succeeds new old
-unfolding validateSuccessorOf validate
 successor new old h =
-    let e = chosen (representable new && representable old) (andThen (validity new) (andThen (validity old) (succession new old))) Unrepresentable refl h in
-    let r = and-eq-true-iff (representable new) (representable old) .0 (e .0) in
-    let v = both-accepted (validity new) (andThen (validity old) (succession new old)) (e .1) in
-    let w = both-accepted (validity old) (succession new old) (v .1) in
-    record { new-valid = rw (r .0) (v .0); old-valid = rw (r .1) (w .0); keeps = succession-keeps new old (w .1) }
+    let e = check-holds new old h in
+    record { new-valid = e .new-valid; old-valid = e .old-valid; keeps = succession-keeps new old (succession-holds new old (e .follows)) }
 
 -- A valid table may follow itself.
 pub successor-itself : (t : VoterSlotTable) → validate t ≡ Accepted → validateSuccessorOf t t ≡ Accepted
-unfolding validateSuccessorOf succession headSucceeds
-successor-itself t h =
-    let v = valid-parts t h in
-    rw (v .0, v .1, eqBytes-refl (t .«cluster_instance»), eqBytes-refl (t .«manifest_digest»), le-leb (t .revision) (t .revision) (le-refl _), le-leb (t .«configuration_epoch») (t .«configuration_epoch») (le-refl _), eq-eqb (t .count) (t .count) refl, eq-eqb (t .revision) (t .revision) refl, sameVoterSlotTable-refl t)
+successor-itself t v = check-accepted t t (record { new-valid = v; old-valid = v; follows = succession-accepted t t follows })
+  where
+    follows : SuccessionHolds t t
+    follows =
+        record {
+          head =
+              passes (head-succeeds-is t t) (
+                eqBytes-refl (t .«cluster_instance»),
+                (eqBytes-refl (t .«manifest_digest»), (le-leb _ _ (le-refl (t .revision)), (le-leb _ _ (le-refl (t .«configuration_epoch»)), eq-eqb (t .count) _ refl))),
+              );
+          same = λ r. refl;
+          slots = λ d. absurd (d refl);
+          replacement = λ d. absurd (d refl);
+        }

@@ -1,14 +1,14 @@
 -- Validity of a table: document 01, section "Validity", and exactly validation.rs, in its order. Numbers 6 and 3, after 30.
--- Of a value that the Rust types can hold no text is too long, so that 5 is never given here.
+-- The Rust gives 5 for a name above 2,048 bytes and a snapshot id above 256. Here both get 30, before validity is asked, so validity never gives 5.
 -- Assumes nothing.
 use Prim.Native.Nat.{ℕ, zero, suc, _+_, _-_, _%_}
-use mathlib.Core.Bool.{Bool, cond, not, _&&_, _||_}
-use mathlib.Core.List.{List}
+use mathlib.Core.Path.{_≡_}
+use mathlib.Core.Bool.{Bool, true, cond, not, _&&_, _||_}
 use lib.ListN.{take}
 use lib.Dec.{eqb, leb, ltb}
 use Rattle.identity.specs.Answer.{isAccepted}
 use Rattle.identity.specs.Identity.{maxVoterIncarnation}
-use Rattle.identity.specs.Text.{isName}
+use Rattle.identity.specs.Text.{isName, maxSpiffeIdBytes}
 use Rattle.identity.specs.declared.answer.Answer.{Answer}
 use Rattle.identity.specs.declared.answer.Answer.the-variants.{Accepted, IncarnationExhausted, InvalidRecord, Unrepresentable}
 use Rattle.records.specs.Equality.{eqBytes, sameVoterSlotLogId, sameVoterSlotMember}
@@ -39,15 +39,20 @@ validConfiguration c =
     && (allBelow (λ i. ltb 0 (memberAt c i .«admission_generation»)) (c .count)
     && allBelow (λ i. ltb (memberAt c i .identity .slot) (memberAt c (i + 1) .identity .slot)) (c .count - 1))
 
--- the text of a name, without the zeros behind it
-abbrev pub textOf : SpiffeId → List ℕ
-textOf s = take (s .len) (s .bytes)
+-- A controller or candidate name. One that is longer than its field is none, whatever the field holds.
+abbrev pub validSpiffeId : SpiffeId → Bool
+validSpiffeId s = leb (s .len) maxSpiffeIdBytes && isName (take (s .len) (s .bytes))
+
+-- Both names of an attestation are valid: what `validate_operation` requires, since its caller looks at the names.
+pub record NamesHold (a : LostVoterAttestationV1) : Type 0 where
+  pub candidate : validSpiffeId (a .«candidate_spiffe_id») ≡ true
+  pub controller : validSpiffeId (a .«controller_spiffe_id») ≡ true
 
 -- `LostVoterAttestationV1::validate`
 unfoldable pub validAttestation : LostVoterAttestationV1 → Bool
 validAttestation a =
-    isName (textOf (a .«candidate_spiffe_id»))
-    && (isName (textOf (a .«controller_spiffe_id»))
+    validSpiffeId (a .«candidate_spiffe_id»)
+    && (validSpiffeId (a .«controller_spiffe_id»)
     && (ltb 0 (a .«admission_generation»)
     && (leb (a .«observation_start_ms») (a .«decision_ms»)
     && (leb (a .«decision_ms») (a .«issued_ms») && ltb (a .«issued_ms») (a .«expires_ms»)))))
@@ -98,7 +103,7 @@ validSlots t =
 abbrev pub targetPhase : ℕ → ℕ
 targetPhase phase = cond (leb phase snapshotInstalled) pending (cond (leb phase fenced) catchingUp voting)
 
--- The open request beside the table's head.
+-- The open request, against the table's head.
 unfoldable pub validOperationHead : VoterSlotTable → VoterReplacementRecord → Bool
 validOperationHead t op =
     ltb 0 (op .«expected_revision»)
@@ -146,7 +151,7 @@ retiredMember c s predecessor =
     (eqBytes (predecessor .«descriptor_digest») (c .«old_descriptor_digest»))
     (supersededReceipt s c)
 
--- The slot being replaced, past the test for an incarnation behind the attested one.
+-- The slot being replaced, after the test that an incarnation follows the attested one.
 unfoldable pub validTarget : Claims → VoterSlotRecord → VoterSlotMember → VoterSlotMember → Bool
 validTarget c s predecessor successor =
     (eqb (c .«expected_incarnation» + 1) (successor .identity .incarnation)
@@ -165,7 +170,7 @@ otherRequest c s =
 abbrev pub otherMember : VoterSlotRecord → VoterSlotMember → VoterSlotMember → Bool
 otherMember s predecessor successor = sameVoterSlotMember predecessor successor && eqb (s .phase) voting
 
--- One slot beside its two members; 3 where the slot is the target and no incarnation is behind the attested one.
+-- One slot and its two members; 3 where the slot is the target and no incarnation follows the attested one.
 unfoldable pub validateMember : Claims → VoterSlotRecord → VoterSlotMember → VoterSlotMember → Answer
 validateMember c s predecessor successor =
     requireOf (sameVoterSlotMember (s .member) successor && eqb (predecessor .identity .slot) (successor .identity .slot))
@@ -191,7 +196,7 @@ validateOperation t =
     requireOf (validOperation t (t .replacement))
     (cond (isAccepted (validateMembers t (t .count))) (requireOf (hasTarget t) Accepted) (validateMembers t (t .count)))
 
--- Validity of a table that the Rust types can hold.
+-- Validity of a table that has passed the test for 30.
 unfoldable pub validity : VoterSlotTable → Answer
 validity t =
     requireOf (validSlots t)

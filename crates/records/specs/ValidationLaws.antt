@@ -1,4 +1,4 @@
--- Laws of Validation: what a test tells, the bound of a valid count, a slot without a receipt, and the first refusal of the slots.
+-- Laws of Validation: what a test tells, the bounds of a valid count, names, a slot without a receipt, and the first refusal of the slots.
 -- Each name here is a step of a proof; what is right is said in Validation.
 -- Assumes nothing.
 use Prim.Native.Nat.{ℕ, zero, suc, _+_, _-_, _%_, _<_, _≤_}
@@ -10,13 +10,12 @@ use lib.Dec.{eqb, leb, ltb}
 use borrow.Author.Tests.{eqb-true, leb-true, ltb-true, not-true, not-false}
 use Rattle.identity.specs.Answer.{numberOf, isAccepted}
 use Rattle.identity.specs.AnswerLaws.{number-injective}
-use Rattle.identity.specs.Text.{isName}
 use Rattle.identity.specs.declared.answer.Answer.{Answer}
 use Rattle.identity.specs.declared.answer.Answer.the-variants.{Accepted, InvalidRecord}
 use Rattle.records.specs.Records.{allBelow, slotAt, memberAt}
-use Rattle.records.specs.RecordsLaws.{allBelow-true}
+use Rattle.records.specs.RecordsLaws.{allBelow-all}
 use Rattle.records.specs.Equality.{sameVoterSlotMember}
-use Rattle.records.specs.Validation.{requireOf, validCount, textOf, validAttestation, validOperation, distinctResults, claimsOf, otherMember, otherRequest, validateMember, validateMembers, validateOperation}
+use Rattle.records.specs.Validation.{requireOf, validCount, validSpiffeId, NamesHold, validAttestation, validOperation, distinctResults, claimsOf, otherMember, otherRequest, validateMember, validateMembers, validateOperation}
 use Rattle.records.specs.declared.records.LostVoterAttestationV1.{LostVoterAttestationV1}
 use Rattle.records.specs.declared.records.VoterSlotMember.{VoterSlotMember}
 use Rattle.records.specs.declared.records.VoterSlotRecord.{VoterSlotRecord}
@@ -44,11 +43,6 @@ count-some n h = ltb-true 0 n (and-eq-true-iff (ltb 0 n) (leb n 9 && eqb (n % 2)
 
 -- ---- an attestation whose names are valid
 
--- Both names are: what is looked at where the table lies, before the rest of the open request.
-pub record NamesHold (a : LostVoterAttestationV1) : Type 0 where
-  pub candidate : isName (textOf (a .«candidate_spiffe_id»)) ≡ true
-  pub controller : isName (textOf (a .«controller_spiffe_id»)) ≡ true
-
 -- the numbers decide then
 pub names-hold : (a : LostVoterAttestationV1) (t : Bool) → NamesHold a
     → t ≡ (ltb 0 (a .«admission_generation»)
@@ -59,20 +53,20 @@ unfolding validAttestation
 names-hold a t h e = rw (h .candidate, h .controller) e
 
 -- a name that is not valid refuses the open request
-pub candidate-fails : (t : VoterSlotTable) → isName (textOf (t .replacement .attestation .«candidate_spiffe_id»)) ≡ false → validateOperation t ≡ InvalidRecord
+pub candidate-fails : (t : VoterSlotTable) → validSpiffeId (t .replacement .attestation .«candidate_spiffe_id») ≡ false → validateOperation t ≡ InvalidRecord
 unfolding validateOperation validOperation validAttestation
 candidate-fails t h = rw h
 
-pub controller-fails : (t : VoterSlotTable) → isName (textOf (t .replacement .attestation .«controller_spiffe_id»)) ≡ false → validateOperation t ≡ InvalidRecord
+pub controller-fails : (t : VoterSlotTable) → validSpiffeId (t .replacement .attestation .«controller_spiffe_id») ≡ false → validateOperation t ≡ InvalidRecord
 unfolding validateOperation validOperation validAttestation
-controller-fails t h = rw (h, and-false (isName (textOf (t .replacement .attestation .«candidate_spiffe_id»))))
+controller-fails t h = rw (h, and-false (validSpiffeId (t .replacement .attestation .«candidate_spiffe_id»)))
 
 -- ---- the receipts
 
 -- a slot without a receipt is distinct from all others
 pub distinct-without : (t : VoterSlotTable) (i : ℕ) → slotAt t i .«has_last_result» ≡ false
     → allBelow (λ j. distinctResults (slotAt t j) (slotAt t i)) i ≡ true
-distinct-without t i h = allBelow-true (λ j. distinctResults (slotAt t j) (slotAt t i)) i (λ j. rw (h, and-false (slotAt t j .«has_last_result»)))
+distinct-without t i h = allBelow-all (λ j. distinctResults (slotAt t j) (slotAt t i)) i (λ j l. rw (h, and-false (slotAt t j .«has_last_result»)))
 
 -- ---- the slots one by one
 

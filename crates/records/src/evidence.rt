@@ -2,11 +2,10 @@
 //
 // Ported from crates/opc-consensus/src/voter_slots/validation.rs (`VoterSlotLogId` and
 // `VoterReplacementEvidence`: `validate`, `follows`, `retains`, `latest`) of openpacketcore-sdk, commit
-// 717de332e7, Apache-2.0 (see NOTICE). Changed: each check answers yes or no.
+// 717de332e7, Apache-2.0 (see NOTICE). Changed: each check answers yes or no. A snapshot id above its
+// field, for which the original gives `TooLarge`, is a no: in a table the test for 30 has refused it.
 ghost use mathlib.Core.Path.{_≡_};
-ghost use lib.ListN.{take};
-ghost use Rattle.identity.specs.Text.{isSnapshotId};
-ghost use Rattle.records.specs.Evidence.{validLogId, follows, validStage, stageOr, snapshotCut, validStages, validBeside, validContinuation, validEvidence, retainsCut, retainsMarker, retainsCuts, retains, laterOf, latest};
+ghost use Rattle.records.specs.Evidence.{validLogId, follows, validStage, stageOr, snapshotCut, validStages, validBeside, validContinuation, validSnapshotId, validEvidence, retainsCut, retainsMarker, retainsCuts, retains, laterOf, latest};
 use crate::equality::same_voter_slot_log_id;
 use crate::equality::same_voter_snapshot_evidence;
 use crate::records::CAUGHT_UP;
@@ -19,6 +18,7 @@ use crate::records::SnapshotId;
 use crate::records::UNIFORM;
 use crate::records::VoterReplacementEvidence;
 use crate::records::VoterSlotLogId;
+use identity::text::MAX_VOTER_SNAPSHOT_ID_BYTES;
 use identity::text::is_snapshot_id;
 
 // `VoterSlotLogId::validate`.
@@ -148,12 +148,13 @@ fn is_valid_beside(continuation: VoterSlotLogId, other: OptionalLogId, is_snapsh
     log_id_follows(cut, continuation, false)
 }
 
+// A length above the field is a no.
 fn is_valid_snapshot_id(id: SnapshotId) -> bool
-    ensures { λ r. ⌜ r ≡ isSnapshotId (take (id .len) (id .bytes)) ⌝ }
+    ensures { λ r. ⌜ r ≡ validSnapshotId id ⌝ }
 {
     let len = id.len;
-    if 256 < len {
-        return is_snapshot_id(&id.bytes);
+    if MAX_VOTER_SNAPSHOT_ID_BYTES < len {
+        return false;
     }
     let bytes = &id.bytes[..];
     is_snapshot_id(&bytes[..len])

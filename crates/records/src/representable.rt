@@ -1,5 +1,6 @@
-// The test for 30: whether the Rust types can hold a value, and whether all that is not in use is
-// zero. The original needs none, since its types rule such values out.
+// The test for 30: whether the Rust types can hold a value, no count is above nine and no text above
+// its field, and all that is not in use is zero. The original has no such test: its types rule most
+// of these values out, and its validity refuses the others, by `InvalidRecord` and `TooLarge`.
 ghost use mathlib.Core.Path.{_≡_};
 ghost use mathlib.Core.Bool.{_&&_};
 ghost use Prim.Native.Nat.{_≤_};

@@ -2,18 +2,18 @@
 //
 // Ported from crates/opc-consensus/src/voter_slots/validation.rs of openpacketcore-sdk, commit
 // 717de332e7, Apache-2.0 (see NOTICE). Changed: a check that can only give `InvalidRecord` answers
-// yes or no; the test for 30 stands in front; `validate_successor_of` is in successor.rt.
+// yes or no; the test for 30 stands in front, and has refused each text for which the original gives
+// `TooLarge`; `follows`, `retains` and `latest` are in evidence.rt, `validate_successor_of` in
+// successor.rt.
 ghost use mathlib.Core.Bool.{_&&_};
 ghost use mathlib.Core.Path.{_≡_};
 ghost use Prim.Native.Nat.{_+_, _-_, _<_, _≤_};
 ghost use lib.Dec.{eqb, leb, ltb};
-ghost use lib.ListN.{getD, take};
-ghost use Rattle.identity.specs.Text.{isName};
+ghost use lib.ListN.{getD};
 ghost use Rattle.identity.specs.declared.answer.Answer.the-variants.{Accepted};
 ghost use Rattle.records.specs.Equality.{sameVoterSlotMember};
 ghost use Rattle.records.specs.Records.{allBelow, slotAt, memberAt, noSlotRecord, voting};
-ghost use Rattle.records.specs.Validation.{requireOf, validCount, validConfiguration, validAttestation, isActive, validResult, validSlot, distinctResults, validSlots, targetPhase, validOperationHead, isCurrentEpoch, validOperation, claimsOf, supersededReceipt, retiredMember, validTarget, otherRequest, validateMember, validateMembers, hasTarget, validateOperation, validity, validate};
-ghost use Rattle.records.specs.ValidationLaws.{NamesHold};
+ghost use Rattle.records.specs.Validation.{requireOf, validCount, validConfiguration, validSpiffeId, NamesHold, validAttestation, isActive, validResult, validSlot, distinctResults, validSlots, targetPhase, validOperationHead, isCurrentEpoch, validOperation, claimsOf, supersededReceipt, retiredMember, validTarget, otherRequest, validateMember, validateMembers, hasTarget, validateOperation, validity, validate};
 use crate::equality::same_voter_slot_log_id;
 use crate::equality::same_voter_slot_member;
 use crate::equality::same16;
@@ -43,6 +43,7 @@ use identity::identity::ConsensusRequestId;
 use identity::identity::MAX_VOTER_INCARNATION;
 use identity::identity::SlotId;
 use identity::identity::VoterIncarnation;
+use identity::text::MAX_VOTER_SPIFFE_ID_BYTES;
 use identity::text::is_name;
 
 // What the open request claims of the slots. The record has 6.3 KB, so the tests of a slot are handed these alone.
@@ -124,13 +125,13 @@ pub fn is_valid_attestation(attestation: LostVoterAttestationV1) -> bool
     )
 }
 
-// A length that its field cannot hold gives no; the test for 30 has ruled it out before. The bytes
-// come by themselves: of a record the caller would make a copy first.
+// A length above the field is a no. The bytes come by themselves: of a record the caller would make
+// a copy first.
 fn is_valid_spiffe_id(len: usize, bytes: [u8; 2048]) -> bool
-    ensures { λ r. ⌜ r ≡ isName (take len bytes) ⌝ }
+    ensures { λ r. ⌜ r ≡ validSpiffeId (record { len = len; bytes = bytes }) ⌝ }
 {
-    if 2048 < len {
-        return is_name(&bytes);
+    if MAX_VOTER_SPIFFE_ID_BYTES < len {
+        return false;
     }
     let text = &bytes[..];
     is_name(&text[..len])
@@ -161,7 +162,7 @@ pub fn validate_table(table: VoterSlotTable) -> Answer
     validate_representable(table)
 }
 
-// Validity of a table that the Rust types can hold.
+// Validity of a table that has passed the test for 30.
 pub fn validate_representable(table: VoterSlotTable) -> Answer
     requires { ⌜ table .count ≤ 9 ⌝ }
     ensures { λ r. ⌜ r ≡ validity table ⌝ }
@@ -322,7 +323,7 @@ fn are_distinct_results(a: VoterSlotRecord, b: VoterSlotRecord) -> bool
     !(a.has_last_result & (b.has_last_result & same))
 }
 
-// `VoterSlotTable::validate_operation`, past the names.
+// `VoterSlotTable::validate_operation`, after the names.
 fn validate_operation(table: VoterSlotTable) -> Answer
     requires { ⌜ table .count ≤ 9 ⌝ }
     requires { ⌜ NamesHold (table .replacement .attestation) ⌝ }
@@ -338,7 +339,7 @@ fn validate_operation(table: VoterSlotTable) -> Answer
     require(has_target(table))
 }
 
-// The open request itself, past the names, and beside the table's head.
+// The open request itself, after the names, and against the table's head.
 fn is_valid_operation(table: VoterSlotTable) -> bool
     requires { ⌜ NamesHold (table .replacement .attestation) ⌝ }
     ensures { λ r. ⌜ r ≡ validOperation table (table .replacement) ⌝ }

@@ -17,7 +17,7 @@ use Rattle.layout.specs.Format.{table}
 use Rattle.layout.specs.Parts.{TableFits}
 use Rattle.layout.specs.Reading.{outcome}
 use Rattle.layout.specs.ReadingLaws.{outcome-ok}
-use Rattle.codec.specs.ValidLaws.{validate-says}
+use Rattle.records.specs.ValidParts.{valid-parts}
 use borrow.Author.Needs.{needs}
 use Rattle.codec.proofs.codec.encode_voter_slot_table.Statement.{statement}
 use Rattle.codec.proofs.codec.encode_voter_slot_table.Tie as tie
@@ -27,7 +27,7 @@ valid : (c : tie.Else1) → validate (c .before .before .before .before .args .t
 valid c = sym (c .before .before .validate-table .ensures) ∙ is-accepted _ (held (c .before .accepted .ensures) (c .if1 .left))
 
 fits : (c : tie.Else1) → TableFits (c .before .before .before .before .args .table)
-fits c = table-fits _ (validate-says _ (valid c) .0)
+fits c = table-fits _ (valid-parts _ (valid c) .0)
 
 validate-table-requires : tie.Need-validate-table-requires
 validate-table-requires c κs = search needs

@@ -1,11 +1,11 @@
--- `records::evidence::is_valid_snapshot_id` meets its contract: beyond the array the text is all of its 256 bytes, and else the front that is lent. Assumes nothing.
-use mathlib.Core.Path.{sym, ap, _∙_, _≡_}
+-- `records::evidence::is_valid_snapshot_id` meets its contract: a length above the field is a no, and else the front is lent. Assumes nothing.
+use mathlib.Core.Path.{_≡_}
 use Prim.Native.Nat.{_≤_}
 use native.Mathlib.Omega.{arith}
-use lib.Seq.{take-all}
 use lib.ListN.{length, take, length-take}
 use borrow.Author.Needs.{needs}
-use Rattle.identity.specs.Text.{isSnapshotId}
+use borrow.Author.Tests.{le-leb, lt-leb}
+use Rattle.identity.specs.Text.{maxSnapshotIdBytes}
 use Rattle.records.proofs.evidence.is_valid_snapshot_id.Statement.{statement}
 use Rattle.records.proofs.evidence.is_valid_snapshot_id.Tie as tie
 
@@ -13,14 +13,8 @@ use Rattle.records.proofs.evidence.is_valid_snapshot_id.Tie as tie
 len256 : (c : tie.Start) → length (c .args .t1 .bytes) ≡ 256
 len256 c = search needs
 
-is-snapshot-id-requires : tie.Need-is-snapshot-id-requires
-is-snapshot-id-requires c κs = search needs
-
 returns : tie.Need-returns
-returns c =
-    let s = c .before .before .before .before .before in
-    let h = len256 s in
-    c .is-snapshot-id .ensures ∙ ap isSnapshotId (sym (take-all (s .args .t1 .len) (s .args .t1 .bytes) (omega arith)))
+returns c = rw (lt-leb (c .before .args .t1 .len) maxSnapshotIdBytes (c .if1 .taken))
 
 slice-aggregate-is-snapshot-id : tie.Need-slice-aggregate-is-snapshot-id
 slice-aggregate-is-snapshot-id c =
@@ -31,18 +25,19 @@ slice-aggregate-is-snapshot-id c =
     let k : id .len ≡ length (take (id .len) (id .bytes)) = simp length-take (omega arith) in
     k
 
-is-snapshot-id-requires-2 : tie.Need-is-snapshot-id-requires-2
-is-snapshot-id-requires-2 c κs = search needs
+is-snapshot-id-requires : tie.Need-is-snapshot-id-requires
+is-snapshot-id-requires c κs = search needs
 
 returns-2 : tie.Need-returns-2
-returns-2 c = search needs
+returns-2 c =
+    let t = c .before .before .before .before .before in
+    rw (le-leb (t .before .args .t1 .len) maxSnapshotIdBytes (t .if1 .left)) (c .is-snapshot-id .ensures)
 
 pub is-valid-snapshot-id-spec : {M : Type 1} → statement M
 is-valid-snapshot-id-spec =
     tie.close
     (tie.spec
-    is-snapshot-id-requires
     returns
     slice-aggregate-is-snapshot-id
-    is-snapshot-id-requires-2
+    is-snapshot-id-requires
     returns-2)
