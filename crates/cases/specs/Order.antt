@@ -182,7 +182,7 @@ orderedRequest =
 unfoldable pub orderedTable : VoterSlotTable
 orderedTable =
     record {
-      «cluster_instance» = filled 32 0x11;
+      «cluster_instance» = filled 32 0x11;  -- as the attestation's
       «manifest_digest» = filled 32 0x22;
       revision = 0x0102030405060708;
       «configuration_epoch» = 515;
