@@ -1,1 +1,4 @@
 pub mod Cases
+pub mod Order
+pub mod OrderBytes
+pub mod OrderLaws

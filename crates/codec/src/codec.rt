@@ -3,12 +3,16 @@
 // Ported from crates/opc-consensus/src/voter_slots/codec.rs of openpacketcore-sdk, commit
 // 717de332e7, Apache-2.0 (see NOTICE). Changed: a reading gives an answer and the table, the blank
 // one beside a refusal; the writer fills a buffer that is lent; the test for 30 stands before it.
+ghost use Prim.Native.Nat.{_≤_};
 ghost use mathlib.Core.Path.{_≡_};
+ghost use lib.ListN.{length};
 ghost use Rattle.identity.specs.Answer.{numberOf};
+ghost use Rattle.identity.specs.declared.answer.Answer.the-variants.{Accepted};
 ghost use Rattle.format.specs.Res.Res.{no};
 ghost use Rattle.records.specs.Blank.{blankVoterSlotTable, blankLostVoterAttestationV1};
+ghost use Rattle.records.specs.Validation.{validate};
 ghost use Rattle.layout.specs.Reading.{report, outcome};
-ghost use Rattle.codec.specs.Codec.{decoded, decodeVoterSlotTable, decodeLostVoterAttestation, encodeVoterSlotTable, restartOutcome};
+ghost use Rattle.codec.specs.Codec.{tableBytes, decoded, decodeVoterSlotTable, decodeLostVoterAttestation, encodeVoterSlotTable, restartOutcome};
 use identity::answer::Answer;
 use identity::answer::accepted;
 use layout::parts::MAX_LOST_VOTER_ATTESTATION_BYTES;
@@ -114,10 +118,11 @@ pub fn encode_voter_slot_table(buffer: &mut [u8], table: VoterSlotTable) -> Read
     Reading::To(put_table(buffer, 0, table))
 }
 
-// The table is written, and the bytes counted are read again. A valid table comes back as it was
-// where the buffer has room for it.
+// The table is written, and the bytes counted are read again. The second clause follows from the
+// first: where the buffer has room, a valid table is returned as it was.
 pub fn restart(buffer: &mut [u8], table: VoterSlotTable) -> DecodedTable
-    ensures { λ r. ⌜ ((numberOf (r .answer), r .table), now (buffer .exit)) ≡ restartOutcome table (now (buffer .entry)) ⌝ }
+    ensures outcome { λ r. ⌜ ((numberOf (r .answer), r .table), now (buffer .exit)) ≡ restartOutcome table (now (buffer .entry)) ⌝ }
+    ensures same { λ r. ⌜ (validate table ≡ Accepted → length (tableBytes table) ≤ length (now (buffer .entry)) → (numberOf (r .answer) ≡ 0) × (r .table ≡ table)) ⌝ }
 {
     let written = encode_voter_slot_table(buffer, table);
     let Reading::To(n) = written else {

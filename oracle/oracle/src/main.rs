@@ -13,6 +13,7 @@ mod format;
 mod generate;
 mod histogram;
 mod layout;
+mod ordered;
 mod raw;
 #[cfg(test)]
 mod readings;
@@ -41,6 +42,7 @@ const USAGE: &str = "usage:
   oracle compare --cases PROGRAM --fixed
   oracle compare --replay PROGRAM SEED COUNT
   oracle samples FOLDER
+  oracle ordered > OrderBytes.antt
   oracle bench
 kinds:";
 
@@ -81,6 +83,7 @@ fn run(words: &[&str]) -> Result<ExitCode, String> {
             report(compare::questions(Path::new(program), seed, count, kind)?)
         }
         ["samples", folder] => stored::write(Path::new(folder)).map(|()| ExitCode::SUCCESS),
+        ["ordered"] => print(ordered::text().as_bytes()),
         ["bench"] => bench::run(|line| print(format!("{line}\n").as_bytes()).map(drop))
             .map(|()| ExitCode::SUCCESS),
         _ => Err(format!("{USAGE}{}", kinds())),

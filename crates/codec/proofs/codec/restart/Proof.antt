@@ -1,16 +1,36 @@
 -- `codec::codec::restart` meets its contract. Assumes nothing.
+use Prim.Native.Nat.{ℕ, _≤_}
+use mathlib.Core.List.{List}
 use mathlib.Core.Path.{_≡_, sym, ap, _∙_}
+use lib.ListN.{length}
 use lib.Seq.{length-take-le}
 use Rattle.format.specs.Res.Res.{ok, no}
 use Rattle.identity.specs.Answer.{numberOf}
+use Rattle.identity.specs.declared.answer.Answer.the-variants.{Accepted}
 use Rattle.records.specs.Blank.{blankVoterSlotTable}
-use Rattle.codec.specs.Codec.{decoded, encodeVoterSlotTable, restartOutcome}
+use Rattle.records.specs.Held.{HeldVoterSlotTable}
+use Rattle.records.specs.Validation.{validate}
+use Rattle.records.specs.declared.records.VoterSlotTable.{VoterSlotTable}
+use Rattle.records.proofs.Held.{held-voter-slot-table}
+use Rattle.codec.specs.Codec.{tableBytes, decoded, encodeVoterSlotTable, restarted, restartOutcome}
+use Rattle.codec.specs.CodecLaws.{restarted-same}
 use Rattle.codec.specs.EntryLaws.{decoded-no, encode-within, restarted-no, restarted-on}
 use Rattle.layout.specs.Reading.{whyOf}
 use Rattle.layout.specs.ReadingLaws.{told, told-not}
 use borrow.Author.Needs.{needs}
 use Rattle.codec.proofs.codec.restart.Statement.{statement}
 use Rattle.codec.proofs.codec.restart.Tie as tie
+
+held : (c : tie.Start) → HeldVoterSlotTable (c .args .table)
+held c = held-voter-slot-table (c .args .table) _ (c .good .1 .0)
+
+-- the second clause, from the first
+same : (t : VoterSlotTable) (buffer : List ℕ) → HeldVoterSlotTable t → (answer : ℕ × VoterSlotTable) → answer ≡ decoded blankVoterSlotTable (restarted t buffer)
+    → validate t ≡ Accepted → length (tableBytes t) ≤ length buffer → (answer .0 ≡ 0) × (answer .1 ≡ t)
+unfolding decoded
+same t buffer h answer p v l =
+    let q = p ∙ ap (decoded blankVoterSlotTable) (restarted-same t h v buffer l) in
+    (λ i. q i .0, λ i. q i .1)
 
 -- what was written
 written : (c : tie.After-known-told) → encodeVoterSlotTable (c .before .before .before .before .before .before .before .before .args .table) (c .before .before .before .before .before .before .before .before .args .buffer .now)
@@ -42,7 +62,7 @@ returns c =
     let t = c .before .before .before .before .before .before .before .before .before .args .table in
     let w = c .before .before .before .before .before .before .encode-voter-slot-table .ensures in
     let p = decoded-no blankVoterSlotTable (c .refused-table .ensures ∙ ap (λ a. decoded blankVoterSlotTable (no (numberOf a))) (c .before .why .ensures ∙ ap whyOf (c .before .before .enum-told .given .1))) (restarted-no t b (told-not b _ w (c .before .before .enum-told .given .1))) in
-    λ i. (p i, w i .1)
+    (λ i. (p i, w i .1), same t b (held (c .before .before .before .before .before .before .before .before .before)) _ p)
 
 slice-reshare-prefix-decode-voter-slot-table : tie.Need-slice-reshare-prefix-decode-voter-slot-table
 slice-reshare-prefix-decode-voter-slot-table c =
@@ -64,7 +84,8 @@ returns-2 c =
     let b = c .before .before .before .before .before .before .before .before .before .before .args .buffer .now in
     let t = c .before .before .before .before .before .before .before .before .before .before .args .table in
     let p = c .decode-voter-slot-table .ensures ∙ ap (decoded blankVoterSlotTable) (sym (restarted-on t b (written (c .before .before)))) in
-    λ i. (p i, c .before .before .before .before .before .before .before .encode-voter-slot-table .ensures i .1)
+    let w = c .before .before .before .before .before .before .before .encode-voter-slot-table .ensures in
+    (λ i. (p i, w i .1), same t b (held (c .before .before .before .before .before .before .before .before .before .before)) _ p)
 
 pub restart-spec : {M : Type 1} → statement M
 restart-spec =
