@@ -1,18 +1,17 @@
 -- Each field is read from its own place: the records of Order are read from the bytes that the original Rust wrote of them.
 -- Assumes nothing.
-use Prim.Native.Nat.{ℕ, _<_, _≤_}
+use Prim.Native.Nat.{ℕ}
 use native.Mathlib.Omega.{arith}
 use mathlib.Core.Path.{_≡_, refl, ap, _∙_}
-use mathlib.Core.Bool.{Bool, true, false}
+use mathlib.Core.Bool.{true}
 use mathlib.Core.List.{List, [], _∷_, _++_}
-use lib.ListN.{length, drop, replicate}
-use lib.Dec.{lit<}
+use lib.ListN.{take, drop}
 use Rattle.identity.specs.Answer.{numberOf}
 use Rattle.identity.specs.Identity.{validateSlotId, validateVoterIncarnation}
 use Rattle.identity.specs.Text.{isIn, startsWith, isName, isSnapshotId, isUtf8, every}
 use Rattle.identity.specs.Utf8.{fits, widthIn, decoded, charsFrom, allChars}
 use Rattle.identity.specs.declared.answer.Answer.the-variants.{Accepted}
-use Rattle.format.specs.Res.{Res, andThen}
+use Rattle.format.specs.Res.{andThen}
 use Rattle.format.specs.Res.Res.{ok, no}
 use Rattle.format.specs.Codec.{decSeq, decCheck, decMap, dep-ok, map-ok, gate, dep, check, via, held, always}
 use Rattle.format.specs.Num.{uint, raw, decUint, decRaw, val, pick}
@@ -23,18 +22,33 @@ use Rattle.records.specs.Equality.{allTrue, eqList, sameVoterSlotIdentity, same
 use Rattle.records.specs.Evidence.{follows, validStage, stageOr, validStages, validBeside, validContinuation, validEvidence}
 use Rattle.records.specs.Records.{allBelow}
 use Rattle.records.specs.Validation.{validConfiguration, validAttestation, validResult, validSlot, validSlots, validOperationHead, isCurrentEpoch, validOperation, retiredMember, validTarget, validateMember, validateMembers, validateOperation, validity}
-use Rattle.records.specs.declared.records.VoterSlotTable.{VoterSlotTable}
 use Rattle.layout.specs.Format.{maxAttestationBytes, table, head, headTest, tableHead, epoch, count, slots, slot, slotMember, identity, slotId, incarnation, logId, optionalLogId, sized, string, spiffeId, snapshotId, binding, member, members, configuration, choice, resultHead, result, version, claimsRequest, claimsSlot, claimsNames, times, claimsEnd, claims, attestation, snapshot, threeCuts, evidence, change, replacement}
 use Rattle.layout.specs.Parts.{tableOf, replacementOf, tableHeadOf, changeOf}
 use Rattle.codec.specs.Codec.{decodeVoterSlotTable, decodeLostVoterAttestation, bounded}
 use Rattle.codec.specs.EntryLaws.{decode-judged}
 use Rattle.cases.specs.OrderBytes.{orderedTableBytes, orderedAttestationBytes}
-use Rattle.cases.specs.Order.{firstSlot, secondSlot, thirdSlot, orderedAttestation, orderedEvidence, orderedRequest, orderedTable}
+use Rattle.cases.specs.Order.{orderedAttestation, orderedEvidence, orderedRequest, orderedTable}
 
 -- The attestation is read from its bytes, each field from its place.
 pub attestation-ordered : decodeLostVoterAttestation orderedAttestationBytes ≡ ok orderedAttestation 351
 unfolding orderedAttestation decodeLostVoterAttestation bounded andThen whole pick gate decSeq decCheck decMap dep check via held raw decRaw uint decUint val identity slotId incarnation validateSlotId validateVoterIncarnation sized string spiffeId choice version claimsRequest claimsSlot claimsNames times claimsEnd claims attestation isUtf8 isIn startsWith isName every fits widthIn decoded charsFrom allChars eqList allTrue validAttestation
 attestation-ordered = refl
+
+-- ---- refusals of an attestation: its version is refused by 6, where a table's is by 4; a size over its bound is refused by 5 before the bytes are missed
+
+pub version-two : decodeLostVoterAttestation (0 ∷ 2 ∷ drop 2 orderedAttestationBytes) ≡ no 6
+unfolding decodeLostVoterAttestation bounded andThen whole pick gate decSeq decCheck decMap dep check via held raw decRaw uint decUint val identity slotId incarnation validateSlotId validateVoterIncarnation sized string spiffeId choice version claimsRequest claimsSlot claimsNames times claimsEnd claims attestation
+version-two = refl
+
+-- it ends behind the size of the first name, 2,049: 5
+pub size-before-bytes : decodeLostVoterAttestation (take 164 orderedAttestationBytes ++ (8 ∷ 1 ∷ [])) ≡ no 5
+unfolding decodeLostVoterAttestation bounded andThen whole pick gate decSeq decCheck decMap dep check via held raw decRaw uint decUint val identity slotId incarnation validateSlotId validateVoterIncarnation sized string spiffeId choice version claimsRequest claimsSlot claimsNames times claimsEnd claims attestation
+size-before-bytes = refl
+
+-- and 2,048, which may be: 6, since they are missing
+pub bytes-missing : decodeLostVoterAttestation (take 164 orderedAttestationBytes ++ (8 ∷ 0 ∷ [])) ≡ no 6
+unfolding decodeLostVoterAttestation bounded andThen whole pick gate decSeq decCheck decMap dep check via held raw decRaw uint decUint val identity slotId incarnation validateSlotId validateVoterIncarnation sized string spiffeId choice version claimsRequest claimsSlot claimsNames times claimsEnd claims attestation
+bytes-missing = refl
 
 -- ---- the table, part by part: what a box holds is not computed, and has a law
 

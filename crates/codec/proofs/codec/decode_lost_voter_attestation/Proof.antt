@@ -18,7 +18,7 @@ refused-attestation-requires c κs = search needs
 
 returns : tie.Need-returns
 unfolding decodeLostVoterAttestation
-returns c = decoded-no _ (c .refused-attestation .ensures) (bounded-out maxAttestationBytes _ _ (c .before .if1 .taken))
+returns c = decoded-no _ (c .refused-attestation .ensures) (bounded-out maxAttestationBytes _ _ (omega arith))
 
 read-whole-attestation-requires : tie.Need-read-whole-attestation-requires
 read-whole-attestation-requires c κs = search needs

@@ -34,7 +34,7 @@ refused-table-requires c κs = search needs
 
 returns : tie.Need-returns
 unfolding decodeVoterSlotTable
-returns c = decoded-no _ (c .refused-table .ensures) (bounded-out maxTableBytes _ _ (c .before .if1 .taken))
+returns c = decoded-no _ (c .refused-table .ensures) (bounded-out maxTableBytes _ _ (omega arith))
 
 read-table-requires : tie.Need-read-table-requires
 read-table-requires c κs = search needs
