@@ -2,27 +2,83 @@
 """Writes the regular proofs of the readers (crates/reader/proofs/{reader,decode} and crates/layout/proofs/reading).
 
 Records are read field by field: after each field a lemma says what was read so far and up to where; every need is then one line. Optional parts, the places of
-slots and members, text, and arrays of bytes have a template each, and so have the refusals that are handed on. The needs and their order are those
-that `rt dev reader` prints for a function that has no proof file: the script fills such a file, or one that it filled before.
-Run it from the repository's root after a change of a reader or of the format, and then `rt fmt`: scripts/readers.py [NAME..]
+slots and members, text, and arrays of bytes have a template each, and so have the refusals that are passed on. The needs and their order are those
+that `rt dev reader` prints for a function that has no proof file: the script takes them, and nothing else, from such a file (scripts/skeletons.py) or from
+one that it filled before, and writes all the rest. A file or a need that is not there ends it.
+Run it after a change of a reader or of the format: scripts/readers.py [NAME..]
 """
 import os
 import re
+import subprocess
 import sys
 
 ROOT = os.path.dirname(os.path.dirname(os.path.abspath(__file__)))
+
+
 def proofs_of(module):
     """Where the proofs of a module are: what a reader answers stands in layout."""
     return os.path.join(ROOT, "crates", crate_of(module), "proofs", module)
 
 
-def first_need(text):
-    """Where the answers to the needs begin, behind the definitions."""
-    return re.search(r"^\S+ : tie\.Need-", text, re.M).start()
-
-
 def crate_of(module):
     return "layout" if module == "reading" else "reader"
+
+
+class Skeleton:
+    """The needs of a function, in order, as the checker prints them. One that is not answered is left to `search needs`."""
+
+    def __init__(self, module, name):
+        self.module, self.name = module, name
+        self.path = os.path.join(proofs_of(module), name, "Proof.antt")
+        self.shown = os.path.relpath(self.path, ROOT)
+        if not os.path.exists(self.path):
+            sys.exit(f"readers.py: no skeleton of {name}: {self.shown} is not there. scripts/skeletons.py {crate_of(module)} writes it.")
+        with open(self.path) as file:
+            text = file.read()
+        found = re.findall(r"^(\S+) : (tie\.Need-\S+.*)\n(?:unfolding .*\n)?\1 c( κs)? =", text, re.M)
+        if not found:
+            sys.exit(f"readers.py: no needs in {self.shown}. Remove it, and scripts/skeletons.py {crate_of(module)} writes it again.")
+        self.needs = {need: (kind, more) for need, kind, more in found}
+        self.answers = {}
+
+    def fill(self, need, body, unfolding=""):
+        """The answer to a need, and what is unfolded for it."""
+        if need not in self.needs:
+            sys.exit(f"readers.py: {self.shown} has no need {need}. Remove it, and scripts/skeletons.py {crate_of(self.module)} writes the needs of today.")
+        self.answers[need] = body, f"unfolding {unfolding}\n" if unfolding else ""
+
+    def last_sum(self):
+        """The need of the last sum, whose name tells a temporary."""
+        return next((need for need in self.needs if re.fullmatch(r"add-t\d+", need)), None)
+
+    def before(self, one, other):
+        """Whether one need comes before the other."""
+        order = list(self.needs)
+        return order.index(one) < order.index(other)
+
+    def text(self):
+        """The needs with their answers, and the proof of them."""
+        out = ""
+        for need, (kind, more) in self.needs.items():
+            body, unfolding = self.answers.get(need, ("search needs", ""))
+            out += f"{need} : {kind}\n{unfolding}{need} c{more} = {body}\n\n"
+        loop = ["Inv-loop", "μ-loop"] if any("Inv-loop" in kind for kind, _ in self.needs.values()) else []
+        spec, parts = kebab(self.name) + "-spec", loop + list(self.needs)
+        line = f"{spec} = tie.close (tie.spec {' '.join(parts)})"
+        if len(line) > 99:
+            line = f"{spec} =\n    tie.close\n    (tie.spec\n    " + "\n    ".join(parts) + ")"
+        return out + f"pub {spec} : {{M : Type 1}} → statement M\n{line}\n"
+
+    def own(self):
+        """The modules of the function's own."""
+        at = f"use Rattle.{crate_of(self.module)}.proofs.{self.module}.{self.name}"
+        return [at + ".Statement.{statement}", at + ".Tie as tie"]
+
+    def write(self, lines, defs):
+        with open(self.path, "w") as file:
+            file.write("\n".join(lines) + "\n\n" + defs + self.text())
+        print("wrote", self.name)
+
 
 # What a field is read by: call, codec, type of the value, the definition of its answer (None: it stands beside a value), the refusal's
 ENUM = {
@@ -278,19 +334,8 @@ class Reader:
         return "why", "whyOf"
 
 
-def fill(text, need, body, unfolding=""):
-    """The text with the need's body (which may stand there as a hole)."""
-    m = re.search(rf"^{re.escape(need)} : (tie\.Need-\S+.*)\n(?:unfolding .*\n)?{re.escape(need)} c( κs)? =(?:[^\n]*\n)(?:    [^\n]*\n)*", text, re.M)
-    assert m, need
-    u = f"unfolding {unfolding}\n" if unfolding else ""
-    return text[:m.start()] + f"{need} : {m.group(1)}\n{u}{need} c{m.group(2) or ''} = {body}\n" + text[m.end():]
-
-
 def write(r):
-    path = os.path.join(proofs_of(r.module), r.name, "Proof.antt")
-    text = open(path).read()
-    skeleton = text[first_need(text):]
-    old = [l for l in text[:first_need(text)].split("\n") if "·proofs.proofs" in l or ".proofs." in l and l.startswith("use ")]
+    s = Skeleton(r.module, r.name)
     n = r.n
     defs = "-- after each field: what was read so far, and up to where\n"
     for k in range(n):
@@ -303,14 +348,13 @@ def write(r):
         else:
             defs += f"got-{k + 1} c = dep-ok _ _ _ (got-{k} ({back(r.costs[k])})) ({r.field_got(k)})\n\n"
     whys = Names()
-    s = skeleton
     for k in range(1, n):
         # so many places are asked for as were counted
         if r.kind(k) == "members":
             at = r.bytes(k - 1)
             defs += f"counted : (c : {r.place(k - 1)}) → count .dec (drop {r.counts(k - 2, r.costs[k - 1])} ({at})) ≡ ok ({r.value(k - 1, k - 1)}) ({r.count(k - 1, k - 1)})\n"
             defs += f"counted c = {r.field_got(k - 1)}\n\n"
-            s = fill(s, kebab(r.call(k)) + "-requires", "count-read _ (counted (c .before))")
+            s.fill(kebab(r.call(k)) + "-requires", "count-read _ (counted (c .before))")
     # for an enum's refusal the `else` is one step back, with `refused_x` around it two
     steps = 1 if r.enum else 2
     for k in range(n):
@@ -329,28 +373,28 @@ def write(r):
             ref = "refused-" + kebab(r.name[5:]) + ("" if k == 0 else str(k + 1))
             body = (f"\n    outcome-no _ (c .{ref} .ensures ∙ ap (λ a. outcome {r.blank} (no (numberOf a))) ({back(1)} .{w} .ensures ∙ ap {wd} ({e})))"
                     f"\n    (via-no _ _ _ _ _ ({t}))")
-        s = fill(s, need, body, r.codec)
+        s.fill(need, body, r.codec)
         if k + 1 < n:
             call = r.calls[k + 1][1]
             base = re.sub(r"-\d+$", "", call) if r.calls[k + 1][0] != r.calls[k + 1][1] else call
             p, q = part_names(base, r, k + 1)
-            s = fill(s, p, f"c{k + 1} .within _ (got-{k + 1} c)")
-            s = fill(s, q, f"c{k + 1} .within _ (got-{k + 1} c)")
+            s.fill(p, f"c{k + 1} .within _ (got-{k + 1} c)")
+            s.fill(q, f"c{k + 1} .within _ (got-{k + 1} c)")
         if 0 < k < n - 1:
             need = "add-at" if k == 1 else f"add-at-{k}"
-            s = fill(s, need, f"record {{ fits = lt-of-le-of-lt (c{k + 1} .within _ (got-{k + 1} c)) ({back(sum(r.costs[:k + 1]))} .good .0 .0) }}")
-    last = re.search(r"^(add-t\d+) :", s, re.M)
+            s.fill(need, f"record {{ fits = lt-of-le-of-lt (c{k + 1} .within _ (got-{k + 1} c)) ({back(sum(r.costs[:k + 1]))} .good .0 .0) }}")
+    last = s.last_sum()
     final = "returns-" + str(n + 1)
     m = 1 if r.made else 0
     if last:
-        place = lasts(s, last.group(1), r)
-        s = fill(s, last.group(1), f"record {{ fits = lt-of-le-of-lt (c{n} .within _ (got-{n} ({back(place)}))) ({back(sum(r.costs) + place)} .good .0 .0) }}")
+        place = lasts(s, last, r)
+        s.fill(last, f"record {{ fits = lt-of-le-of-lt (c{n} .within _ (got-{n} ({back(place)}))) ({back(sum(r.costs) + place)} .good .0 .0) }}")
     whole = f"via-ok _ _ _ _ _ (got-{n} ({back(m + extra(r))}))"
     if r.made:
         whole += f" ∙ ap (λ v. ok {made_value(r)} {r.counts(n - 1, m)}) (sym (c .{kebab(r.made)} .ensures))"
     body = f"sym ({whole})" if r.enum else f"outcome-ok _ ({whole})"
-    s = fill(s, final, body, r.codec)
-    open(path, "w").write(header(r, defs + s, old) + defs + s)
+    s.fill(final, body, r.codec)
+    s.write(header(r, defs + s.text(), s.own()), defs)
 
 
 def part_names(base, r, k):
@@ -362,7 +406,7 @@ def part_names(base, r, k):
 
 def lasts(s, add, r):
     """Whether the last sum stands behind the constructor's call."""
-    return extra(r) + (1 if r.made and s.index(f"\n{kebab(r.made)}-requires :") < s.index(f"\n{add} :") else 0)
+    return extra(r) + (1 if r.made and s.before(f"{kebab(r.made)}-requires", add) else 0)
 
 
 def extra(r):
@@ -387,7 +431,7 @@ def pruned(line, body):
     return line if m is None or f" {m.group(1)}." in body else None
 
 
-def header(r, body, old):
+def header(r, body, own):
     # without what is projected: `.result` is no format
     words = set(re.findall(r"[\w«»·'-]+", re.sub(r" \.[\w«»-]+", "", body)))
     lines = [f"-- `{crate_of(r.module)}::{r.module}::{r.name}` meets its contract: field by field. Written by scripts/readers.py. Assumes nothing.",
@@ -408,21 +452,17 @@ def header(r, body, old):
             lines.append(f"use Rattle.{home}.{{{', '.join(dict.fromkeys(hit))}}}")
     for home, names in DECLARED.items():
         lines += [f"use Rattle.{home}.{x}.{{{x}}}" for x in names if x in words]
-    return "\n".join(lines[:1] + [l for l in (pruned(l, body) for l in lines[1:] + old) if l]) + "\n\n"
+    return lines[:1] + [l for l in (pruned(l, body) for l in lines[1:] + own) if l]
 
 
 def refill(module, name, uses, defs, bodies):
-    """Writes a file of these imports, definitions and answers to needs; a need that is not named keeps its answer."""
-    path = os.path.join(proofs_of(module), name, "Proof.antt")
-    text = open(path).read()
-    old = [l for l in text.split("\n") if l.startswith("use ") and "·proofs.proofs" in l or l.startswith("use ") and ".proofs." in l]
-    s = text[first_need(text):]
+    """Writes a file of these imports, definitions and answers to needs."""
+    s = Skeleton(module, name)
     for need, answer in bodies.items():
-        body, unfolding = answer if isinstance(answer, tuple) else (answer, "")
-        s = fill(s, need, body, unfolding)
-    lines = [l for l in (pruned(l, defs + s) for l in sorted(uses) + ["use borrow.Author.Needs.{needs}"] + old) if l]
-    head = f"-- `{crate_of(module)}::{module}::{name}` meets its contract. Written by scripts/readers.py. Assumes nothing."
-    open(path, "w").write("\n".join([head] + lines) + "\n\n" + defs + s)
+        s.fill(s.last_sum() if need == LAST_SUM else need, *(answer if isinstance(answer, tuple) else (answer,)))
+    body = defs + s.text()
+    lines = [l for l in (pruned(l, body) for l in sorted(uses) + ["use borrow.Author.Needs.{needs}"] + s.own()) if l]
+    s.write([f"-- `{crate_of(module)}::{module}::{name}` meets its contract. Written by scripts/readers.py. Assumes nothing."] + lines, defs)
 
 
 PATH = "use mathlib.Core.Path.{_≡_, refl, sym, ap, _∙_, subst}"
@@ -431,12 +471,7 @@ NUMBER = "use Rattle.identity.specs.Answer.{numberOf}"
 LAWS = "use Rattle.layout.specs.ReadingLaws.{got, told, told-not, outcome-ok, outcome-no}"
 ARITH = "use native.Mathlib.Omega.{arith}"
 FITS = "use native.Mathlib.Nat.{lt-of-le-of-lt}"
-
-
-def last_sum(module, name):
-    """The need of the last sum, whose name tells a temporary."""
-    text = open(os.path.join(proofs_of(module), name, "Proof.antt")).read()
-    return re.search(r"^(add-t\d+) :", text, re.M).group(1)
+LAST_SUM = "the last sum"
 
 
 def optional(name, codec, absent, blank, call, make):
@@ -480,7 +515,7 @@ both c = opt-some _ _ _ (flagged-yes ({back(6)})) (told {blank} _ {src} ({back(2
         f"sub-{call}": f"flag .within _ (flagged ({back(2)}))",
         f"part-{call}-start": f"flag .within _ (flagged ({back(2)}))",
         "returns-3": f"\n    {passed('2', ('why', 'whyOf'), told2)}\n    (opt-bad _ _ _ (flagged-yes ({back(6)})) (told-not {blank} _ {src} ({told2})))",
-        last_sum("decode", f"read_optional_{name}"): f"record {{ fits = lt-of-le-of-lt (({whole}) .within _ (both c)) ({back(12)} .good .0 .0) }}",
+        LAST_SUM: f"record {{ fits = lt-of-le-of-lt (({whole}) .within _ (both c)) ({back(12)} .good .0 .0) }}",
         "returns-4": f"\n    outcome-ok {absent}\n    (both c ∙ ap (λ b. ok (b, {back(4)} .{call} .result .value) {sum_}) (sym (yes-is ({back(6)}))))",
     })
 
@@ -590,7 +625,7 @@ fits c = sized {size} .within _ (is c)
     let n = {back(6)} .size .given .0 .0 in
     let z : length ({back(1)} .{zeros} .result) ≡ {size} = ap length ({back(1)} .{zeros} .ensures) ∙ length-zeros {size} in
     omega (arith, length-take (2 + n - 2) (drop 2 s), z, sized-small {size} s (is ({back(5)})))""",
-        last_sum("reader", call): f"record {{ fits = lt-of-le-of-lt (fits ({back(7)})) ({back(12)} .good .0 .0) }}",
+        LAST_SUM: f"record {{ fits = lt-of-le-of-lt (fits ({back(7)})) ({back(12)} .good .0 .0) }}",
         "returns-3": (f"""
     let s = {back(12)} .args .bytes .now in
     let n = {back(8)} .size .given .0 .0 in
@@ -625,21 +660,19 @@ def array(size):
 
 
 def answers():
-    """What hands a refusal on: `why..` and `refused..`."""
-    folder = proofs_of("reading")
-    for name in sorted(os.listdir(folder)):
-        body = open(os.path.join(folder, name, "Proof.antt")).read()
+    """What passes a refusal on: `why..` and `refused..`."""
+    for name in sorted(os.listdir(proofs_of("reading"))):
         if name.startswith("why"):
             said = "whyOf" if name == "why" else "why" + "".join(w.capitalize() for w in name[4:].split("_"))
             refill("reading", name, [PATH, f"use Rattle.layout.specs.Reading.{{{said}}}"], "", {"returns-2": f"sym (ap {said} (c .before .answer .given .1))"})
         elif name.startswith("refused"):
-            call = re.search(r"^(\S+)-requires : ", body, re.M)
+            made = next((need[:-len("-requires")] for need in Skeleton("reading", name).needs if need.endswith("-requires")), None)
             uses = [PATH, "use mathlib.Core.Bool.{false}", RESULTS, NUMBER, "use Rattle.format.specs.Copy.{zeros}", "use Rattle.layout.specs.Reading.{outcome}"]
-            if call is None:
+            if made is None:
                 refill("reading", name, uses, "", {"returns": ("refl", "outcome zeros")})
             else:
                 value = "(false, v)" if "optional" in name else "v"
-                refill("reading", name, uses, "", {"returns": (f"ap (λ v. (no (numberOf (c .before .args .answer)), {value})) (c .{call.group(1)} .ensures)", "outcome")})
+                refill("reading", name, uses, "", {"returns": (f"ap (λ v. (no (numberOf (c .before .args .answer)), {value})) (c .{made} .ensures)", "outcome")})
 
 
 TEMPLATES = {
@@ -653,18 +686,18 @@ TEMPLATES = {
     "read_array32": lambda: array(32),
     "read_array64": lambda: array(64),
     "answers": answers,
+    **{reader[1]: (lambda reader=reader: write(Reader(*reader))) for reader in READERS},
 }
 
-for name, template in TEMPLATES.items():
-    if len(sys.argv) == 1 or name in sys.argv[1:]:
-        template()
-        print("wrote", name)
 
-for reader in READERS:
-    if len(sys.argv) == 1 or reader[1] in sys.argv[1:]:
-        p = os.path.join(proofs_of(reader[0]), reader[1], "Proof.antt")
-        if not os.path.exists(p):
-            print("no skeleton yet:", reader[1])
-            continue
-        write(Reader(*reader))
-        print("wrote", reader[1])
+def main():
+    names = sys.argv[1:] or list(TEMPLATES)
+    for name in names:
+        if name not in TEMPLATES:
+            sys.exit(f"readers.py: there is no template for {name}")
+    for name in names:
+        TEMPLATES[name]()
+    subprocess.run(["rt", "fmt"], check=True, cwd=ROOT)
+
+
+main()

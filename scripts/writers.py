@@ -449,6 +449,9 @@ returns c =
 
 def main():
     only = sys.argv[1:]
+    for name in only:
+        if name not in [f.name for f in CHAINS + OPTIONALS] + [f[0] for f in LOOPS]:
+            sys.exit(f'writers.py: {name} is not among the functions that it writes')
     for f in CHAINS:
         if not only or f.name in only:
             chain(f)
