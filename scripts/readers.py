@@ -1,5 +1,5 @@
 #!/usr/bin/env python3
-"""Writes the regular proofs of the readers (crates/reader/proofs/{reader,decode} and crates/layout/proofs/reading).
+"""Writes the regular proofs of the readers (crates/reader/proofs/{reader,decode} and crates/layout/proofs/{get,reading}).
 
 Records are read field by field: after each field a lemma says what was read so far and up to where; every need is then one line. Optional parts, the places of
 slots and members, text, and arrays of bytes have a template each, and so have the refusals that are passed on. The needs and their order are those
@@ -16,12 +16,12 @@ ROOT = os.path.dirname(os.path.dirname(os.path.abspath(__file__)))
 
 
 def proofs_of(module):
-    """Where the proofs of a module are: what a reader answers stands in layout."""
+    """Where the proofs of a module are: the readers of plain bytes, and what a reader answers, stand in layout."""
     return os.path.join(ROOT, "crates", crate_of(module), "proofs", module)
 
 
 def crate_of(module):
-    return "layout" if module == "reading" else "reader"
+    return "layout" if module in ("get", "reading") else "reader"
 
 
 class Skeleton:
@@ -86,7 +86,7 @@ ENUM = {
     "epoch": ("read_epoch", "epoch", "ℕ", "u64Read", "U64"),
     "incarnation": ("read_incarnation", "incarnation", "ℕ", "u64Read", "U64"),
     "slot_id": ("read_slot_id", "slotId", "ℕ", "u16Read", "U16"),
-    "count": ("read_count", "count", "ℕ", "u8Read", "U8"),
+    "count": ("read_count", "slotCount", "ℕ", "u8Read", "U8"),
     "kind": ("read_choice", "choice 0 1", "ℕ", "u8Read", "U8"),
     "phase": ("read_choice", "choice 0 2", "ℕ", "u8Read", "U8"),
     "reason": ("read_choice", "choice 1 2", "ℕ", "u8Read", "U8"),
@@ -97,7 +97,10 @@ ENUM = {
     "three_cuts": ("read_three_cuts", "threeCuts", "ThreeCuts", "threeCutsRead", "ThreeCuts"),
     "times": ("read_times", "times", "Times", "timesRead", "Times"),
     "version": ("read_version", "version", "Unit {0}", "report", None),
+    "head": ("read_head", "magicAndVersion", "Unit {0}", "report", None),
 }
+# What is read and leaves no value
+MARKS = ("version", "head")
 STRUCT = {
     "array16": ("read_array16", "raw 16", "List ℕ", "(zeros 16)"),
     "array32": ("read_array32", "raw 32", "List ℕ", "(zeros 32)"),
@@ -107,6 +110,8 @@ STRUCT = {
     "binding": ("read_binding", "binding", "Binding", "blankBinding"),
     "members": ("read_members", "members", "List VoterSlotMember", "blankVoterSlotMembers"),
     "configuration": ("read_configuration", "configuration", "VoterConfiguration", "blankVoterConfiguration"),
+    "slots": ("read_slots", "slots", "List VoterSlotRecord", "blankVoterSlotRecords"),
+    "table_head": ("read_table_head", "tableHead", "TableHead", "blankTableHead"),
     "result_head": ("read_result_head", "resultHead", "ResultHead", "blankResultHead"),
     "optional_result": ("read_optional_result", "opt result blankVoterReplacementResult", "Bool × VoterReplacementResult", "absentResult"),
     "slot_member": ("read_slot_member", "slotMember", "SlotMember", "blankSlotMember"),
@@ -119,6 +124,11 @@ STRUCT = {
     "change": ("read_change", "change", "Change", "blankChange"),
     "evidence": ("read_evidence", "evidence", "VoterReplacementEvidence", "blankVoterReplacementEvidence"),
 }
+
+# So many places as were counted before them
+COUNTED = ("members", "slots")
+# Groups whose codec is no record of its own, but the fields one after the other
+GROUPS = ("tableFront",)
 
 # Readers: module, name, codec, blank or (for an enum) the answer's definition, constructor that is called, fields
 READERS = [
@@ -160,6 +170,8 @@ READERS = [
      [("expected_revision", "u64"), ("attestation", "boxed_attestation"), ("change", "change"), ("evidence", "evidence")]),
     ("decode", "read_table_head", "tableHead", "blankTableHead", None,
      [("cluster_instance", "array32"), ("manifest_digest", "array32"), ("revision", "u64"), ("configuration_epoch", "epoch")]),
+    ("decode", "read_table_front", "tableFront", "blankTableFront", None,
+     [("magic", "head"), ("head", "table_head"), ("count", "count"), ("slots", "slots")]),
 ]
 
 # Where a name of the specs stands
@@ -169,10 +181,10 @@ HOMES = {
     "format.specs.Num": ["uint", "raw"],
     "format.specs.Through": ["boxed"],
     "layout.specs.Format": [
-        "slotId", "incarnation", "epoch", "count", "choice", "identity", "logId", "optionalLogId", "threeCuts", "times", "version", "head",
+        "slotId", "incarnation", "epoch", "slotCount", "choice", "identity", "logId", "optionalLogId", "threeCuts", "times", "version", "magicAndVersion",
         "spiffeId", "snapshotId", "binding", "member", "members", "configuration", "resultHead", "result", "slotMember", "slot", "slots",
         "claimsRequest", "claimsSlot", "claimsNames", "claimsEnd", "claims", "attestation", "snapshot", "evidence", "change", "replacement",
-        "tableHead", "table"],
+        "tableHead", "tableFront", "table"],
     "layout.specs.FormatLaws": ["count-read"],
     "layout.specs.Reading": ["report", "outcome"],
     "layout.specs.ReadingLaws": ["told", "told-not", "got", "outcome-ok", "outcome-no"],
@@ -188,7 +200,7 @@ DECLARED = {
         "TableHead"],
 }
 PARTS_BLANKS = {"blankBinding", "blankResultHead", "blankSlotMember", "blankClaimsRequest", "blankClaimsSlot", "blankClaimsNames",
-                "blankClaimsEnd", "blankChange", "blankTableHead", "blankVoterSlotMembers", "blankVoterSlotRecords", "absentResult", "absentSnapshot"}
+                "blankClaimsEnd", "blankChange", "blankTableHead", "blankTableFront", "blankVoterSlotMembers", "blankVoterSlotRecords", "absentResult", "absentSnapshot"}
 
 
 def back(k, c="c"):
@@ -234,7 +246,7 @@ class Reader:
         """The codec of field i; last is what the field before it gave."""
         k = self.kind(i)
         c = (ENUM[k] if k in ENUM else STRUCT[k])[1]
-        return f"{c} ({last})" if c == "members" else c
+        return f"{c} ({last})" if c in COUNTED else c
 
     def type_of(self, i):
         k = self.kind(i)
@@ -254,7 +266,7 @@ class Reader:
     def value(self, i, k, more=0):
         f = kebab(self.fields[i][0])
         d = self.dist(i, k) + more
-        if self.kind(i) == "version":
+        if self.kind(i) in MARKS:
             return "tt"
         if self.kind(i) in ENUM:
             return f"{back(d + 1)} .{f}-read .given .0 .0"
@@ -266,7 +278,7 @@ class Reader:
     def count(self, i, k, more=0):
         f = kebab(self.fields[i][0])
         d = self.dist(i, k) + more
-        if self.kind(i) == "version":
+        if self.kind(i) in MARKS:
             return f"{back(d + 1)} .{f} .given .0 .0"
         if self.kind(i) in ENUM:
             return f"{back(d + 1)} .{f}-read .given .0 .1 .0"
@@ -310,7 +322,7 @@ class Reader:
         s = self.bytes(k)
         f = kebab(self.fields[k][0])
         src = self.source(k, ens, s, self.value(k - 1, k) if k else "")
-        if self.kind(k) == "version":
+        if self.kind(k) in MARKS:
             return f"got report {par(src) if k == 0 else src} ({back(1)} .{f} .given .1)"
         if self.kind(k) in ENUM:
             return f"got {ENUM[self.kind(k)][3]} {par(src) if k == 0 else src} ({back(1)} .{f}-read .given .1)"
@@ -325,6 +337,13 @@ class Reader:
         if self.kind(k) in ENUM:
             return f"got {ENUM[self.kind(k)][3]} {par(src) if k == 0 else src} ({e})"
         return f"told-not {self.blank_of(k)} _ {par(src) if k == 0 else src} ({e})"
+
+    def whole(self, way, fields):
+        """The record as its fields were read (ok) or refused (no)."""
+        return fields if self.codec in GROUPS else f"via-{way} _ _ _ _ _ ({fields})"
+
+    def unfolded(self):
+        return "" if self.codec in GROUPS else self.codec
 
     def why(self, k):
         kind = self.kind(k)
@@ -350,9 +369,9 @@ def write(r):
     whys = Names()
     for k in range(1, n):
         # so many places are asked for as were counted
-        if r.kind(k) == "members":
+        if r.kind(k) in COUNTED:
             at = r.bytes(k - 1)
-            defs += f"counted : (c : {r.place(k - 1)}) → count .dec (drop {r.counts(k - 2, r.costs[k - 1])} ({at})) ≡ ok ({r.value(k - 1, k - 1)}) ({r.count(k - 1, k - 1)})\n"
+            defs += f"counted : (c : {r.place(k - 1)}) → slotCount .dec (drop {r.counts(k - 2, r.costs[k - 1])} ({at})) ≡ ok ({r.value(k - 1, k - 1)}) ({r.count(k - 1, k - 1)})\n"
             defs += f"counted c = {r.field_got(k - 1)}\n\n"
             s.fill(kebab(r.call(k)) + "-requires", "count-read _ (counted (c .before))")
     # for an enum's refusal the `else` is one step back, with `refused_x` around it two
@@ -372,8 +391,8 @@ def write(r):
         else:
             ref = "refused-" + kebab(r.name[5:]) + ("" if k == 0 else str(k + 1))
             body = (f"\n    outcome-no _ (c .{ref} .ensures ∙ ap (λ a. outcome {r.blank} (no (numberOf a))) ({back(1)} .{w} .ensures ∙ ap {wd} ({e})))"
-                    f"\n    (via-no _ _ _ _ _ ({t}))")
-        s.fill(need, body, r.codec)
+                    f"\n    ({r.whole('no', t)})")
+        s.fill(need, body, r.unfolded())
         if k + 1 < n:
             call = r.calls[k + 1][1]
             base = re.sub(r"-\d+$", "", call) if r.calls[k + 1][0] != r.calls[k + 1][1] else call
@@ -389,11 +408,11 @@ def write(r):
     if last:
         place = lasts(s, last, r)
         s.fill(last, f"record {{ fits = lt-of-le-of-lt (c{n} .within _ (got-{n} ({back(place)}))) ({back(sum(r.costs) + place)} .good .0 .0) }}")
-    whole = f"via-ok _ _ _ _ _ (got-{n} ({back(m + extra(r))}))"
+    whole = r.whole("ok", f"got-{n} ({back(m + extra(r))})")
     if r.made:
         whole += f" ∙ ap (λ v. ok {made_value(r)} {r.counts(n - 1, m)}) (sym (c .{kebab(r.made)} .ensures))"
     body = f"sym ({whole})" if r.enum else f"outcome-ok _ ({whole})"
-    s.fill(final, body, r.codec)
+    s.fill(final, body, r.unfolded())
     s.write(header(r, defs + s.text(), s.own()), defs)
 
 
@@ -461,6 +480,8 @@ def refill(module, name, uses, defs, bodies):
     for need, answer in bodies.items():
         s.fill(s.last_sum() if need == LAST_SUM else need, *(answer if isinstance(answer, tuple) else (answer,)))
     body = defs + s.text()
+    if crate_of(module) == "layout":
+        uses = [use.replace("Rattle.layout.specs.", "Rattle.layout.specs.") for use in uses]
     lines = [l for l in (pruned(l, body) for l in sorted(uses) + ["use borrow.Author.Needs.{needs}"] + s.own()) if l]
     s.write([f"-- `{crate_of(module)}::{module}::{name}` meets its contract. Written by scripts/readers.py. Assumes nothing."] + lines, defs)
 
@@ -586,16 +607,21 @@ def text(name, codec, blank, size):
     """Sized bytes that are UTF-8, in a place of so many."""
     call, zeros, refused = f"read_{name}", f"zeros{size}", "refused-" + kebab(name)
     told = f"{back(2)} .enum-told .given .1"
+
+    def read(steps):
+        """How many bytes were read and where they begin, and of which bytes, with so many steps to the place behind the answer."""
+        return f"{back(steps + 1)} .size .given .0 .0", f"{back(steps + 1)} .size .given .0 .1 .0", f"{back(steps + 5)} .args .bytes .now"
+
+    def names(steps):
+        n, at, s = read(steps)
+        return f"let n = {n} in\n    let at = {at} in\n    let s = {s} in"
+
+    n, at, s = read(0)
     defs = f"""-- what was read
-is : (c : tie.After-known-told) → sized {size} .dec ({back(5)} .args .bytes .now)
-    ≡ ok ({back(1)} .size .given .0 .0, take ({back(1)} .size .given .0 .0) (drop 2 ({back(5)} .args .bytes .now))) (2 + {back(1)} .size .given .0 .0)
-is c = got (λ r. sizedRead r ({back(5)} .args .bytes .now)) ({back(3)} .read-sized .ensures) ({back(1)} .size .given .1)
+is : (c : tie.After-known-told) → sized {size} .dec ({s}) ≡ ok ({n}, take ({n}) (drop ({at}) ({s}))) ({at} + {n})
+is c = got (λ r. sizedRead r ({s})) ({back(3)} .read-sized .ensures) ({back(1)} .size .given .1)
 
--- the text, as the slice says it
-text : (n : ℕ) (s : List ℕ) → take (2 + n - 2) (drop 2 s) ≡ take n (drop 2 s)
-text n s = let e : 2 + n - 2 ≡ n = omega arith in ap (λ m. take m (drop 2 s)) e
-
-fits : (c : tie.After-known-told) → 2 + {back(1)} .size .given .0 .0 ≤ length ({back(5)} .args .bytes .now)
+fits : (c : tie.After-known-told) → {at} + {n} ≤ length ({s})
 fits c = sized {size} .within _ (is c)
 
 """
@@ -606,42 +632,40 @@ fits c = sized {size} .within _ (is c)
         "use Rattle.format.specs.Codec.{checked-ok, checked-no, checked-bad, via-ok, via-no}", "use Rattle.format.specs.Copy.{length-zeros}",
         "use Rattle.format.specs.Fill.{put-zeros}", "use Rattle.format.specs.Num.{pick}", "use Rattle.format.specs.Put.{put}", NUMBER,
         "use Rattle.identity.specs.Text.{isUtf8}", f"use Rattle.records.specs.Blank.{{{blank}}}", "use Rattle.records.specs.ValidationLaws.{failed, held}",
-        f"use Rattle.layout.specs.Format.{{require, sized, string, {codec}}}", "use Rattle.layout.specs.FormatLaws.{sized-small}",
+        f"use Rattle.layout.specs.Format.{{require, sized, string, {codec}}}", "use Rattle.layout.specs.FormatLaws.{sized-small, part-is}",
         "use Rattle.layout.specs.Reading.{outcome, sizedRead, whySized}", LAWS,
     ], defs, {
         "returns": (f"""
     let s = {back(6)} .args .bytes .now in
     outcome-no _ (c .{refused} .ensures ∙ ap (λ a. outcome {blank} (no (numberOf a))) ({back(1)} .why-sized .ensures ∙ ap whySized ({told})))
     (via-no _ _ _ _ _ (checked-no _ _ _ (got (λ r. sizedRead r s) ({back(4)} .read-sized .ensures) ({told}))))""", opened),
-        "add-text": f"record {{ fits = lt-of-le-of-lt (fits c) ({back(5)} .good .0 .0) }}",
+        "add-end": f"record {{ fits = lt-of-le-of-lt (fits c) ({back(5)} .good .0 .0) }}",
+        "sub-text": "omega arith",
+        "part-text-start": "omega arith",
         "part-text-end": "fits c",
         "returns-2": (f"""
-    let s = {back(9)} .args .bytes .now in
-    let n = {back(5)} .size .given .0 .0 in
+    {names(4)}
     outcome-no _ (c .{refused}2 .ensures)
-    (via-no _ _ _ _ _ (checked-bad _ _ _ (is ({back(4)})) (ap require (ap isUtf8 (sym (text n s)) ∙ failed ({back(2)} .is-utf8 .ensures) ({back(1)} .if1 .taken)))))""", opened + " pick"),
+    (via-no _ _ _ _ _ (checked-bad _ _ _ (is ({back(4)})) (ap require (ap isUtf8 (sym (part-is n at s)) ∙ failed ({back(2)} .is-utf8 .ensures) ({back(1)} .if1 .taken)))))""", opened + " pick"),
         "put-bytes-requires": f"""
-    let s = {back(10)} .args .bytes .now in
-    let n = {back(6)} .size .given .0 .0 in
+    {names(5)}
     let z : length ({back(1)} .{zeros} .result) ≡ {size} = ap length ({back(1)} .{zeros} .ensures) ∙ length-zeros {size} in
-    omega (arith, length-take (2 + n - 2) (drop 2 s), z, sized-small {size} s (is ({back(5)})))""",
-        LAST_SUM: f"record {{ fits = lt-of-le-of-lt (fits ({back(7)})) ({back(12)} .good .0 .0) }}",
+    omega (arith, length-take (at + n - at) (drop at s), z, sized-small {size} s (is ({back(5)})))""",
         "returns-3": (f"""
-    let s = {back(12)} .args .bytes .now in
-    let n = {back(8)} .size .given .0 .0 in
-    let l = take n (drop 2 s) in
-    let h : length l ≡ n = length-take-le n (drop 2 s) (omega (arith, length-drop 2 s, fits ({back(7)}))) in
-    let p = {back(1)} .put-bytes .ensures .bytes ∙ (λ i. put (text n s i) 0 ({back(3)} .{zeros} .ensures i)) ∙ put-zeros l {size} ∙ ap (λ m. l ++ replicate ({size} - m) 0) h in
+    {names(7)}
+    let l = take n (drop at s) in
+    let h : length l ≡ n = length-take-le n (drop at s) (omega (arith, length-drop at s, fits ({back(7)}))) in
+    let p = {back(1)} .put-bytes .ensures .bytes ∙ (λ i. put (part-is n at s i) 0 ({back(3)} .{zeros} .ensures i)) ∙ put-zeros l {size} ∙ ap (λ m. l ++ replicate ({size} - m) 0) h in
     outcome-ok {blank}
-    (via-ok _ _ _ _ _ (checked-ok _ _ _ (is ({back(7)})) (ap require (ap isUtf8 (sym (text n s)) ∙ held ({back(5)} .is-utf8 .ensures) ({back(4)} .if1 .left))))
-        ∙ ap (λ b. ok (record {{ len = n; bytes = b }}) (2 + n)) (sym p))""", opened + " pick"),
+    (via-ok _ _ _ _ _ (checked-ok _ _ _ (is ({back(7)})) (ap require (ap isUtf8 (sym (part-is n at s)) ∙ held ({back(5)} .is-utf8 .ensures) ({back(4)} .if1 .left))))
+        ∙ ap (λ b. ok (record {{ len = n; bytes = b }}) (at + n)) (sym p))""", opened + " pick"),
     })
 
 
 def array(size):
     """So many bytes as they stand."""
     made = f"zeros{size}"
-    refill("reader", f"read_array{size}", [
+    refill("get", f"read_array{size}", [
         PATH, ARITH, "use lib.ListN.{length, take, length-take}", "use lib.Seq.{length-take-le}", RESULTS,
         "use Rattle.format.specs.Copy.{zeros, length-zeros}", "use Rattle.format.specs.Fill.{put-whole}", "use Rattle.format.specs.Num.{raw-got, raw-not}",
         "use Rattle.format.specs.Put.{put}", LAWS,
@@ -664,15 +688,19 @@ def answers():
     for name in sorted(os.listdir(proofs_of("reading"))):
         if name.startswith("why"):
             said = "whyOf" if name == "why" else "why" + "".join(w.capitalize() for w in name[4:].split("_"))
             refill("reading", name, [PATH, f"use Rattle.layout.specs.Reading.{{{said}}}"], "", {"returns-2": f"sym (ap {said} (c .before .answer .given .1))"})
         elif name.startswith("refused"):
-            made = next((need[:-len("-requires")] for need in Skeleton("reading", name).needs if need.endswith("-requires")), None)
+            made = [need[:-len("-requires")] for need in Skeleton("reading", name).needs if need.endswith("-requires")]
+            start = back(len(made))
             uses = [PATH, "use mathlib.Core.Bool.{false}", RESULTS, NUMBER, "use Rattle.format.specs.Copy.{zeros}", "use Rattle.layout.specs.Reading.{outcome}"]
-            if made is None:
+            if not made:
                 refill("reading", name, uses, "", {"returns": ("refl", "outcome zeros")})
+            elif name == "refused_table_front":
+                value = f"(((tt, {back(1)} .{made[0]} .ensures i), 0), c .{made[1]} .ensures i)"
+                refill("reading", name, uses, "", {"returns": (f"λ i. (no (numberOf ({start} .args .answer)), {value})", "outcome")})
             else:
                 value = "(false, v)" if "optional" in name else "v"
-                refill("reading", name, uses, "", {"returns": (f"ap (λ v. (no (numberOf (c .before .args .answer)), {value})) (c .{made} .ensures)", "outcome")})
+                refill("reading", name, uses, "", {"returns": (f"ap (λ v. (no (numberOf ({start} .args .answer)), {value})) (c .{made[0]} .ensures)", "outcome")})
 
 
 TEMPLATES = {
