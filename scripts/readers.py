@@ -1,28 +1,84 @@
 #!/usr/bin/env python3
-"""Writes the regular proofs of the readers (crates/reader/proofs/{reader,decode} and crates/layout/proofs/reading).
+"""Writes the regular proofs of the readers (crates/reader/proofs/{reader,decode} and crates/layout/proofs/{get,reading}).
 
 Records are read field by field: after each field a lemma says what was read so far and up to where; every need is then one line. Optional parts, the places of
-slots and members, text, and arrays of bytes have a template each, and so have the refusals that are handed on. The needs and their order are those
-that `rt dev reader` prints for a function that has no proof file: the script fills such a file, or one that it filled before.
-Run it from the repository's root after a change of a reader or of the format, and then `rt fmt`: scripts/readers.py [NAME..]
+slots and members, text, and arrays of bytes have a template each, and so have the refusals that are passed on. The needs and their order are those
+that `rt dev reader` prints for a function that has no proof file: the script takes them, and nothing else, from such a file (scripts/skeletons.py) or from
+one that it filled before, and writes all the rest. A file or a need that is not there ends it.
+Run it after a change of a reader or of the format: scripts/readers.py [NAME..]
 """
 import os
 import re
+import subprocess
 import sys
 
 ROOT = os.path.dirname(os.path.dirname(os.path.abspath(__file__)))
+
+
 def proofs_of(module):
-    """Where the proofs of a module are: what a reader answers stands in layout."""
+    """Where the proofs of a module are: the readers of plain bytes, and what a reader answers, stand in layout."""
     return os.path.join(ROOT, "crates", crate_of(module), "proofs", module)
 
 
-def first_need(text):
-    """Where the answers to the needs begin, behind the definitions."""
-    return re.search(r"^\S+ : tie\.Need-", text, re.M).start()
-
-
 def crate_of(module):
-    return "layout" if module == "reading" else "reader"
+    return "layout" if module in ("get", "reading") else "reader"
+
+
+class Skeleton:
+    """The needs of a function, in order, as the checker prints them. One that is not answered is left to `search needs`."""
+
+    def __init__(self, module, name):
+        self.module, self.name = module, name
+        self.path = os.path.join(proofs_of(module), name, "Proof.antt")
+        self.shown = os.path.relpath(self.path, ROOT)
+        if not os.path.exists(self.path):
+            sys.exit(f"readers.py: no skeleton of {name}: {self.shown} is not there. scripts/skeletons.py {crate_of(module)} writes it.")
+        with open(self.path) as file:
+            text = file.read()
+        found = re.findall(r"^(\S+) : (tie\.Need-\S+.*)\n(?:unfolding .*\n)?\1 c( κs)? =", text, re.M)
+        if not found:
+            sys.exit(f"readers.py: no needs in {self.shown}. Remove it, and scripts/skeletons.py {crate_of(module)} writes it again.")
+        self.needs = {need: (kind, more) for need, kind, more in found}
+        self.answers = {}
+
+    def fill(self, need, body, unfolding=""):
+        """The answer to a need, and what is unfolded for it."""
+        if need not in self.needs:
+            sys.exit(f"readers.py: {self.shown} has no need {need}. Remove it, and scripts/skeletons.py {crate_of(self.module)} writes the needs of today.")
+        self.answers[need] = body, f"unfolding {unfolding}\n" if unfolding else ""
+
+    def last_sum(self):
+        """The need of the last sum, whose name tells a temporary."""
+        return next((need for need in self.needs if re.fullmatch(r"add-t\d+", need)), None)
+
+    def before(self, one, other):
+        """Whether one need comes before the other."""
+        order = list(self.needs)
+        return order.index(one) < order.index(other)
+
+    def text(self):
+        """The needs with their answers, and the proof of them."""
+        out = ""
+        for need, (kind, more) in self.needs.items():
+            body, unfolding = self.answers.get(need, ("search needs", ""))
+            out += f"{need} : {kind}\n{unfolding}{need} c{more} = {body}\n\n"
+        loop = ["Inv-loop", "μ-loop"] if any("Inv-loop" in kind for kind, _ in self.needs.values()) else []
+        spec, parts = kebab(self.name) + "-spec", loop + list(self.needs)
+        line = f"{spec} = tie.close (tie.spec {' '.join(parts)})"
+        if len(line) > 99:
+            line = f"{spec} =\n    tie.close\n    (tie.spec\n    " + "\n    ".join(parts) + ")"
+        return out + f"pub {spec} : {{M : Type 1}} → statement M\n{line}\n"
+
+    def own(self):
+        """The modules of the function's own."""
+        at = f"use Rattle.{crate_of(self.module)}.proofs.{self.module}.{self.name}"
+        return [at + ".Statement.{statement}", at + ".Tie as tie"]
+
+    def write(self, lines, defs):
+        with open(self.path, "w") as file:
+            file.write("\n".join(lines) + "\n\n" + defs + self.text())
+        print("wrote", self.name)
+
 
 # What a field is read by: call, codec, type of the value, the definition of its answer (None: it stands beside a value), the refusal's
 ENUM = {
@@ -30,7 +86,7 @@ ENUM = {
     "epoch": ("read_epoch", "epoch", "ℕ", "u64Read", "U64"),
     "incarnation": ("read_incarnation", "incarnation", "ℕ", "u64Read", "U64"),
     "slot_id": ("read_slot_id", "slotId", "ℕ", "u16Read", "U16"),
-    "count": ("read_count", "count", "ℕ", "u8Read", "U8"),
+    "count": ("read_count", "slotCount", "ℕ", "u8Read", "U8"),
     "kind": ("read_choice", "choice 0 1", "ℕ", "u8Read", "U8"),
     "phase": ("read_choice", "choice 0 2", "ℕ", "u8Read", "U8"),
     "reason": ("read_choice", "choice 1 2", "ℕ", "u8Read", "U8"),
@@ -41,7 +97,10 @@ ENUM = {
     "three_cuts": ("read_three_cuts", "threeCuts", "ThreeCuts", "threeCutsRead", "ThreeCuts"),
     "times": ("read_times", "times", "Times", "timesRead", "Times"),
     "version": ("read_version", "version", "Unit {0}", "report", None),
+    "head": ("read_head", "magicAndVersion", "Unit {0}", "report", None),
 }
+# What is read and leaves no value
+MARKS = ("version", "head")
 STRUCT = {
     "array16": ("read_array16", "raw 16", "List ℕ", "(zeros 16)"),
     "array32": ("read_array32", "raw 32", "List ℕ", "(zeros 32)"),
@@ -51,6 +110,8 @@ STRUCT = {
     "binding": ("read_binding", "binding", "Binding", "blankBinding"),
     "members": ("read_members", "members", "List VoterSlotMember", "blankVoterSlotMembers"),
     "configuration": ("read_configuration", "configuration", "VoterConfiguration", "blankVoterConfiguration"),
+    "slots": ("read_slots", "slots", "List VoterSlotRecord", "blankVoterSlotRecords"),
+    "table_head": ("read_table_head", "tableHead", "TableHead", "blankTableHead"),
     "result_head": ("read_result_head", "resultHead", "ResultHead", "blankResultHead"),
     "optional_result": ("read_optional_result", "opt result blankVoterReplacementResult", "Bool × VoterReplacementResult", "absentResult"),
     "slot_member": ("read_slot_member", "slotMember", "SlotMember", "blankSlotMember"),
@@ -63,6 +124,11 @@ STRUCT = {
     "change": ("read_change", "change", "Change", "blankChange"),
     "evidence": ("read_evidence", "evidence", "VoterReplacementEvidence", "blankVoterReplacementEvidence"),
 }
+
+# So many places as were counted before them
+COUNTED = ("members", "slots")
+# Groups whose codec is no record of its own, but the fields one after the other
+GROUPS = ("tableFront",)
 
 # Readers: module, name, codec, blank or (for an enum) the answer's definition, constructor that is called, fields
 READERS = [
@@ -104,6 +170,8 @@ READERS = [
      [("expected_revision", "u64"), ("attestation", "boxed_attestation"), ("change", "change"), ("evidence", "evidence")]),
     ("decode", "read_table_head", "tableHead", "blankTableHead", None,
      [("cluster_instance", "array32"), ("manifest_digest", "array32"), ("revision", "u64"), ("configuration_epoch", "epoch")]),
+    ("decode", "read_table_front", "tableFront", "blankTableFront", None,
+     [("magic", "head"), ("head", "table_head"), ("count", "count"), ("slots", "slots")]),
 ]
 
 # Where a name of the specs stands
@@ -113,10 +181,10 @@ HOMES = {
     "format.specs.Num": ["uint", "raw"],
     "format.specs.Through": ["boxed"],
     "layout.specs.Format": [
-        "slotId", "incarnation", "epoch", "count", "choice", "identity", "logId", "optionalLogId", "threeCuts", "times", "version", "head",
+        "slotId", "incarnation", "epoch", "slotCount", "choice", "identity", "logId", "optionalLogId", "threeCuts", "times", "version", "magicAndVersion",
         "spiffeId", "snapshotId", "binding", "member", "members", "configuration", "resultHead", "result", "slotMember", "slot", "slots",
         "claimsRequest", "claimsSlot", "claimsNames", "claimsEnd", "claims", "attestation", "snapshot", "evidence", "change", "replacement",
-        "tableHead", "table"],
+        "tableHead", "tableFront", "table"],
     "layout.specs.FormatLaws": ["count-read"],
     "layout.specs.Reading": ["report", "outcome"],
     "layout.specs.ReadingLaws": ["told", "told-not", "got", "outcome-ok", "outcome-no"],
@@ -132,7 +200,7 @@ DECLARED = {
         "TableHead"],
 }
 PARTS_BLANKS = {"blankBinding", "blankResultHead", "blankSlotMember", "blankClaimsRequest", "blankClaimsSlot", "blankClaimsNames",
-                "blankClaimsEnd", "blankChange", "blankTableHead", "blankVoterSlotMembers", "blankVoterSlotRecords", "absentResult", "absentSnapshot"}
+                "blankClaimsEnd", "blankChange", "blankTableHead", "blankTableFront", "blankVoterSlotMembers", "blankVoterSlotRecords", "absentResult", "absentSnapshot"}
 
 
 def back(k, c="c"):
@@ -178,7 +246,7 @@ class Reader:
         """The codec of field i; last is what the field before it gave."""
         k = self.kind(i)
         c = (ENUM[k] if k in ENUM else STRUCT[k])[1]
-        return f"{c} ({last})" if c == "members" else c
+        return f"{c} ({last})" if c in COUNTED else c
 
     def type_of(self, i):
         k = self.kind(i)
@@ -198,7 +266,7 @@ class Reader:
     def value(self, i, k, more=0):
         f = kebab(self.fields[i][0])
         d = self.dist(i, k) + more
-        if self.kind(i) == "version":
+        if self.kind(i) in MARKS:
             return "tt"
         if self.kind(i) in ENUM:
             return f"{back(d + 1)} .{f}-read .given .0 .0"
@@ -210,7 +278,7 @@ class Reader:
     def count(self, i, k, more=0):
         f = kebab(self.fields[i][0])
         d = self.dist(i, k) + more
-        if self.kind(i) == "version":
+        if self.kind(i) in MARKS:
             return f"{back(d + 1)} .{f} .given .0 .0"
         if self.kind(i) in ENUM:
             return f"{back(d + 1)} .{f}-read .given .0 .1 .0"
@@ -254,7 +322,7 @@ class Reader:
         s = self.bytes(k)
         f = kebab(self.fields[k][0])
         src = self.source(k, ens, s, self.value(k - 1, k) if k else "")
-        if self.kind(k) == "version":
+        if self.kind(k) in MARKS:
             return f"got report {par(src) if k == 0 else src} ({back(1)} .{f} .given .1)"
         if self.kind(k) in ENUM:
             return f"got {ENUM[self.kind(k)][3]} {par(src) if k == 0 else src} ({back(1)} .{f}-read .given .1)"
@@ -270,6 +338,13 @@ class Reader:
             return f"got {ENUM[self.kind(k)][3]} {par(src) if k == 0 else src} ({e})"
         return f"told-not {self.blank_of(k)} _ {par(src) if k == 0 else src} ({e})"
 
+    def whole(self, way, fields):
+        """The record as its fields were read (ok) or refused (no)."""
+        return fields if self.codec in GROUPS else f"via-{way} _ _ _ _ _ ({fields})"
+
+    def unfolded(self):
+        return "" if self.codec in GROUPS else self.codec
+
     def why(self, k):
         kind = self.kind(k)
         if kind in ENUM and ENUM[kind][4]:
@@ -278,19 +353,8 @@ class Reader:
         return "why", "whyOf"
 
 
-def fill(text, need, body, unfolding=""):
-    """The text with the need's body (which may stand there as a hole)."""
-    m = re.search(rf"^{re.escape(need)} : (tie\.Need-\S+.*)\n(?:unfolding .*\n)?{re.escape(need)} c( κs)? =(?:[^\n]*\n)(?:    [^\n]*\n)*", text, re.M)
-    assert m, need
-    u = f"unfolding {unfolding}\n" if unfolding else ""
-    return text[:m.start()] + f"{need} : {m.group(1)}\n{u}{need} c{m.group(2) or ''} = {body}\n" + text[m.end():]
-
-
 def write(r):
-    path = os.path.join(proofs_of(r.module), r.name, "Proof.antt")
-    text = open(path).read()
-    skeleton = text[first_need(text):]
-    old = [l for l in text[:first_need(text)].split("\n") if "·proofs.proofs" in l or ".proofs." in l and l.startswith("use ")]
+    s = Skeleton(r.module, r.name)
     n = r.n
     defs = "-- after each field: what was read so far, and up to where\n"
     for k in range(n):
@@ -303,14 +367,13 @@ def write(r):
         else:
             defs += f"got-{k + 1} c = dep-ok _ _ _ (got-{k} ({back(r.costs[k])})) ({r.field_got(k)})\n\n"
     whys = Names()
-    s = skeleton
     for k in range(1, n):
         # so many places are asked for as were counted
-        if r.kind(k) == "members":
+        if r.kind(k) in COUNTED:
             at = r.bytes(k - 1)
-            defs += f"counted : (c : {r.place(k - 1)}) → count .dec (drop {r.counts(k - 2, r.costs[k - 1])} ({at})) ≡ ok ({r.value(k - 1, k - 1)}) ({r.count(k - 1, k - 1)})\n"
+            defs += f"counted : (c : {r.place(k - 1)}) → slotCount .dec (drop {r.counts(k - 2, r.costs[k - 1])} ({at})) ≡ ok ({r.value(k - 1, k - 1)}) ({r.count(k - 1, k - 1)})\n"
             defs += f"counted c = {r.field_got(k - 1)}\n\n"
-            s = fill(s, kebab(r.call(k)) + "-requires", "count-read _ (counted (c .before))")
+            s.fill(kebab(r.call(k)) + "-requires", "count-read _ (counted (c .before))")
     # for an enum's refusal the `else` is one step back, with `refused_x` around it two
     steps = 1 if r.enum else 2
     for k in range(n):
@@ -328,29 +391,29 @@ def write(r):
         else:
             ref = "refused-" + kebab(r.name[5:]) + ("" if k == 0 else str(k + 1))
             body = (f"\n    outcome-no _ (c .{ref} .ensures ∙ ap (λ a. outcome {r.blank} (no (numberOf a))) ({back(1)} .{w} .ensures ∙ ap {wd} ({e})))"
-                    f"\n    (via-no _ _ _ _ _ ({t}))")
-        s = fill(s, need, body, r.codec)
+                    f"\n    ({r.whole('no', t)})")
+        s.fill(need, body, r.unfolded())
         if k + 1 < n:
             call = r.calls[k + 1][1]
             base = re.sub(r"-\d+$", "", call) if r.calls[k + 1][0] != r.calls[k + 1][1] else call
             p, q = part_names(base, r, k + 1)
-            s = fill(s, p, f"c{k + 1} .within _ (got-{k + 1} c)")
-            s = fill(s, q, f"c{k + 1} .within _ (got-{k + 1} c)")
+            s.fill(p, f"c{k + 1} .within _ (got-{k + 1} c)")
+            s.fill(q, f"c{k + 1} .within _ (got-{k + 1} c)")
         if 0 < k < n - 1:
             need = "add-at" if k == 1 else f"add-at-{k}"
-            s = fill(s, need, f"record {{ fits = lt-of-le-of-lt (c{k + 1} .within _ (got-{k + 1} c)) ({back(sum(r.costs[:k + 1]))} .good .0 .0) }}")
-    last = re.search(r"^(add-t\d+) :", s, re.M)
+            s.fill(need, f"record {{ fits = lt-of-le-of-lt (c{k + 1} .within _ (got-{k + 1} c)) ({back(sum(r.costs[:k + 1]))} .good .0 .0) }}")
+    last = s.last_sum()
     final = "returns-" + str(n + 1)
     m = 1 if r.made else 0
     if last:
-        place = lasts(s, last.group(1), r)
-        s = fill(s, last.group(1), f"record {{ fits = lt-of-le-of-lt (c{n} .within _ (got-{n} ({back(place)}))) ({back(sum(r.costs) + place)} .good .0 .0) }}")
-    whole = f"via-ok _ _ _ _ _ (got-{n} ({back(m + extra(r))}))"
+        place = lasts(s, last, r)
+        s.fill(last, f"record {{ fits = lt-of-le-of-lt (c{n} .within _ (got-{n} ({back(place)}))) ({back(sum(r.costs) + place)} .good .0 .0) }}")
+    whole = r.whole("ok", f"got-{n} ({back(m + extra(r))})")
     if r.made:
         whole += f" ∙ ap (λ v. ok {made_value(r)} {r.counts(n - 1, m)}) (sym (c .{kebab(r.made)} .ensures))"
     body = f"sym ({whole})" if r.enum else f"outcome-ok _ ({whole})"
-    s = fill(s, final, body, r.codec)
-    open(path, "w").write(header(r, defs + s, old) + defs + s)
+    s.fill(final, body, r.unfolded())
+    s.write(header(r, defs + s.text(), s.own()), defs)
 
 
 def part_names(base, r, k):
@@ -362,7 +425,7 @@ def part_names(base, r, k):
 
 def lasts(s, add, r):
     """Whether the last sum stands behind the constructor's call."""
-    return extra(r) + (1 if r.made and s.index(f"\n{kebab(r.made)}-requires :") < s.index(f"\n{add} :") else 0)
+    return extra(r) + (1 if r.made and s.before(f"{kebab(r.made)}-requires", add) else 0)
 
 
 def extra(r):
@@ -387,7 +450,7 @@ def pruned(line, body):
     return line if m is None or f" {m.group(1)}." in body else None
 
 
-def header(r, body, old):
+def header(r, body, own):
     # without what is projected: `.result` is no format
     words = set(re.findall(r"[\w«»·'-]+", re.sub(r" \.[\w«»-]+", "", body)))
     lines = [f"-- `{crate_of(r.module)}::{r.module}::{r.name}` meets its contract: field by field. Written by scripts/readers.py. Assumes nothing.",
@@ -408,21 +471,19 @@ def header(r, body, old):
             lines.append(f"use Rattle.{home}.{{{', '.join(dict.fromkeys(hit))}}}")
     for home, names in DECLARED.items():
         lines += [f"use Rattle.{home}.{x}.{{{x}}}" for x in names if x in words]
-    return "\n".join(lines[:1] + [l for l in (pruned(l, body) for l in lines[1:] + old) if l]) + "\n\n"
+    return lines[:1] + [l for l in (pruned(l, body) for l in lines[1:] + own) if l]
 
 
 def refill(module, name, uses, defs, bodies):
-    """Writes a file of these imports, definitions and answers to needs; a need that is not named keeps its answer."""
-    path = os.path.join(proofs_of(module), name, "Proof.antt")
-    text = open(path).read()
-    old = [l for l in text.split("\n") if l.startswith("use ") and "·proofs.proofs" in l or l.startswith("use ") and ".proofs." in l]
-    s = text[first_need(text):]
+    """Writes a file of these imports, definitions and answers to needs."""
+    s = Skeleton(module, name)
     for need, answer in bodies.items():
-        body, unfolding = answer if isinstance(answer, tuple) else (answer, "")
-        s = fill(s, need, body, unfolding)
-    lines = [l for l in (pruned(l, defs + s) for l in sorted(uses) + ["use borrow.Author.Needs.{needs}"] + old) if l]
-    head = f"-- `{crate_of(module)}::{module}::{name}` meets its contract. Written by scripts/readers.py. Assumes nothing."
-    open(path, "w").write("\n".join([head] + lines) + "\n\n" + defs + s)
+        s.fill(s.last_sum() if need == LAST_SUM else need, *(answer if isinstance(answer, tuple) else (answer,)))
+    body = defs + s.text()
+    if crate_of(module) == "layout":
+        uses = [use.replace("Rattle.layout.specs.", "Rattle.layout.specs.") for use in uses]
+    lines = [l for l in (pruned(l, body) for l in sorted(uses) + ["use borrow.Author.Needs.{needs}"] + s.own()) if l]
+    s.write([f"-- `{crate_of(module)}::{module}::{name}` meets its contract. Written by scripts/readers.py. Assumes nothing."] + lines, defs)
 
 
 PATH = "use mathlib.Core.Path.{_≡_, refl, sym, ap, _∙_, subst}"
@@ -431,12 +492,7 @@ NUMBER = "use Rattle.identity.specs.Answer.{numberOf}"
 LAWS = "use Rattle.layout.specs.ReadingLaws.{got, told, told-not, outcome-ok, outcome-no}"
 ARITH = "use native.Mathlib.Omega.{arith}"
 FITS = "use native.Mathlib.Nat.{lt-of-le-of-lt}"
-
-
-def last_sum(module, name):
-    """The need of the last sum, whose name tells a temporary."""
-    text = open(os.path.join(proofs_of(module), name, "Proof.antt")).read()
-    return re.search(r"^(add-t\d+) :", text, re.M).group(1)
+LAST_SUM = "the last sum"
 
 
 def optional(name, codec, absent, blank, call, make):
@@ -480,7 +536,7 @@ both c = opt-some _ _ _ (flagged-yes ({back(6)})) (told {blank} _ {src} ({back(2
         f"sub-{call}": f"flag .within _ (flagged ({back(2)}))",
         f"part-{call}-start": f"flag .within _ (flagged ({back(2)}))",
         "returns-3": f"\n    {passed('2', ('why', 'whyOf'), told2)}\n    (opt-bad _ _ _ (flagged-yes ({back(6)})) (told-not {blank} _ {src} ({told2})))",
-        last_sum("decode", f"read_optional_{name}"): f"record {{ fits = lt-of-le-of-lt (({whole}) .within _ (both c)) ({back(12)} .good .0 .0) }}",
+        LAST_SUM: f"record {{ fits = lt-of-le-of-lt (({whole}) .within _ (both c)) ({back(12)} .good .0 .0) }}",
         "returns-4": f"\n    outcome-ok {absent}\n    (both c ∙ ap (λ b. ok (b, {back(4)} .{call} .result .value) {sum_}) (sym (yes-is ({back(6)}))))",
     })
 
@@ -551,16 +607,21 @@ def text(name, codec, blank, size):
     """Sized bytes that are UTF-8, in a place of so many."""
     call, zeros, refused = f"read_{name}", f"zeros{size}", "refused-" + kebab(name)
     told = f"{back(2)} .enum-told .given .1"
+
+    def read(steps):
+        """How many bytes were read and where they begin, and of which bytes, with so many steps to the place behind the answer."""
+        return f"{back(steps + 1)} .size .given .0 .0", f"{back(steps + 1)} .size .given .0 .1 .0", f"{back(steps + 5)} .args .bytes .now"
+
+    def names(steps):
+        n, at, s = read(steps)
+        return f"let n = {n} in\n    let at = {at} in\n    let s = {s} in"
+
+    n, at, s = read(0)
     defs = f"""-- what was read
-is : (c : tie.After-known-told) → sized {size} .dec ({back(5)} .args .bytes .now)
-    ≡ ok ({back(1)} .size .given .0 .0, take ({back(1)} .size .given .0 .0) (drop 2 ({back(5)} .args .bytes .now))) (2 + {back(1)} .size .given .0 .0)
-is c = got (λ r. sizedRead r ({back(5)} .args .bytes .now)) ({back(3)} .read-sized .ensures) ({back(1)} .size .given .1)
+is : (c : tie.After-known-told) → sized {size} .dec ({s}) ≡ ok ({n}, take ({n}) (drop ({at}) ({s}))) ({at} + {n})
+is c = got (λ r. sizedRead r ({s})) ({back(3)} .read-sized .ensures) ({back(1)} .size .given .1)
 
--- the text, as the slice says it
-text : (n : ℕ) (s : List ℕ) → take (2 + n - 2) (drop 2 s) ≡ take n (drop 2 s)
-text n s = let e : 2 + n - 2 ≡ n = omega arith in ap (λ m. take m (drop 2 s)) e
-
-fits : (c : tie.After-known-told) → 2 + {back(1)} .size .given .0 .0 ≤ length ({back(5)} .args .bytes .now)
+fits : (c : tie.After-known-told) → {at} + {n} ≤ length ({s})
 fits c = sized {size} .within _ (is c)
 
 """
@@ -571,42 +632,40 @@ fits c = sized {size} .within _ (is c)
         "use Rattle.format.specs.Codec.{checked-ok, checked-no, checked-bad, via-ok, via-no}", "use Rattle.format.specs.Copy.{length-zeros}",
         "use Rattle.format.specs.Fill.{put-zeros}", "use Rattle.format.specs.Num.{pick}", "use Rattle.format.specs.Put.{put}", NUMBER,
         "use Rattle.identity.specs.Text.{isUtf8}", f"use Rattle.records.specs.Blank.{{{blank}}}", "use Rattle.records.specs.ValidationLaws.{failed, held}",
-        f"use Rattle.layout.specs.Format.{{require, sized, string, {codec}}}", "use Rattle.layout.specs.FormatLaws.{sized-small}",
+        f"use Rattle.layout.specs.Format.{{require, sized, string, {codec}}}", "use Rattle.layout.specs.FormatLaws.{sized-small, part-is}",
         "use Rattle.layout.specs.Reading.{outcome, sizedRead, whySized}", LAWS,
     ], defs, {
         "returns": (f"""
     let s = {back(6)} .args .bytes .now in
     outcome-no _ (c .{refused} .ensures ∙ ap (λ a. outcome {blank} (no (numberOf a))) ({back(1)} .why-sized .ensures ∙ ap whySized ({told})))
     (via-no _ _ _ _ _ (checked-no _ _ _ (got (λ r. sizedRead r s) ({back(4)} .read-sized .ensures) ({told}))))""", opened),
-        "add-text": f"record {{ fits = lt-of-le-of-lt (fits c) ({back(5)} .good .0 .0) }}",
+        "add-end": f"record {{ fits = lt-of-le-of-lt (fits c) ({back(5)} .good .0 .0) }}",
+        "sub-text": "omega arith",
+        "part-text-start": "omega arith",
         "part-text-end": "fits c",
         "returns-2": (f"""
-    let s = {back(9)} .args .bytes .now in
-    let n = {back(5)} .size .given .0 .0 in
+    {names(4)}
     outcome-no _ (c .{refused}2 .ensures)
-    (via-no _ _ _ _ _ (checked-bad _ _ _ (is ({back(4)})) (ap require (ap isUtf8 (sym (text n s)) ∙ failed ({back(2)} .is-utf8 .ensures) ({back(1)} .if1 .taken)))))""", opened + " pick"),
+    (via-no _ _ _ _ _ (checked-bad _ _ _ (is ({back(4)})) (ap require (ap isUtf8 (sym (part-is n at s)) ∙ failed ({back(2)} .is-utf8 .ensures) ({back(1)} .if1 .taken)))))""", opened + " pick"),
         "put-bytes-requires": f"""
-    let s = {back(10)} .args .bytes .now in
-    let n = {back(6)} .size .given .0 .0 in
+    {names(5)}
     let z : length ({back(1)} .{zeros} .result) ≡ {size} = ap length ({back(1)} .{zeros} .ensures) ∙ length-zeros {size} in
-    omega (arith, length-take (2 + n - 2) (drop 2 s), z, sized-small {size} s (is ({back(5)})))""",
-        last_sum("reader", call): f"record {{ fits = lt-of-le-of-lt (fits ({back(7)})) ({back(12)} .good .0 .0) }}",
+    omega (arith, length-take (at + n - at) (drop at s), z, sized-small {size} s (is ({back(5)})))""",
         "returns-3": (f"""
-    let s = {back(12)} .args .bytes .now in
-    let n = {back(8)} .size .given .0 .0 in
-    let l = take n (drop 2 s) in
-    let h : length l ≡ n = length-take-le n (drop 2 s) (omega (arith, length-drop 2 s, fits ({back(7)}))) in
-    let p = {back(1)} .put-bytes .ensures .bytes ∙ (λ i. put (text n s i) 0 ({back(3)} .{zeros} .ensures i)) ∙ put-zeros l {size} ∙ ap (λ m. l ++ replicate ({size} - m) 0) h in
+    {names(7)}
+    let l = take n (drop at s) in
+    let h : length l ≡ n = length-take-le n (drop at s) (omega (arith, length-drop at s, fits ({back(7)}))) in
+    let p = {back(1)} .put-bytes .ensures .bytes ∙ (λ i. put (part-is n at s i) 0 ({back(3)} .{zeros} .ensures i)) ∙ put-zeros l {size} ∙ ap (λ m. l ++ replicate ({size} - m) 0) h in
     outcome-ok {blank}
-    (via-ok _ _ _ _ _ (checked-ok _ _ _ (is ({back(7)})) (ap require (ap isUtf8 (sym (text n s)) ∙ held ({back(5)} .is-utf8 .ensures) ({back(4)} .if1 .left))))
-        ∙ ap (λ b. ok (record {{ len = n; bytes = b }}) (2 + n)) (sym p))""", opened + " pick"),
+    (via-ok _ _ _ _ _ (checked-ok _ _ _ (is ({back(7)})) (ap require (ap isUtf8 (sym (part-is n at s)) ∙ held ({back(5)} .is-utf8 .ensures) ({back(4)} .if1 .left))))
+        ∙ ap (λ b. ok (record {{ len = n; bytes = b }}) (at + n)) (sym p))""", opened + " pick"),
     })
 
 
 def array(size):
     """So many bytes as they stand."""
     made = f"zeros{size}"
-    refill("reader", f"read_array{size}", [
+    refill("get", f"read_array{size}", [
         PATH, ARITH, "use lib.ListN.{length, take, length-take}", "use lib.Seq.{length-take-le}", RESULTS,
         "use Rattle.format.specs.Copy.{zeros, length-zeros}", "use Rattle.format.specs.Fill.{put-whole}", "use Rattle.format.specs.Num.{raw-got, raw-not}",
         "use Rattle.format.specs.Put.{put}", LAWS,
@@ -625,21 +684,23 @@ def array(size):
 
 
 def answers():
-    """What hands a refusal on: `why..` and `refused..`."""
-    folder = proofs_of("reading")
-    for name in sorted(os.listdir(folder)):
-        body = open(os.path.join(folder, name, "Proof.antt")).read()
+    """What passes a refusal on: `why..` and `refused..`."""
+    for name in sorted(os.listdir(proofs_of("reading"))):
         if name.startswith("why"):
             said = "whyOf" if name == "why" else "why" + "".join(w.capitalize() for w in name[4:].split("_"))
             refill("reading", name, [PATH, f"use Rattle.layout.specs.Reading.{{{said}}}"], "", {"returns-2": f"sym (ap {said} (c .before .answer .given .1))"})
         elif name.startswith("refused"):
-            call = re.search(r"^(\S+)-requires : ", body, re.M)
+            made = [need[:-len("-requires")] for need in Skeleton("reading", name).needs if need.endswith("-requires")]
+            start = back(len(made))
             uses = [PATH, "use mathlib.Core.Bool.{false}", RESULTS, NUMBER, "use Rattle.format.specs.Copy.{zeros}", "use Rattle.layout.specs.Reading.{outcome}"]
-            if call is None:
+            if not made:
                 refill("reading", name, uses, "", {"returns": ("refl", "outcome zeros")})
+            elif name == "refused_table_front":
+                value = f"(((tt, {back(1)} .{made[0]} .ensures i), 0), c .{made[1]} .ensures i)"
+                refill("reading", name, uses, "", {"returns": (f"λ i. (no (numberOf ({start} .args .answer)), {value})", "outcome")})
             else:
                 value = "(false, v)" if "optional" in name else "v"
-                refill("reading", name, uses, "", {"returns": (f"ap (λ v. (no (numberOf (c .before .args .answer)), {value})) (c .{call.group(1)} .ensures)", "outcome")})
+                refill("reading", name, uses, "", {"returns": (f"ap (λ v. (no (numberOf ({start} .args .answer)), {value})) (c .{made[0]} .ensures)", "outcome")})
 
 
 TEMPLATES = {
@@ -653,18 +714,18 @@ TEMPLATES = {
     "read_array32": lambda: array(32),
     "read_array64": lambda: array(64),
     "answers": answers,
+    **{reader[1]: (lambda reader=reader: write(Reader(*reader))) for reader in READERS},
 }
 
-for name, template in TEMPLATES.items():
-    if len(sys.argv) == 1 or name in sys.argv[1:]:
-        template()
-        print("wrote", name)
 
-for reader in READERS:
-    if len(sys.argv) == 1 or reader[1] in sys.argv[1:]:
-        p = os.path.join(proofs_of(reader[0]), reader[1], "Proof.antt")
-        if not os.path.exists(p):
-            print("no skeleton yet:", reader[1])
-            continue
-        write(Reader(*reader))
-        print("wrote", reader[1])
+def main():
+    names = sys.argv[1:] or list(TEMPLATES)
+    for name in names:
+        if name not in TEMPLATES:
+            sys.exit(f"readers.py: there is no template for {name}")
+    for name in names:
+        TEMPLATES[name]()
+    subprocess.run(["rt", "fmt"], check=True, cwd=ROOT)
+
+
+main()

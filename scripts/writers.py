@@ -82,7 +82,7 @@ CHAINS = [
           [lent('key_digest'), lent('descriptor_digest'), be(8, '(x .admission_generation)')]),
     Chain('put_member', 'VoterSlotMember', 'm', 'member via dep',
           [Put('put_identity', 'identity .enc (x .identity)', COPIED), Put('put_binding', 'binding .enc (bindingOf x)')]),
-    Chain('put_configuration', 'VoterConfiguration', 'c', 'configuration epoch count via dep check',
+    Chain('put_configuration', 'VoterConfiguration', 'c', 'configuration epoch slotCount via dep check',
           [be(8, '(x .epoch)'), be(1, '(x .count)'), Put('put_members', 'members (x .count) .enc (x .members)', COPIED, 's .pre .1')], '.pre .0'),
     Chain('put_result_head', 'VoterReplacementResult', 't3', 'resultHead incarnation via dep check raw',
           [lent('request_id'), lent('request_digest'), be(8, '(x .incarnation)'), be(8, '(x .revision)')]),
@@ -132,12 +132,12 @@ CHAINS = [
            Put('put_boxed_attestation', 'boxed attestation 8192 .enc (x .attestation)', COPIED, '(s .pre .1 .candidate, s .pre .1 .controller)'),
            Put('put_change', 'change .enc (changeOf x)', 0, '(s .pre .1 .predecessor, s .pre .1 .successor)'),
            Put('put_evidence', 'evidence .enc (x .evidence)', COPIED, 's .pre .1 .snapshot')], '.pre .0'),
-    Chain('put_head', None, None, 'head via dep check raw',
+    Chain('put_head', None, None, 'magicAndVersion via dep check raw',
           [Put('put_bytes', 'magic', 1, None, ('slice-aggregate-put-bytes',)), be(2, '1')]),
     Chain('put_table_head', 'VoterSlotTable', 't3', 'tableHead epoch via dep check raw',
           [lent('cluster_instance'), lent('manifest_digest'), be(8, '(x .revision)'), be(8, '(x .configuration_epoch)')]),
-    Chain('put_table', 'VoterSlotTable', 't', 'table count via dep check',
-          [Put('put_head', 'head .enc tt'), Put('put_table_head', 'tableHead .enc (tableHeadOf x)'), be(1, '(x .count)'),
+    Chain('put_table', 'VoterSlotTable', 't', 'table slotCount via dep check',
+          [Put('put_head', 'magicAndVersion .enc tt'), Put('put_table_head', 'tableHead .enc (tableHeadOf x)'), be(1, '(x .count)'),
            Put('put_slots', 'slots (x .count) .enc (x .slots)', COPIED, 's .pre .1 .count'),
            Put('put_optional_replacement', 'opt replacement blankVoterReplacementRecord .enc (x .has_replacement, x .replacement)', COPIED,
                's .pre .1 .replacement')], '.pre .0'),
@@ -162,7 +162,7 @@ FROM = [
     ('Rattle.records.specs.Blank', 'blankVoterSlotLogId blankVoterSlotMember blankVoterReplacementResult blankVoterSlotRecord blankVoterSnapshotEvidence blankVoterReplacementRecord'),
     ('Rattle.records.specs.Records', 'noMember noSlotRecord'),
     ('Rattle.layout.specs.Parts', 'bindingOf resultHeadOf slotMemberOf timesOf claimsRequestOf claimsSlotOf claimsNamesOf claimsEndOf changeOf earlyCuts lateCuts tableHeadOf'),
-    ('Rattle.layout.specs.Format', 'slotId incarnation epoch count choice identity logId optionalLogId sized string spiffeId snapshotId binding member members configuration resultHead result slotMember slot slots version claimsRequest claimsSlot claimsNames times claimsEnd claims attestation snapshot threeCuts evidence change replacement magic head tableHead table'),
+    ('Rattle.layout.specs.Format', 'slotId incarnation epoch slotCount choice identity logId optionalLogId sized string spiffeId snapshotId binding member members configuration resultHead result slotMember slot slots version claimsRequest claimsSlot claimsNames times claimsEnd claims attestation snapshot threeCuts evidence change replacement magic magicAndVersion tableHead table'),
     ('Rattle.writer.specs.SizeLaws', 'getD-any'),
     ('Rattle.writer.specs.PutLaws', 'put-is room-is opt-flag opt-some opt-none firsts firsts-none firsts-more firsts-within members-firsts slots-firsts'),
 ]
@@ -449,6 +449,9 @@ returns c =
 
 def main():
     only = sys.argv[1:]
+    for name in only:
+        if name not in [f.name for f in CHAINS + OPTIONALS] + [f[0] for f in LOOPS]:
+            sys.exit(f'writers.py: {name} is not among the functions that it writes')
     for f in CHAINS:
         if not only or f.name in only:
             chain(f)

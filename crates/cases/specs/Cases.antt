@@ -22,7 +22,7 @@ use Rattle.records.specs.Evidence.{follows}
 use Rattle.records.specs.Records.{voting, allBelow}
 use Rattle.records.specs.Representable.{representableMember, representableResult, representableSlotRecord, representable}
 use Rattle.records.specs.Validation.{validResult, validSlot, validSlots, validity, validate}
-use Rattle.layout.specs.Format.{table, head, headTest, tableHead, epoch, count, slots, slot, slotMember, identity, slotId, incarnation, binding, choice, result, magic}
+use Rattle.layout.specs.Format.{table, magicAndVersion, headTest, tableHead, epoch, slotCount, slots, slot, slotMember, identity, slotId, incarnation, binding, choice, result, magic}
 use Rattle.codec.specs.Codec.{decodeVoterSlotTable, bounded, decoded as answered}
 use Rattle.records.specs.declared.records.VoterSlotLogId.{VoterSlotLogId}
 use Rattle.records.specs.declared.records.VoterSlotRecord.{VoterSlotRecord}
@@ -163,5 +163,5 @@ every (r ∷ rs) h = let p = both (holds r) (all rs) h in (row r (p .0), every r
 -- ---- the theorem
 
 pub cases : Every rows
-unfolding validateVoterIncarnation validateVoterSlotIdentity newVoterSlotIdentity nodeId fromNodeId isIn startsWith isName fits widthIn decoded charsFrom allChars eqList allTrue sameVoterSlotIdentity sameSpiffeId sameSnapshotId sameVoterSlotLogId sameOptionalLogId sameVoterSlotMember sameVoterReplacementResult sameVoterSlotRecord sameVoterSnapshotEvidence sameVoterConfiguration sameLostVoterAttestationV1 sameVoterReplacementEvidence sameVoterReplacementRecord blankVoterSlotIdentity blankSpiffeId blankSnapshotId blankVoterSlotLogId blankOptionalLogId blankVoterSlotMember blankVoterReplacementResult blankVoterSlotRecord blankVoterSnapshotEvidence blankVoterConfiguration blankLostVoterAttestationV1 blankVoterReplacementEvidence blankVoterReplacementRecord allBelow representableMember representableResult representableSlotRecord representable follows validResult validSlot validSlots validity validate validateSlotId decodeVoterSlotTable bounded andThen whole pick gate answered table head headTest via check dep raw decSeq decCheck decMap decRaw uint held decUint val tableHead epoch count slots slot slotMember identity slotId incarnation binding choice result opt either always flag flagTest padded vec decVec
+unfolding validateVoterIncarnation validateVoterSlotIdentity newVoterSlotIdentity nodeId fromNodeId isIn startsWith isName fits widthIn decoded charsFrom allChars eqList allTrue sameVoterSlotIdentity sameSpiffeId sameSnapshotId sameVoterSlotLogId sameOptionalLogId sameVoterSlotMember sameVoterReplacementResult sameVoterSlotRecord sameVoterSnapshotEvidence sameVoterConfiguration sameLostVoterAttestationV1 sameVoterReplacementEvidence sameVoterReplacementRecord blankVoterSlotIdentity blankSpiffeId blankSnapshotId blankVoterSlotLogId blankOptionalLogId blankVoterSlotMember blankVoterReplacementResult blankVoterSlotRecord blankVoterSnapshotEvidence blankVoterConfiguration blankLostVoterAttestationV1 blankVoterReplacementEvidence blankVoterReplacementRecord allBelow representableMember representableResult representableSlotRecord representable follows validResult validSlot validSlots validity validate validateSlotId decodeVoterSlotTable bounded andThen whole pick gate answered table magicAndVersion headTest via check dep raw decSeq decCheck decMap decRaw uint held decUint val tableHead epoch slotCount slots slot slotMember identity slotId incarnation binding choice result opt either always flag flagTest padded vec decVec
 cases = every rows tt

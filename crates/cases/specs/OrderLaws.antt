@@ -22,7 +22,7 @@ use Rattle.records.specs.Equality.{allTrue, eqList, sameVoterSlotIdentity, same
 use Rattle.records.specs.Evidence.{follows, validStage, stageOr, validStages, validBeside, validContinuation, validEvidence}
 use Rattle.records.specs.Records.{allBelow}
 use Rattle.records.specs.Validation.{validConfiguration, validAttestation, validResult, validSlot, validSlots, validOperationHead, isCurrentEpoch, validOperation, retiredMember, validTarget, validateMember, validateMembers, validateOperation, validity}
-use Rattle.layout.specs.Format.{maxAttestationBytes, table, head, headTest, tableHead, epoch, count, slots, slot, slotMember, identity, slotId, incarnation, logId, optionalLogId, sized, string, spiffeId, snapshotId, binding, member, members, configuration, choice, resultHead, result, version, claimsRequest, claimsSlot, claimsNames, times, claimsEnd, claims, attestation, snapshot, threeCuts, evidence, change, replacement}
+use Rattle.layout.specs.Format.{maxAttestationBytes, table, magicAndVersion, headTest, tableHead, epoch, slotCount, slots, slot, slotMember, identity, slotId, incarnation, logId, optionalLogId, sized, string, spiffeId, snapshotId, binding, member, members, configuration, choice, resultHead, result, version, claimsRequest, claimsSlot, claimsNames, times, claimsEnd, claims, attestation, snapshot, threeCuts, evidence, change, replacement}
 use Rattle.layout.specs.Parts.{tableOf, replacementOf, tableHeadOf, changeOf}
 use Rattle.codec.specs.Codec.{decodeVoterSlotTable, decodeLostVoterAttestation, bounded}
 use Rattle.codec.specs.EntryLaws.{decode-judged}
@@ -65,7 +65,7 @@ unfolding andThen pick uint decUint via decMap held val raw decRaw
 expected-ordered = refl
 
 change-ordered : change .dec (drop 361 requestBytes) ≡ ok (changeOf orderedRequest) 511
-unfolding andThen pick gate decSeq decCheck decMap dep check via held raw decRaw uint decUint val identity slotId incarnation validateSlotId validateVoterIncarnation choice epoch count binding member members configuration change padded vec decVec blankVoterSlotMember blankVoterSlotIdentity
+unfolding andThen pick gate decSeq decCheck decMap dep check via held raw decRaw uint decUint val identity slotId incarnation validateSlotId validateVoterIncarnation choice epoch slotCount binding member members configuration change padded vec decVec blankVoterSlotMember blankVoterSlotIdentity
 change-ordered = refl
 
 evidence-ordered : evidence .dec (drop 872 requestBytes) ≡ ok orderedEvidence 173
@@ -78,9 +78,9 @@ request-ordered =
     map-ok _ (λ p. replacementOf (p .0 .0 .0) (p .0 .0 .1) (p .0 .1) (p .1)) requestBytes
     (dep-ok _ _ requestBytes (dep-ok _ _ requestBytes (dep-ok (uint 8) (λ a. boxed attestation maxAttestationBytes) requestBytes expected-ordered boxed-ordered) change-ordered) evidence-ordered)
 
-slots-ordered : dep (dep (dep head (λ a. tableHead)) (λ a. count)) (λ p. slots (p .1)) .dec orderedTableBytes
+slots-ordered : dep (dep (dep magicAndVersion (λ a. tableHead)) (λ a. slotCount)) (λ p. slots (p .1)) .dec orderedTableBytes
     ≡ ok (((tt, tableHeadOf orderedTable), 3), orderedTable .slots) 630
-unfolding orderedTable andThen pick gate decSeq decCheck decMap dep check via held raw decRaw uint decUint val head headTest tableHead epoch count slots slot slotMember identity slotId incarnation validateSlotId validateVoterIncarnation binding choice resultHead result logId opt either always flag flagTest padded vec decVec eqList blankVoterSlotIdentity blankVoterSlotMember blankVoterSlotLogId blankVoterReplacementResult blankVoterSlotRecord
+unfolding orderedTable andThen pick gate decSeq decCheck decMap dep check via held raw decRaw uint decUint val magicAndVersion headTest tableHead epoch slotCount slots slot slotMember identity slotId incarnation validateSlotId validateVoterIncarnation binding choice resultHead result logId opt either always flag flagTest padded vec decVec eqList blankVoterSlotIdentity blankVoterSlotMember blankVoterSlotLogId blankVoterReplacementResult blankVoterSlotRecord
 slots-ordered = refl
 
 flag-ordered : flag .dec (drop 630 orderedTableBytes) ≡ ok true 1

@@ -44,7 +44,7 @@ use Rattle.records.specs.declared.records.VoterReplacementEvidence.{VoterReplac
 use Rattle.records.specs.declared.records.VoterReplacementRecord.{VoterReplacementRecord}
 use Rattle.records.specs.declared.records.VoterSlotTable.{VoterSlotTable}
 use Rattle.layout.specs.Parts.{bindingOf, resultHeadOf, slotMemberOf, claimsRequestOf, claimsSlotOf, claimsNamesOf, claimsEndOf, timesOf, changeOf, tableHeadOf}
-use Rattle.layout.specs.Format.{require, slotId, incarnation, epoch, count, choice, identity, logId, optionalLogId, sized, string, placed, spiffeId, snapshotId, binding, member, members, configuration, resultHead, result, slotMember, slot, slots, version, claimsRequest, claimsSlot, claimsNames, times, claimsEnd, claims, attestation, snapshot, threeCuts, evidence, change, replacement, magic, headTest, head, tableHead, table}
+use Rattle.layout.specs.Format.{require, slotId, incarnation, epoch, slotCount, choice, identity, logId, optionalLogId, sized, string, placed, spiffeId, snapshotId, binding, member, members, configuration, resultHead, result, slotMember, slot, slots, version, claimsRequest, claimsSlot, claimsNames, times, claimsEnd, claims, attestation, snapshot, threeCuts, evidence, change, replacement, magic, headTest, magicAndVersion, tableHead, table}
 use Rattle.records.specs.RepresentableParts.{text-is, member-is, result-is, slot-is, configuration-is, attestation-is, evidence-is, replacement-is, table-is}
 use Rattle.records.specs.TestLaws.{and-both, says, cond-true, cond-false}
 use Rattle.codec.specs.FitsLaws.{text-fits, attestation-fits, configuration-count}
@@ -126,8 +126,8 @@ unfolding epoch check
 epoch-good x h k = (uint-good 8 x h, require-good (isConfigurationEpoch x) k)
 
 -- an odd count, 1 to 9
-pub count-good : (n : ℕ) → validCount n ≡ true → count .Good n
-unfolding count check
+pub count-good : (n : ℕ) → validCount n ≡ true → slotCount .Good n
+unfolding slotCount check
 count-good n h = let k = count-small n h in (uint-good 1 n (omega arith), require-good (validCount n) h)
 
 -- one of the numbers from low to high
@@ -521,8 +521,8 @@ magic-bytes : Bytes magic
 magic-bytes = bytes-of magic (lit< tt, (lit< tt, (lit< tt, (lit< tt, tt))))
 
 -- the magic and the version are what they are
-pub head-good : head .Good tt
-unfolding head via check dep raw headTest pick eqList
+pub head-good : magicAndVersion .Good tt
+unfolding magicAndVersion via check dep raw headTest pick eqList
 head-good = ((((refl, magic-bytes), uint-good 2 1 (lit< tt)), refl), refl)
 
 -- a table's front

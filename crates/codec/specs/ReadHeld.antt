@@ -33,7 +33,7 @@ use Rattle.records.specs.declared.records.VoterReplacementEvidence.{VoterReplac
 use Rattle.records.specs.declared.records.VoterReplacementRecord.{VoterReplacementRecord}
 use Rattle.records.specs.declared.records.VoterSlotTable.{VoterSlotTable}
 use Rattle.layout.specs.Parts.{bindingOf}
-use Rattle.layout.specs.Format.{require-is, slotId, incarnation, epoch, count, choice, identity, logId, optionalLogId, sized, string, string-long, placed, spiffeId, snapshotId, binding, member, members, configuration, resultHead, result, slotMember, slot, slots, claimsRequest, claimsSlot, claimsNames, times, claimsEnd, claims, attestation, snapshot, threeCuts, evidence, change, replacement, tableHead, table}
+use Rattle.layout.specs.Format.{require-is, slotId, incarnation, epoch, slotCount, choice, identity, logId, optionalLogId, sized, string, string-long, placed, spiffeId, snapshotId, binding, member, members, configuration, resultHead, result, slotMember, slot, slots, claimsRequest, claimsSlot, claimsNames, times, claimsEnd, claims, attestation, snapshot, threeCuts, evidence, change, replacement, tableHead, table}
 use Rattle.layout.specs.declared.parts.Binding.{Binding}
 
 -- ---- lists
@@ -93,11 +93,11 @@ epoch-held : (x : ℕ) → epoch .Good x → x < 2 ^ 64
 unfolding epoch check
 epoch-held x g = uint-held 8 x (g .0)
 
-count-most : (n : ℕ) → count .Good n → n ≤ 9
-unfolding count check
+count-most : (n : ℕ) → slotCount .Good n → n ≤ 9
+unfolding slotCount check
 count-most n g = count-small n (require-is (validCount n) (g .1))
 
-count-held : (n : ℕ) → count .Good n → n < 2 ^ 64
+count-held : (n : ℕ) → slotCount .Good n → n < 2 ^ 64
 count-held n g = let h = count-most n g in omega arith
 
 choice-held : (low high x : ℕ) → choice low high .Good x → x < 2 ^ 8

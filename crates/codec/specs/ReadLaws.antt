@@ -42,7 +42,7 @@ use Rattle.records.specs.declared.records.LostVoterAttestationV1.{LostVoterAtte
 use Rattle.records.specs.declared.records.VoterReplacementEvidence.{VoterReplacementEvidence}
 use Rattle.records.specs.declared.records.VoterReplacementRecord.{VoterReplacementRecord}
 use Rattle.records.specs.declared.records.VoterSlotTable.{VoterSlotTable}
-use Rattle.layout.specs.Format.{require-is, slotId, incarnation, epoch, count, choice, identity, optionalLogId, logId, sized, string, string-long, placed, spiffeId, snapshotId, member, members, configuration, resultHead, result, slotMember, slot, slots, claimsSlot, claimsNames, claimsEnd, claims, attestation, snapshot, threeCuts, evidence, change, replacement, tableHead, table}
+use Rattle.layout.specs.Format.{require-is, slotId, incarnation, epoch, slotCount, choice, identity, optionalLogId, logId, sized, string, string-long, placed, spiffeId, snapshotId, member, members, configuration, resultHead, result, slotMember, slot, slots, claimsSlot, claimsNames, claimsEnd, claims, attestation, snapshot, threeCuts, evidence, change, replacement, tableHead, table}
 use Rattle.records.specs.RepresentableParts.{text-is, member-is, result-is, slot-is, configuration-is, attestation-is, evidence-is, replacement-is, table-is}
 use Rattle.records.specs.TestLaws.{passes}
 use Rattle.writer.specs.SizeLaws.{getD-any}
@@ -115,8 +115,8 @@ unfolding epoch check
 epoch-tests x g = require-is (isConfigurationEpoch x) (g .1)
 
 -- a count is at most nine
-count-tests : (n : ℕ) → count .Good n → leb n 9 ≡ true
-unfolding count check
+count-tests : (n : ℕ) → slotCount .Good n → leb n 9 ≡ true
+unfolding slotCount check
 count-tests n g = le-leb n 9 (count-small n (require-is (validCount n) (g .1)))
 
 -- one of the numbers from low to high

@@ -10,7 +10,7 @@ use mathlib.Core.List.{List, [], _∷_, _++_}
 use lib.ListN.{length, getD, take, drop, replicate, length-append}
 use lib.Seq.{take-at, getD-at, length-take-le, take-all, take-suc, getD-take}
 use borrow.Author.Count.{below-more}
-use Rattle.format.specs.Res.{Res}
+use Rattle.format.specs.Res.{Res, malformed}
 use Rattle.format.specs.Res.Res.{ok, no}
 use lib.Dec.{leb, eqb}
 use borrow.Author.Tests.{leb-true}
@@ -124,10 +124,10 @@ module _ {A : Type 0} (C : Codec (List A)) (n k : ℕ) (blank : A) (long : (l : 
   unfolding padded
   padded-no bs p = via-no _ _ _ _ _ p
 
--- a yes or no, as one byte: 0 or 1, and any other is refused by 6
+-- a yes or no, as one byte: 0 or 1, and any other is malformed
 unfoldable pub flagTest : ℕ → ℕ
 unfolding pick
-flagTest x = pick (leb x 1) 0 6
+flagTest x = pick (leb x 1) 0 malformed
 
 abbrev pub toFlag : ℕ → Bool
 toFlag x = eqb x 1
@@ -136,7 +136,7 @@ abbrev pub ofFlag : Bool → ℕ
 ofFlag true = 1
 ofFlag false = 0
 
-flag-by : (t : Bool) (x : ℕ) → leb x 1 ≡ t → pick {A = ℕ} t 0 6 ≡ 0 → ofFlag (toFlag x) ≡ x
+flag-by : (t : Bool) (x : ℕ) → leb x 1 ≡ t → pick {A = ℕ} t 0 malformed ≡ 0 → ofFlag (toFlag x) ≡ x
 unfolding pick
 flag-by true x e q = flag-of x (leb-true x 1 e)
   where

@@ -12,7 +12,7 @@ use lib.Seq.{take-suc, take-all, length-take-le, take-at}
 use lib.Arith.{digits-lt, digits-div, digits-mod}
 use lib.Dec.{leb, lit<}
 use borrow.Author.Tests.{le-leb, lt-leb, leb-true}
-use Rattle.format.specs.Res.{Res, ok-value, ok-count, no-ok}
+use Rattle.format.specs.Res.{Res, malformed, ok-value, ok-count, no-ok}
 use Rattle.format.specs.Res.Res.{ok, no}
 use Rattle.format.specs.Codec.{Codec, Bytes, via, held, decMap, map-ok, map-no}
 
@@ -83,20 +83,20 @@ unfoldable pub pick : {A : Type 0} → Bool → A → A → A
 pick true a b = a
 pick false a b = b
 
--- n bytes as they stand; too few of them are refused by 6
+-- n bytes as they stand; too few of them are malformed
 unfoldable pub decRaw : ℕ → List ℕ → Res (List ℕ)
-decRaw n bs = pick (leb n (length bs)) (ok (take n bs) n) (no 6)
+decRaw n bs = pick (leb n (length bs)) (ok (take n bs) n) (no malformed)
 
 pub raw-ok : (n : ℕ) (bs : List ℕ) → n ≤ length bs → decRaw n bs ≡ ok (take n bs) n
 unfolding decRaw pick
 raw-ok n bs h = rw (le-leb n (length bs) h)
 
-pub raw-no : (n : ℕ) (bs : List ℕ) → length bs < n → decRaw n bs ≡ no 6
+pub raw-no : (n : ℕ) (bs : List ℕ) → length bs < n → decRaw n bs ≡ no malformed
 unfolding decRaw pick
 raw-no n bs h = rw (lt-leb n (length bs) h)
 
 -- where n bytes are read, they are there
-raw-read : (n : ℕ) (bs : List ℕ) {l : List ℕ} {r : ℕ} (t : Bool) → leb n (length bs) ≡ t → pick t (ok (take n bs) n) (no 6) ≡ ok l r → (n ≤ length bs) × (take n bs ≡ l) × (n ≡ r)
+raw-read : (n : ℕ) (bs : List ℕ) {l : List ℕ} {r : ℕ} (t : Bool) → leb n (length bs) ≡ t → pick t (ok (take n bs) n) (no malformed) ≡ ok l r → (n ≤ length bs) × (take n bs ≡ l) × (n ≡ r)
 unfolding pick
 raw-read n bs true q e = (leb-true n (length bs) q, ok-value e, ok-count e)
 raw-read n bs false q e = absurd (no-ok e)
@@ -150,7 +150,7 @@ pub uint-ok : (k : ℕ) (bs : List ℕ) → k ≤ length bs → decUint k bs ≡
 unfolding decUint
 uint-ok k bs h = map-ok (decRaw k) (val 0) bs (raw-ok k bs h)
 
-pub uint-no : (k : ℕ) (bs : List ℕ) → length bs < k → decUint k bs ≡ no 6
+pub uint-no : (k : ℕ) (bs : List ℕ) → length bs < k → decUint k bs ≡ no malformed
 unfolding decUint
 uint-no k bs h = map-no (decRaw k) (val 0) bs (raw-no k bs h)
 
@@ -172,7 +172,7 @@ pub raw-got : (n : ℕ) (bs : List ℕ) → n ≤ length bs → raw n .dec bs �
 unfolding raw
 raw-got n bs h = raw-ok n bs h
 
-pub raw-not : (n : ℕ) (bs : List ℕ) → length bs < n → raw n .dec bs ≡ no 6
+pub raw-not : (n : ℕ) (bs : List ℕ) → length bs < n → raw n .dec bs ≡ no malformed
 unfolding raw
 raw-not n bs h = raw-no n bs h
 

@@ -8,6 +8,13 @@ pub data Res (A : Type 0) : Type 0 where
   ok : A → ℕ → Res A
   no : ℕ → Res A
 
+-- The two refusals that a form has of its own, by document 01's numbers: bad bytes, and more bytes than a bound allows. A test may refuse by any number.
+abbrev pub malformed : ℕ
+malformed = 6
+
+abbrev pub tooLarge : ℕ
+tooLarge = 5
+
 -- go on with the value and the count, or pass the refusal on
 unfoldable pub andThen : {A B : Type 0} → Res A → (A → ℕ → Res B) → Res B
 andThen (ok a n) f = f a n

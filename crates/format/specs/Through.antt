@@ -7,7 +7,7 @@ use mathlib.Core.List.{List, _++_}
 use lib.ListN.{length, take}
 use lib.Dec.{leb, eqb}
 use borrow.Author.Tests.{eq-eqb, eqb-true, le-leb}
-use Rattle.format.specs.Res.{Res, andThen, began, ok-value, ok-count, no-ok}
+use Rattle.format.specs.Res.{Res, malformed, tooLarge, andThen, began, ok-value, ok-count, no-ok}
 use Rattle.format.specs.Res.Res.{ok, no}
 use Rattle.format.specs.Codec.{Codec, Bytes, dep, check, held, there-and-back, back-and-there}
 use Rattle.format.specs.Num.{uint, raw, pick}
@@ -53,11 +53,11 @@ module _ {A B : Type 0} (C : Codec A) (p : A → Res B) (g : B → A) (same : (a
     good = through-good;
   }
 
--- all of the bytes, to the last; any left over are refused by 6
+-- all of the bytes, to the last; any left over are malformed
 unfoldable pub whole : {A : Type 0} → Codec A → List ℕ → Res A
-whole C bs = andThen (C .dec bs) (λ a n. pick (eqb n (length bs)) (ok a n) (no 6))
+whole C bs = andThen (C .dec bs) (λ a n. pick (eqb n (length bs)) (ok a n) (no malformed))
 
-whole-by : {A : Type 0} (k l : ℕ) (a b : A) (n : ℕ) (t : Bool) → eqb k l ≡ t → pick t (ok a k) (no 6) ≡ ok b n → (k ≡ l) × (a ≡ b)
+whole-by : {A : Type 0} (k l : ℕ) (a b : A) (n : ℕ) (t : Bool) → eqb k l ≡ t → pick t (ok a k) (no malformed) ≡ ok b n → (k ≡ l) × (a ≡ b)
 unfolding pick
 whole-by k l a b n true q e = (eqb-true k l q, ok-value e)
 whole-by k l a b n false q e = absurd (no-ok e)
@@ -65,7 +65,7 @@ whole-by k l a b n false q e = absurd (no-ok e)
 pub whole-is : {A : Type 0} (C : Codec A) (bs : List ℕ) {a : A} {n : ℕ} → whole C bs ≡ ok a n → C .dec bs ≡ ok a (length bs)
 unfolding whole
 whole-is C bs {a} {n} e =
-    let (a′, k, e₁, e₂) = began (C .dec bs) (λ a n. pick (eqb n (length bs)) (ok a n) (no 6)) e in
+    let (a′, k, e₁, e₂) = began (C .dec bs) (λ a n. pick (eqb n (length bs)) (ok a n) (no malformed)) e in
     let h = whole-by k (length bs) a′ a n (eqb k (length bs)) refl e₂ in
     e₁ ∙ ap₂ ok (h .1) (h .0)
 
@@ -80,14 +80,14 @@ unfolding whole andThen
 whole-no C bs e = rw e
 
 -- whether all was read decides
-pub whole-by-count : {A : Type 0} (C : Codec A) (bs : List ℕ) {a : A} {n : ℕ} (t : Bool) → C .dec bs ≡ ok a n → eqb n (length bs) ≡ t → whole C bs ≡ pick t (ok a n) (no 6)
+pub whole-by-count : {A : Type 0} (C : Codec A) (bs : List ℕ) {a : A} {n : ℕ} (t : Bool) → C .dec bs ≡ ok a n → eqb n (length bs) ≡ t → whole C bs ≡ pick t (ok a n) (no malformed)
 unfolding whole andThen
 whole-by-count C bs t e q = rw e (rw q)
 
--- a form in a box of at most `bound` bytes, refused by 5: two bytes of size, and then so many
+-- a form in a box of at most `bound` bytes, else too large: two bytes of size, and then so many
 module _ {A : Type 0} (C : Codec A) (bound : ℕ) where
   unfoldable pub sizeTest : ℕ → ℕ
-  sizeTest n = pick (leb n bound) 0 5
+  sizeTest n = pick (leb n bound) 0 tooLarge
 
   box : Codec (ℕ × List ℕ)
   box = dep (check (uint 2) sizeTest) raw
@@ -120,16 +120,16 @@ module _ {A : Type 0} (C : Codec A) (bound : ℕ) where
   boxed-is a g = C .good (C .enc a) (g .0 .1 .1) (whole-is C (C .enc a) (g .1 .1))
 
   -- reading it: the size and so many bytes, and then the value in them; any of the three may refuse
-  pub boxed-ok : (bs : List ℕ) {x : ℕ × List ℕ} {a : A} {n m : ℕ} → dep (check (uint 2) (λ n. pick (leb n bound) 0 5)) raw .dec bs ≡ ok x n → whole C (x .1) ≡ ok a m
+  pub boxed-ok : (bs : List ℕ) {x : ℕ × List ℕ} {a : A} {n m : ℕ} → dep (check (uint 2) (λ n. pick (leb n bound) 0 tooLarge)) raw .dec bs ≡ ok x n → whole C (x .1) ≡ ok a m
       → boxed .dec bs ≡ ok a n
   unfolding boxed through box sizeTest decThrough andThen
   boxed-ok bs e f = rw e (rw f)
 
-  pub boxed-no-1 : (bs : List ℕ) {k : ℕ} → dep (check (uint 2) (λ n. pick (leb n bound) 0 5)) raw .dec bs ≡ no k → boxed .dec bs ≡ no k
+  pub boxed-no-1 : (bs : List ℕ) {k : ℕ} → dep (check (uint 2) (λ n. pick (leb n bound) 0 tooLarge)) raw .dec bs ≡ no k → boxed .dec bs ≡ no k
   unfolding boxed through box sizeTest decThrough andThen
   boxed-no-1 bs e = rw e
 
-  pub boxed-no-2 : (bs : List ℕ) {x : ℕ × List ℕ} {n k : ℕ} → dep (check (uint 2) (λ n. pick (leb n bound) 0 5)) raw .dec bs ≡ ok x n → whole C (x .1) ≡ no k
+  pub boxed-no-2 : (bs : List ℕ) {x : ℕ × List ℕ} {n k : ℕ} → dep (check (uint 2) (λ n. pick (leb n bound) 0 tooLarge)) raw .dec bs ≡ ok x n → whole C (x .1) ≡ no k
       → boxed .dec bs ≡ no k
   unfolding boxed through box sizeTest decThrough andThen
   boxed-no-2 bs e f = rw e (rw f)

@@ -15,6 +15,7 @@ use Rattle.identity.specs.Answer.{numberOf}
 use Rattle.identity.specs.Identity.{isConfigurationEpoch, validateSlotId, validateVoterIncarnation}
 use Rattle.identity.specs.Text.{isUtf8, maxSpiffeIdBytes, maxSnapshotIdBytes}
 use Rattle.identity.specs.declared.identity.VoterSlotIdentity.{VoterSlotIdentity}
+use Rattle.format.specs.Res.{malformed, tooLarge}
 use Rattle.format.specs.Codec.{Codec, dep, check, via, tested}
 use Rattle.format.specs.Num.{uint, raw, raw-long, pick, pick-zero}
 use Rattle.format.specs.List.{vec, vec-long, padded, opt}
@@ -37,7 +38,7 @@ use Rattle.records.specs.declared.records.LostVoterAttestationV1.{LostVoterAtte
 use Rattle.records.specs.declared.records.VoterReplacementEvidence.{VoterReplacementEvidence}
 use Rattle.records.specs.declared.records.VoterReplacementRecord.{VoterReplacementRecord}
 use Rattle.records.specs.declared.records.VoterSlotTable.{VoterSlotTable}
-use Rattle.layout.specs.Parts.{memberOf, bindingOf, resultOf, resultHeadOf, slotMemberOf, attestationOf, claimsRequestOf, claimsSlotOf, claimsNamesOf, claimsEndOf, evidenceOf, earlyCuts, lateCuts, replacementOf, changeOf, tableOf, tableHeadOf}
+use Rattle.layout.specs.Parts.{memberOf, bindingOf, resultOf, resultHeadOf, slotMemberOf, attestationOf, claimsRequestOf, claimsSlotOf, claimsNamesOf, claimsEndOf, evidenceOf, earlyCuts, lateCuts, replacementOf, changeOf, tableOf, tableHeadOf, TableFront}
 use Rattle.layout.specs.declared.parts.Binding.{Binding}
 use Rattle.layout.specs.declared.parts.ResultHead.{ResultHead}
 use Rattle.layout.specs.declared.parts.SlotMember.{SlotMember}
@@ -54,7 +55,7 @@ use Rattle.layout.specs.declared.parts.TableHead.{TableHead}
 
 -- what is not so is refused by 6
 abbrev pub require : Bool → ℕ
-require t = pick t 0 6
+require t = pick t 0 malformed
 
 unfoldable pub slotId : Codec ℕ
 slotId = check (uint 2) (λ x. numberOf (validateSlotId x))
@@ -65,8 +66,9 @@ incarnation = check (uint 8) (λ x. numberOf (validateVoterIncarnation x))
 unfoldable pub epoch : Codec ℕ
 epoch = check (uint 8) (λ x. require (isConfigurationEpoch x))
 
-unfoldable pub count : Codec ℕ
-count = check (uint 1) (λ x. require (validCount x))
+-- how many slots or members: odd, up to nine
+unfoldable pub slotCount : Codec ℕ
+slotCount = check (uint 1) (λ x. require (validCount x))
 
 -- one of the numbers from low to high
 unfoldable pub choice : ℕ → ℕ → Codec ℕ
@@ -85,7 +87,7 @@ optionalLogId =
 
 -- `sized_bytes`: a length of at most `bound`, refused by 5, and so many bytes
 unfoldable pub sized : ℕ → Codec (ℕ × List ℕ)
-sized bound = dep (check (uint 2) (λ n. pick (leb n bound) 0 5)) raw
+sized bound = dep (check (uint 2) (λ n. pick (leb n bound) 0 tooLarge)) raw
 
 -- `string`: they are UTF-8, else refused by 6
 unfoldable pub string : ℕ → Codec (ℕ × List ℕ)
@@ -128,7 +130,7 @@ members n = padded (vec member blankVoterSlotMember n) n 9 blankVoterSlotMember 
 
 unfoldable pub configuration : Codec VoterConfiguration
 configuration =
-    via (dep (dep epoch (λ a. count)) (λ p. members (p .1))) (λ p. record { epoch = p .0 .0; members = p .1; count = p .0 .1 })
+    via (dep (dep epoch (λ a. slotCount)) (λ p. members (p .1))) (λ p. record { epoch = p .0 .0; members = p .1; count = p .0 .1 })
     (λ c. ((c .epoch, c .count), c .members)) (λ a g. refl)
 
 -- ---- slots
@@ -263,9 +265,9 @@ magic = 79 ∷ 80 ∷ 86 ∷ 73 ∷ []
 
 -- both are read before either is judged: 6 for the magic, then 4 for the version
 unfoldable pub headTest : List ℕ × ℕ → ℕ
-headTest p = pick (eqBytes (p .0) magic) (pick (eqb (p .1) 1) 0 4) 6
+headTest p = pick (eqBytes (p .0) magic) (pick (eqb (p .1) 1) 0 4) malformed
 
-head-by : (p : List ℕ × ℕ) (t u : Bool) → eqBytes (p .0) magic ≡ t → eqb (p .1) 1 ≡ u → pick {A = ℕ} t (pick u 0 4) 6 ≡ 0 → _≡_ {A = List ℕ × ℕ} (magic, 1) p
+head-by : (p : List ℕ × ℕ) (t u : Bool) → eqBytes (p .0) magic ≡ t → eqb (p .1) 1 ≡ u → pick {A = ℕ} t (pick u 0 4) malformed ≡ 0 → _≡_ {A = List ℕ × ℕ} (magic, 1) p
 unfolding pick
 head-by p true true q r e = ap₂ (λ m v. (m, v)) (sym (eqBytes-true (p .0) magic q)) (sym (eqb-true (p .1) 1 r))
 head-by p true false q r e = absurd (omega arith)
@@ -275,8 +277,8 @@ pub head-is : (p : List ℕ × ℕ) → headTest p ≡ 0 → _≡_ {A = List ℕ
 unfolding headTest
 head-is p e = head-by p (eqBytes (p .0) magic) (eqb (p .1) 1) refl refl e
 
-unfoldable pub head : Codec (Unit {0})
-head = via (check (dep (raw 4) (λ a. uint 2)) headTest) (λ p. tt) (λ u. (magic, 1)) (λ p g. head-is p (tested (dep (raw 4) (λ a. uint 2)) headTest p g))
+unfoldable pub magicAndVersion : Codec (Unit {0})
+magicAndVersion = via (check (dep (raw 4) (λ a. uint 2)) headTest) (λ p. tt) (λ u. (magic, 1)) (λ p g. head-is p (tested (dep (raw 4) (λ a. uint 2)) headTest p g))
 
 unfoldable pub tableHead : Codec TableHead
 tableHead =
@@ -284,8 +286,12 @@ tableHead =
     (λ p. record { «cluster_instance» = p .0 .0 .0; «manifest_digest» = p .0 .0 .1; revision = p .0 .1; «configuration_epoch» = p .1 })
     (λ h. (((h .«cluster_instance», h .«manifest_digest»), h .revision), h .«configuration_epoch»)) (λ a g. refl)
 
+-- what stands before the flag that tells an open request
+abbrev pub tableFront : Codec TableFront
+tableFront = dep (dep (dep magicAndVersion (λ a. tableHead)) (λ a. slotCount)) (λ p. slots (p .1))
+
 unfoldable pub table : Codec VoterSlotTable
 table =
-    via (dep (dep (dep (dep head (λ a. tableHead)) (λ a. count)) (λ p. slots (p .1))) (λ a. opt replacement blankVoterReplacementRecord))
+    via (dep tableFront (λ a. opt replacement blankVoterReplacementRecord))
     (λ p. tableOf (p .0 .0 .0 .1) (p .0 .0 .1) (p .0 .1) (p .1 .0) (p .1 .1))
     (λ t. ((((tt, tableHeadOf t), t .count), t .slots), (t .«has_replacement», t .replacement))) (λ a g. refl)

@@ -1,6 +1,6 @@
--- What the readers' proofs use of single formats: the bound of sized bytes, and the magic byte by byte.
+-- What the readers' proofs use of single formats: the bound of sized bytes, a part of a slice, and the magic byte by byte.
 -- Assumes nothing.
-use Prim.Native.Nat.{ℕ, _+_, _≤_}
+use Prim.Native.Nat.{ℕ, _+_, _-_, _≤_}
 use native.Mathlib.Omega.{arith}
 use mathlib.Core.Bool.{Bool, true, false, _&&_, and-true}
 use mathlib.Core.Path.{_≡_, ap, _∙_}
@@ -8,7 +8,7 @@ use mathlib.Core.List.{List, [], _∷_}
 use lib.ListN.{length, getD, take, drop}
 use lib.Dec.{eqb, leb}
 use borrow.Author.Tests.{leb-true}
-use Rattle.format.specs.Res.{andThen, began, ok-value}
+use Rattle.format.specs.Res.{malformed, tooLarge, andThen, began, ok-value}
 use Rattle.format.specs.Res.Res.{ok, no}
 use Rattle.format.specs.Codec.{Codec, dep, decSeq, check, checked-is, checked-ok, checked-bad}
 use Rattle.format.specs.Num.{uint, raw, pick, pick-zero}
@@ -17,7 +17,7 @@ use Rattle.format.specs.Through.{whole, whole-no, whole-by-count}
 use Rattle.records.specs.Validation.{validCount, validAttestation}
 use Rattle.records.specs.ValidationLaws.{count-small}
 use Rattle.records.specs.declared.records.LostVoterAttestationV1.{LostVoterAttestationV1}
-use Rattle.layout.specs.Format.{require, require-is, count, sized, magic, claims, attestation}
+use Rattle.layout.specs.Format.{require, require-is, slotCount, sized, magic, claims, attestation}
 
 -- of two forms that were read the first was
 dep-first : {A B : Type 0} (C : Codec A) (D : A → Codec B) (bs : List ℕ) {p : A × B} {r : ℕ} → dep C D .dec bs ≡ ok p r → (n : ℕ) × (C .dec bs ≡ ok (p .0) n)
@@ -31,8 +31,12 @@ dep-first {A} {B} C D bs {p} {r} e =
 pub sized-small : (bound : ℕ) (bs : List ℕ) {p : ℕ × List ℕ} {r : ℕ} → sized bound .dec bs ≡ ok p r → p .0 ≤ bound
 unfolding sized
 sized-small bound bs {p} e =
-    let (n, e₁) = dep-first (check (uint 2) (λ n. pick (leb n bound) 0 5)) raw bs e in
-    leb-true (p .0) bound (pick-zero (leb (p .0) bound) 4 (checked-is (uint 2) (λ n. pick (leb n bound) 0 5) bs e₁))
+    let (n, e₁) = dep-first (check (uint 2) (λ n. pick (leb n bound) 0 tooLarge)) raw bs e in
+    leb-true (p .0) bound (pick-zero (leb (p .0) bound) 4 (checked-is (uint 2) (λ n. pick (leb n bound) 0 tooLarge) bs e₁))
+
+-- so many bytes from a place on, as a part of a slice says them
+pub part-is : (n at : ℕ) (s : List ℕ) → take (at + n - at) (drop at s) ≡ take n (drop at s)
+part-is n at s = let e : at + n - at ≡ n = omega arith in ap (λ m. take m (drop at s)) e
 
 -- the magic, byte by byte
 pub magic-bytes : (s : List ℕ) → 4 ≤ length s
@@ -46,7 +50,7 @@ magic-bytes (a ∷ b ∷ c ∷ d ∷ s) h = ap (λ t. eqb a 79 && (eqb b 80 && (
 
 -- all of the bytes are an attestation where nothing is left over and its rule holds; both are refused by 6
 pub attestation-by : (bs : List ℕ) {a : LostVoterAttestationV1} {n : ℕ} (w v : Bool) → claims .dec bs ≡ ok a n → eqb n (length bs) ≡ w → validAttestation a ≡ v
-    → whole attestation bs ≡ pick (w && v) (ok a n) (no 6)
+    → whole attestation bs ≡ pick (w && v) (ok a n) (no malformed)
 unfolding attestation pick
 attestation-by bs {a} {n} true true e q p = whole-by-count _ bs true (checked-ok _ _ bs e (ap require p)) q
 attestation-by bs {a} {n} false true e q p = whole-by-count _ bs false (checked-ok _ _ bs e (ap require p)) q
@@ -54,6 +58,6 @@ attestation-by bs {a} {n} true false e q p = whole-no _ bs (checked-bad _ _ bs e
 attestation-by bs {a} {n} false false e q p = whole-no _ bs (checked-bad _ _ bs e (ap require p))
 
 -- a count that was read has places for all
-pub count-read : (bs : List ℕ) {v n : ℕ} → count .dec bs ≡ ok v n → v ≤ 9
-unfolding count
+pub count-read : (bs : List ℕ) {v n : ℕ} → slotCount .dec bs ≡ ok v n → v ≤ 9
+unfolding slotCount
 count-read bs {v} e = count-small v (require-is (validCount v) (checked-is (uint 1) (λ x. require (validCount x)) bs e))

@@ -83,6 +83,13 @@ absentResult = (false, blankVoterReplacementResult)
 abbrev pub absentSnapshot : Bool × VoterSnapshotEvidence
 absentSnapshot = (false, blankVoterSnapshotEvidence)
 
+-- what stands before a table's flag: magic and version, the head, the count and the slots
+abbrev pub TableFront : Type 0
+TableFront = ((Unit {0} × TableHead) × ℕ) × List VoterSlotRecord
+
+abbrev pub blankTableFront : TableFront
+blankTableFront = (((tt, blankTableHead), 0), blankVoterSlotRecords)
+
 -- ---- a record of its groups, and its groups
 
 abbrev pub memberOf : VoterSlotIdentity → Binding → VoterSlotMember

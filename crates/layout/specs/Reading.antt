@@ -53,13 +53,13 @@ abbrev pub whyOf : Reading → Answer
 whyOf (reading.To n) = InvalidRecord
 whyOf (reading.Refused a) = a
 
--- bytes behind a size of two bytes: the answer says how many
+-- bytes after a size of two bytes: the answer says how many, and where they begin
 abbrev pub sizedRead : SizedRead → List ℕ → Res (ℕ × List ℕ)
-sizedRead (sized-read.Read n) bs = ok (n, take n (drop 2 bs)) (2 + n)
+sizedRead (sized-read.Read n at) bs = ok (n, take n (drop at bs)) (at + n)
 sizedRead (sized-read.Refused a) bs = no (numberOf a)
 
 abbrev pub whySized : SizedRead → Answer
-whySized (sized-read.Read n) = InvalidRecord
+whySized (sized-read.Read n at) = InvalidRecord
 whySized (sized-read.Refused a) = a
 
 abbrev pub u64Read : U64Read → Res ℕ

@@ -7,7 +7,7 @@ ghost use Rattle.identity.specs.Answer.{numberOf};
 ghost use Rattle.format.specs.Res.Res.{no};
 ghost use Rattle.format.specs.Copy.{zeros};
 ghost use Rattle.records.specs.Blank.{blankSpiffeId, blankSnapshotId, blankVoterSlotMember, blankVoterConfiguration, blankVoterReplacementResult, blankVoterSlotRecord, blankLostVoterAttestationV1, blankVoterSnapshotEvidence, blankVoterReplacementEvidence, blankVoterReplacementRecord, blankVoterSlotTable};
-ghost use Rattle.layout.specs.Parts.{absentResult, absentSnapshot, blankBinding, blankResultHead, blankSlotMember, blankClaimsRequest, blankClaimsSlot, blankClaimsNames, blankClaimsEnd, blankChange, blankTableHead, blankVoterSlotMembers, blankVoterSlotRecords};
+ghost use Rattle.layout.specs.Parts.{absentResult, absentSnapshot, blankBinding, blankResultHead, blankSlotMember, blankClaimsRequest, blankClaimsSlot, blankClaimsNames, blankClaimsEnd, blankChange, blankTableHead, blankTableFront, blankVoterSlotMembers, blankVoterSlotRecords};
 ghost use Rattle.layout.specs.Reading.{report, outcome, whyOf, whyU64, whyU16, whyU8, whyBool, whySized, whyIdentity, whyLogId, whyOptionalLogId, whyThreeCuts, whyTimes};
 use crate::parts::Binding;
 use crate::parts::Change;
@@ -83,9 +83,9 @@ pub enum BoolRead {
     Refused(Answer),
 }
 
-// So many bytes behind a size of two bytes.
+// How many bytes stand after their size, and the place where they begin.
 pub enum SizedRead {
-    Read(usize),
+    Read(usize, usize),
     Refused(Answer),
 }
 
@@ -246,6 +246,13 @@ pub struct TableHeadRead {
     pub value: TableHead,
 }
 
+pub struct TableFrontRead {
+    pub answer: Reading,
+    pub head: TableHead,
+    pub count: usize,
+    pub slots: [VoterSlotRecord; 9],
+}
+
 pub struct TableRead {
     pub answer: Reading,
     pub value: VoterSlotTable,
@@ -301,7 +308,7 @@ pub fn why_sized(answer: SizedRead) -> Answer
     ensures { λ r. ⌜ r ≡ whySized answer ⌝ }
 {
     match answer {
-        SizedRead::Read(_) => Answer::InvalidRecord,
+        SizedRead::Read(_, _) => Answer::InvalidRecord,
         SizedRead::Refused(refusal) => refusal,
     }
 }
@@ -585,6 +592,19 @@ pub fn refused_table_head(answer: Answer) -> TableHeadRead
     TableHeadRead {
         answer: Reading::Refused(answer),
         value: blank_table_head(),
+    }
+}
+
+pub fn refused_table_front(answer: Answer) -> TableFrontRead
+    ensures { λ r. ⌜ (report (r .answer), (((tt, r .head), r .count), r .slots)) ≡ outcome blankTableFront (no (numberOf answer)) ⌝ }
+{
+    let head = blank_table_head();
+    let slots = blank_voter_slot_records();
+    TableFrontRead {
+        answer: Reading::Refused(answer),
+        head,
+        count: 0,
+        slots,
     }
 }
 

@@ -3,21 +3,14 @@
 // Ported from crates/opc-consensus/src/voter_slots/codec.rs of openpacketcore-sdk, commit
 // 717de332e7, Apache-2.0 (see NOTICE). Changed: each field has a reader of its own, which is handed
 // the rest of the bytes and gives the count that it took.
-ghost use mathlib.Core.Bool.{true};
 ghost use mathlib.Core.Path.{_≡_};
-ghost use Prim.Native.Nat.{_+_, _≤_};
-ghost use lib.ListN.{length, drop};
-ghost use Rattle.format.specs.Res.{andThen};
-ghost use Rattle.format.specs.Res.Res.{ok};
+ghost use Prim.Native.Nat.{_≤_};
 ghost use Rattle.format.specs.List.{opt};
 ghost use Rattle.format.specs.Through.{whole, boxed};
 ghost use Rattle.records.specs.Blank.{blankVoterSlotMember, blankVoterConfiguration, blankVoterReplacementResult, blankVoterSlotRecord, blankLostVoterAttestationV1, blankVoterSnapshotEvidence, blankVoterReplacementEvidence, blankVoterReplacementRecord, blankVoterSlotTable};
-ghost use Rattle.layout.specs.Parts.{absentResult, absentSnapshot, blankBinding, blankClaimsRequest, blankClaimsSlot, blankClaimsNames, blankClaimsEnd, blankResultHead, blankSlotMember, blankChange, blankTableHead, blankVoterSlotMembers, blankVoterSlotRecords, tableOf};
+ghost use Rattle.layout.specs.Parts.{absentResult, absentSnapshot, blankBinding, blankClaimsRequest, blankClaimsSlot, blankClaimsNames, blankClaimsEnd, blankResultHead, blankSlotMember, blankChange, blankTableHead, blankTableFront, blankVoterSlotMembers, blankVoterSlotRecords};
 ghost use Rattle.layout.specs.Reading.{report, outcome};
-ghost use Rattle.layout.specs.Format.{binding, member, members, configuration, resultHead, result, slotMember, slot, slots, claimsRequest, claimsSlot, claimsNames, claimsEnd, claims, attestation, snapshot, evidence, change, replacement, tableHead, table};
-use crate::reader::read_array16;
-use crate::reader::read_array32;
-use crate::reader::read_array64;
+ghost use Rattle.layout.specs.Format.{binding, member, members, configuration, resultHead, result, slotMember, slot, slots, claimsRequest, claimsSlot, claimsNames, claimsEnd, claims, attestation, snapshot, evidence, change, replacement, tableHead, tableFront, table};
 use crate::reader::read_choice;
 use crate::reader::read_count;
 use crate::reader::read_epoch;
@@ -26,14 +19,17 @@ use crate::reader::read_head;
 use crate::reader::read_identity;
 use crate::reader::read_incarnation;
 use crate::reader::read_log_id;
-use crate::reader::read_sized;
 use crate::reader::read_snapshot_id;
 use crate::reader::read_spiffe_id;
 use crate::reader::read_three_cuts;
 use crate::reader::read_times;
-use crate::reader::read_u64;
 use crate::reader::read_version;
 use identity::answer::Answer;
+use layout::get::read_array16;
+use layout::get::read_array32;
+use layout::get::read_array64;
+use layout::get::read_sized;
+use layout::get::read_u64;
 use layout::parts::Binding;
 use layout::parts::Change;
 use layout::parts::ClaimsEnd;
@@ -76,6 +72,7 @@ use layout::reading::SlotMemberRead;
 use layout::reading::SlotRead;
 use layout::reading::SlotsRead;
 use layout::reading::SnapshotRead;
+use layout::reading::TableFrontRead;
 use layout::reading::TableHeadRead;
 use layout::reading::TableRead;
 use layout::reading::ThreeCutsRead;
@@ -105,6 +102,7 @@ use layout::reading::refused_slot_member;
 use layout::reading::refused_slots;
 use layout::reading::refused_snapshot;
 use layout::reading::refused_table;
+use layout::reading::refused_table_front;
 use layout::reading::refused_table_head;
 use layout::reading::why;
 use layout::reading::why_bool;
@@ -616,17 +614,18 @@ fn read_boxed_attestation(bytes: &[u8]) -> AttestationRead
     ensures { λ r. ⌜ (report (r .answer), r .value) ≡ outcome blankLostVoterAttestationV1 (boxed attestation 8192 .dec (now (bytes .entry))) ⌝ }
 {
     let size = read_sized(bytes, MAX_LOST_VOTER_ATTESTATION_BYTES);
-    let SizedRead::Read(len) = size else {
+    let SizedRead::Read(len, at) = size else {
         return refused_attestation(why_sized(size));
     };
-    let read = read_whole_attestation(&bytes[2..2 + len]);
+    let end = at + len;
+    let read = read_whole_attestation(&bytes[at..end]);
     let to = read.answer;
     let Reading::To(_) = to else {
         return read;
     };
     let value = read.value;
     AttestationRead {
-        answer: Reading::To(2 + len),
+        answer: Reading::To(end),
         value,
     }
 }
@@ -822,18 +821,63 @@ pub fn read_table_head(bytes: &[u8]) -> TableHeadRead
     }
 }
 
-// What ends a table with an open request, behind the yes that says so: what stands before that was
-// read up to `at`.
-fn read_open_table(
-    bytes: &[u8],
-    at: usize,
-    head: TableHead,
-    count: usize,
-    slots: [VoterSlotRecord; 9],
-) -> TableRead
-    requires { ⌜ at ≤ length (now bytes) ⌝ }
-    ensures { λ r. ⌜ (report (r .answer), r .value) ≡ outcome blankVoterSlotTable (andThen (replacement .dec (drop at (now (bytes .entry)))) (λ x n. ok (tableOf head count slots true x) (at + n))) ⌝ }
+// What stands before the flag of a table: magic and version, the head, the count and the slots.
+pub fn read_table_front(bytes: &[u8]) -> TableFrontRead
+    ensures { λ r. ⌜ (report (r .answer), (((tt, r .head), r .count), r .slots)) ≡ outcome blankTableFront (tableFront .dec (now (bytes .entry))) ⌝ }
 {
+    let magic = read_head(bytes);
+    let Reading::To(at) = magic else {
+        return refused_table_front(why(magic));
+    };
+    let head_read = read_table_head(&bytes[at..]);
+    let head_to = head_read.answer;
+    let Reading::To(n) = head_to else {
+        return refused_table_front(why(head_to));
+    };
+    let head = head_read.value;
+    let at = at + n;
+    let count_read = read_count(&bytes[at..]);
+    let U8Read::Read(count, n) = count_read else {
+        return refused_table_front(why_u8(count_read));
+    };
+    let at = at + n;
+    let slots_read = read_slots(&bytes[at..], count as usize);
+    let slots_to = slots_read.answer;
+    let Reading::To(n) = slots_to else {
+        return refused_table_front(why(slots_to));
+    };
+    let slots = slots_read.value;
+    TableFrontRead {
+        answer: Reading::To(at + n),
+        head,
+        count: count as usize,
+        slots,
+    }
+}
+
+// The fields of a table; whatever may stand behind them. The table is made here, where its cursor is
+// known: handed on by a reader of the open request's end, its 8 KB would be copied once more.
+pub fn read_table(bytes: &[u8]) -> TableRead
+    ensures { λ r. ⌜ (report (r .answer), r .value) ≡ outcome blankVoterSlotTable (table .dec (now (bytes .entry))) ⌝ }
+{
+    let front = read_table_front(bytes);
+    let front_to = front.answer;
+    let Reading::To(at) = front_to else {
+        return refused_table(why(front_to));
+    };
+    let head = front.head;
+    let slots = front.slots;
+    let flag = read_flag(&bytes[at..]);
+    let BoolRead::Read(is_open, n) = flag else {
+        return refused_table(why_bool(flag));
+    };
+    let at = at + n;
+    if !is_open {
+        return TableRead {
+            answer: Reading::To(at),
+            value: idle_table_of(head, front.count, slots),
+        };
+    }
     let replacement_read = read_replacement(&bytes[at..]);
     let replacement_to = replacement_read.answer;
     let Reading::To(n) = replacement_to else {
@@ -842,47 +886,6 @@ fn read_open_table(
     let replacement = replacement_read.value;
     TableRead {
         answer: Reading::To(at + n),
-        value: table_of(head, count, slots, true, replacement),
-    }
-}
-
-// The fields of a table; whatever may stand behind them.
-pub fn read_table(bytes: &[u8]) -> TableRead
-    ensures { λ r. ⌜ (report (r .answer), r .value) ≡ outcome blankVoterSlotTable (table .dec (now (bytes .entry))) ⌝ }
-{
-    let magic = read_head(bytes);
-    let Reading::To(at) = magic else {
-        return refused_table(why(magic));
-    };
-    let head_read = read_table_head(&bytes[at..]);
-    let head_to = head_read.answer;
-    let Reading::To(n) = head_to else {
-        return refused_table(why(head_to));
-    };
-    let head = head_read.value;
-    let at = at + n;
-    let count_read = read_count(&bytes[at..]);
-    let U8Read::Read(count, n) = count_read else {
-        return refused_table(why_u8(count_read));
-    };
-    let at = at + n;
-    let slots_read = read_slots(&bytes[at..], count as usize);
-    let slots_to = slots_read.answer;
-    let Reading::To(n) = slots_to else {
-        return refused_table(why(slots_to));
-    };
-    let slots = slots_read.value;
-    let at = at + n;
-    let flag = read_flag(&bytes[at..]);
-    let BoolRead::Read(is_some, n) = flag else {
-        return refused_table(why_bool(flag));
-    };
-    let at = at + n;
-    if is_some {
-        return read_open_table(bytes, at, head, count as usize, slots);
-    }
-    TableRead {
-        answer: Reading::To(at),
-        value: idle_table_of(head, count as usize, slots),
+        value: table_of(head, front.count, slots, true, replacement),
     }
 }

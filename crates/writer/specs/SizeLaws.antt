@@ -31,7 +31,7 @@ use Rattle.records.specs.declared.records.VoterReplacementEvidence.{VoterReplac
 use Rattle.records.specs.declared.records.VoterReplacementRecord.{VoterReplacementRecord}
 use Rattle.records.specs.declared.records.VoterSlotTable.{VoterSlotTable}
 use Rattle.layout.specs.Parts.{bindingOf, resultHeadOf, slotMemberOf, claimsRequestOf, claimsSlotOf, claimsNamesOf, claimsEndOf, earlyCuts, lateCuts, tableHeadOf, ReplacementFits, TableFits}
-use Rattle.layout.specs.Format.{slotId, incarnation, epoch, count, choice, identity, logId, optionalLogId, sized, string, spiffeId, snapshotId, binding, member, members, configuration, resultHead, result, slotMember, slot, slots, version, claimsRequest, claimsSlot, claimsNames, times, claimsEnd, claims, attestation, snapshot, threeCuts, evidence, change, replacement, head, tableHead, table}
+use Rattle.layout.specs.Format.{slotId, incarnation, epoch, slotCount, choice, identity, logId, optionalLogId, sized, string, spiffeId, snapshotId, binding, member, members, configuration, resultHead, result, slotMember, slot, slots, version, claimsRequest, claimsSlot, claimsNames, times, claimsEnd, claims, attestation, snapshot, threeCuts, evidence, change, replacement, magicAndVersion, tableHead, table}
 use Rattle.writer.specs.Size.{slotSize, slotsSize, cutSize, threeCutsSize, configurationSize, attestationSize, evidenceSize, replacementSize, tableSize}
 use Rattle.layout.specs.declared.parts.ThreeCuts.{ThreeCuts}
 
@@ -123,7 +123,7 @@ members-long n l k h =
 
 -- an epoch, a count, and the members
 pub configuration-long : (c : VoterConfiguration) → HeldVoterConfiguration c → c .count ≤ 9 → length (configuration .enc c) ≡ configurationSize c
-unfolding configuration via dep epoch count check
+unfolding configuration via dep epoch slotCount check
 configuration-long c h k = simp (length-append, uint-long, members-long (c .count) (c .members) k (h .members))
 
 -- ---- slots
@@ -292,8 +292,8 @@ replacement-long r h f =
 -- ---- a table
 
 -- the magic and the version
-pub head-long : (u : Unit {0}) → length (head .enc u) ≡ 6
-unfolding head via check dep
+pub head-long : (u : Unit {0}) → length (magicAndVersion .enc u) ≡ 6
+unfolding magicAndVersion via check dep
 head-long u = simp (raw-same, uint-long)
 
 -- two digests of 32, and two numbers
@@ -303,7 +303,7 @@ tableHead-long t h = simp (length-append, uint-long, raw-same, h .«cluster_inst
 
 pub table-sum : (t : VoterSlotTable) → HeldVoterSlotTable t
     → length (table .enc t) ≡ 88 + length (slots (t .count) .enc (t .slots)) + cond (t .«has_replacement») (length (replacement .enc (t .replacement))) 0
-unfolding table via dep count check
+unfolding table via dep slotCount check
 table-sum t h = simp (length-append, head-long, tableHead-long t h, uint-long, opt-long) (omega arith)
 
 -- and so a table

@@ -11,7 +11,7 @@ ghost use Rattle.format.specs.Put.{Put};
 ghost use Rattle.format.specs.Through.{boxed};
 ghost use Rattle.records.specs.Blank.{blankVoterReplacementResult, blankVoterSnapshotEvidence, blankVoterReplacementRecord};
 ghost use Rattle.layout.specs.Parts.{ReplacementFits, TableFits, bindingOf, resultHeadOf, slotMemberOf, timesOf, claimsRequestOf, claimsSlotOf, claimsNamesOf, claimsEndOf, changeOf, tableHeadOf};
-ghost use Rattle.layout.specs.Format.{identity, logId, optionalLogId, threeCuts, binding, member, members, configuration, resultHead, result, slotMember, slot, slots, spiffeId, snapshotId, claimsRequest, claimsSlot, claimsNames, times, claimsEnd, claims, attestation, snapshot, evidence, change, replacement, head, tableHead, table};
+ghost use Rattle.layout.specs.Format.{identity, logId, optionalLogId, threeCuts, binding, member, members, configuration, resultHead, result, slotMember, slot, slots, spiffeId, snapshotId, claimsRequest, claimsSlot, claimsNames, times, claimsEnd, claims, attestation, snapshot, evidence, change, replacement, magicAndVersion, tableHead, table};
 use identity::identity::VoterSlotIdentity;
 use layout::parts::ThreeCuts;
 use layout::parts::VERSION;
@@ -389,8 +389,8 @@ fn put_optional_replacement(
 
 // The magic and the version.
 fn put_head(buffer: &mut [u8], at: usize) -> usize
-    requires { ⌜ at + length (head .enc tt) ≤ length (now buffer) ⌝ }
-    ensures { λ r. ⌜ Put (head .enc tt) at (now (buffer .entry)) (now (buffer .exit)) r ⌝ }
+    requires { ⌜ at + length (magicAndVersion .enc tt) ≤ length (now buffer) ⌝ }
+    ensures { λ r. ⌜ Put (magicAndVersion .enc tt) at (now (buffer .entry)) (now (buffer .exit)) r ⌝ }
 {
     let at = put_bytes(buffer, at, b"OPVI");
     put_be(buffer, at, 2, VERSION)

@@ -17,4 +17,7 @@ returns c = ap (λ v. (no (numberOf (c .before .args .answer)), (false, v))) (c 
 
 pub refused-optional-snapshot-spec : {M : Type 1} → statement M
 refused-optional-snapshot-spec =
-    tie.close (tie.spec blank-voter-snapshot-evidence-requires returns)
+    tie.close
+    (tie.spec
+    blank-voter-snapshot-evidence-requires
+    returns)

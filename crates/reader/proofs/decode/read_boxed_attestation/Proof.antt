@@ -1,7 +1,6 @@
 -- `reader::decode::read_boxed_attestation` meets its contract. Assumes nothing.
-use Prim.Native.Nat.{ℕ, _+_, _-_, _≤_}
+use Prim.Native.Nat.{_+_, _≤_}
 use mathlib.Core.Path.{_≡_, sym, ap, _∙_}
-use mathlib.Core.List.{List}
 use native.Mathlib.Nat.{lt-of-le-of-lt}
 use native.Mathlib.Omega.{arith}
 use lib.ListN.{length, take, drop}
@@ -10,6 +9,7 @@ use Rattle.format.specs.Through.{whole, boxed-ok, boxed-no-1, boxed-no-2}
 use Rattle.identity.specs.Answer.{numberOf}
 use Rattle.records.specs.Blank.{blankLostVoterAttestationV1}
 use Rattle.layout.specs.Format.{sized, attestation}
+use Rattle.layout.specs.FormatLaws.{part-is}
 use Rattle.layout.specs.Reading.{outcome, sizedRead, whySized}
 use Rattle.layout.specs.ReadingLaws.{got, told, told-not, outcome-ok, outcome-no}
 use borrow.Author.Needs.{needs}
@@ -17,16 +17,11 @@ use Rattle.reader.proofs.decode.read_boxed_attestation.Statement.{state
 use Rattle.reader.proofs.decode.read_boxed_attestation.Tie as tie
 
 -- the size and the bytes
-is : (c : tie.After-known-told) → sized 8192 .dec (c .before .before .before .before .before .args .bytes .now)
-    ≡ ok (c .before .size .given .0 .0, take (c .before .size .given .0 .0) (drop 2 (c .before .before .before .before .before .args .bytes .now))) (2 + c .before .size .given .0 .0)
+is : (c : tie.After-known-told) → sized 8192 .dec (c .before .before .before .before .before .args .bytes .now) ≡ ok (c .before .size .given .0 .0, take (c .before .size .given .0 .0) (drop (c .before .size .given .0 .1 .0) (c .before .before .before .before .before .args .bytes .now))) (c .before .size .given .0 .1 .0 + c .before .size .given .0 .0)
 is c = got (λ r. sizedRead r (c .before .before .before .before .before .args .bytes .now)) (c .before .before .before .read-sized .ensures) (c .before .size .given .1)
 
-fits : (c : tie.After-known-told) → 2 + c .before .size .given .0 .0 ≤ length (c .before .before .before .before .before .args .bytes .now)
+fits : (c : tie.After-known-told) → c .before .size .given .0 .1 .0 + c .before .size .given .0 .0 ≤ length (c .before .before .before .before .before .args .bytes .now)
 fits c = sized 8192 .within _ (is c)
-
--- the bytes, as the slice says them
-bytes : (n : ℕ) (s : List ℕ) → take (2 + n - 2) (drop 2 s) ≡ take n (drop 2 s)
-bytes n s = let e : 2 + n - 2 ≡ n = omega arith in ap (λ m. take m (drop 2 s)) e
 
 read-sized-requires : tie.Need-read-sized-requires
 read-sized-requires c κs = search needs
@@ -50,14 +45,14 @@ returns c =
     outcome-no blankLostVoterAttestationV1 (c .refused-attestation .ensures ∙ ap (λ a. outcome blankLostVoterAttestationV1 (no (numberOf a))) (c .before .why-sized .ensures ∙ ap whySized (c .before .before .enum-told .given .1)))
     (boxed-no-1 _ _ s (got (λ r. sizedRead r s) (c .before .before .before .before .read-sized .ensures) (c .before .before .enum-told .given .1)))
 
-add-read-whole-attestation : tie.Need-add-read-whole-attestation
-add-read-whole-attestation c = record { fits = lt-of-le-of-lt (fits c) (c .before .before .before .before .before .good .0 .0) }
+add-end : tie.Need-add-end
+add-end c = record { fits = lt-of-le-of-lt (fits c) (c .before .before .before .before .before .good .0 .0) }
 
 sub-read-whole-attestation : tie.Need-sub-read-whole-attestation
-sub-read-whole-attestation c = search needs
+sub-read-whole-attestation c = omega arith
 
 part-read-whole-attestation-start : tie.Need-part-read-whole-attestation-start
-part-read-whole-attestation-start c = search needs
+part-read-whole-attestation-start c = omega arith
 
 part-read-whole-attestation-end : tie.Need-part-read-whole-attestation-end
 part-read-whole-attestation-end c = fits c
@@ -75,18 +70,15 @@ returns-2 : tie.Need-returns-2
 unfolding sized
 returns-2 c =
     let s = c .before .before .before .before .before .before .before .before .before .args .bytes .now in
-    let p = (c .before .before .read-whole-attestation .ensures ∙ ap (λ l. outcome blankLostVoterAttestationV1 (whole attestation l)) (bytes (c .before .before .before .before .before .size .given .0 .0) s)) in
+    let p = (c .before .before .read-whole-attestation .ensures ∙ ap (λ l. outcome blankLostVoterAttestationV1 (whole attestation l)) (part-is (c .before .before .before .before .before .size .given .0 .0) (c .before .before .before .before .before .size .given .0 .1 .0) s)) in
     let e = told-not blankLostVoterAttestationV1 _ p (c .enum-told3 .given .1) in
     p ∙ ap (outcome blankLostVoterAttestationV1) (e ∙ sym (boxed-no-2 _ _ s (is (c .before .before .before .before)) e))
-
-add-t8 : tie.Need-add-t8
-add-t8 c = record { fits = lt-of-le-of-lt (fits (c .before .before .before .before .before)) (c .before .before .before .before .before .before .before .before .before .before .good .0 .0) }
 
 returns-3 : tie.Need-returns-3
 unfolding sized
 returns-3 c =
     let s = c .before .before .before .before .before .before .before .before .before .before .args .bytes .now in
-    outcome-ok blankLostVoterAttestationV1 (boxed-ok _ _ s (is (c .before .before .before .before .before)) (told blankLostVoterAttestationV1 _ (c .before .before .before .read-whole-attestation .ensures ∙ ap (λ l. outcome blankLostVoterAttestationV1 (whole attestation l)) (bytes (c .before .before .before .before .before .before .size .given .0 .0) s)) (c .before .enum-told2 .given .1)))
+    outcome-ok blankLostVoterAttestationV1 (boxed-ok _ _ s (is (c .before .before .before .before .before)) (told blankLostVoterAttestationV1 _ (c .before .before .before .read-whole-attestation .ensures ∙ ap (λ l. outcome blankLostVoterAttestationV1 (whole attestation l)) (part-is (c .before .before .before .before .before .before .size .given .0 .0) (c .before .before .before .before .before .before .size .given .0 .1 .0) s)) (c .before .enum-told2 .given .1)))
 
 pub read-boxed-attestation-spec : {M : Type 1} → statement M
 read-boxed-attestation-spec =
@@ -98,7 +90,7 @@ read-boxed-attestation-spec =
     why-sized-requires
     refused-attestation-requires
     returns
-    add-read-whole-attestation
+    add-end
     sub-read-whole-attestation
     part-read-whole-attestation-start
     part-read-whole-attestation-end
@@ -106,5 +98,4 @@ read-boxed-attestation-spec =
     enum-told-2
     enum-told-3
     returns-2
-    add-t8
     returns-3)

@@ -9,7 +9,7 @@ use Rattle.format.specs.Res.Res.{ok, no}
 use Rattle.format.specs.Codec.{Codec, dep, dep-ok, dep-no-1, dep-no-2, via-ok, via-no, rest}
 use Rattle.records.specs.Blank.{blankVoterConfiguration}
 use Rattle.layout.specs.Parts.{blankVoterSlotMembers}
-use Rattle.layout.specs.Format.{epoch, count, members, configuration}
+use Rattle.layout.specs.Format.{epoch, slotCount, members, configuration}
 use Rattle.layout.specs.FormatLaws.{count-read}
 use Rattle.layout.specs.Reading.{outcome, u64Read, u8Read, whyOf, whyU64, whyU8}
 use Rattle.layout.specs.ReadingLaws.{told, told-not, got, outcome-ok, outcome-no}
@@ -23,7 +23,7 @@ abbrev c1 : Codec (ℕ)
 c1 = epoch
 
 abbrev c2 : Codec (ℕ × ℕ)
-c2 = dep c1 (λ a. count)
+c2 = dep c1 (λ a. slotCount)
 
 abbrev c3 : Codec ((ℕ × ℕ) × List VoterSlotMember)
 c3 = dep c2 (λ a. members (a .1))
@@ -32,13 +32,13 @@ got-1 : (c : tie.After-known-told) → c1 .dec (c .before .before .before .befor
 got-1 c = got u64Read (c .before .before .before .read-epoch .ensures) (c .before .epoch-read .given .1)
 
 got-2 : (c : tie.After-known-told2) → c2 .dec (c .before .before .before .before .before .before .before .before .before .before .args .bytes .now) ≡ ok (c .before .before .before .before .before .before .epoch-read .given .0 .0, c .before .count-read .given .0 .0) (c .before .before .before .before .before .before .epoch-read .given .0 .1 .0 + c .before .count-read .given .0 .1 .0)
-got-2 c = dep-ok _ _ _ (got-1 (c .before .before .before .before .before)) (got u8Read (c .before .before .before .read-count .ensures ∙ ap (count .dec) (rest (c .before .before .before .before .before .before .before .before .before .before .args .bytes .now) _)) (c .before .count-read .given .1))
+got-2 c = dep-ok _ _ _ (got-1 (c .before .before .before .before .before)) (got u8Read (c .before .before .before .read-count .ensures ∙ ap (slotCount .dec) (rest (c .before .before .before .before .before .before .before .before .before .before .args .bytes .now) _)) (c .before .count-read .given .1))
 
 got-3 : (c : tie.After-members) → c3 .dec (c .before .before .before .before .before .before .before .before .before .before .before .before .before .before .before .before .args .bytes .now) ≡ ok ((c .before .before .before .before .before .before .before .before .before .before .before .before .epoch-read .given .0 .0, c .before .before .before .before .before .before .before .count-read .given .0 .0), c .before .before .before .before .read-members .result .value) ((c .before .before .before .before .before .before .before .before .before .before .before .before .epoch-read .given .0 .1 .0 + c .before .before .before .before .before .before .before .count-read .given .0 .1 .0) + c .before .before .members-to .given .0 .0)
 got-3 c = dep-ok _ _ _ (got-2 (c .before .before .before .before .before .before)) (told blankVoterSlotMembers _ (c .before .before .before .before .read-members .ensures ∙ ap (λ l. outcome blankVoterSlotMembers ((members (c .before .before .before .before .before .before .before .count-read .given .0 .0)) .dec l)) (rest (c .before .before .before .before .before .before .before .before .before .before .before .before .before .before .before .before .args .bytes .now) _)) (c .before .before .members-to .given .1))
 
-counted : (c : tie.After-known-told2) → count .dec (drop (c .before .before .before .before .before .before .epoch-read .given .0 .1 .0) (c .before .before .before .before .before .before .before .before .before .before .args .bytes .now)) ≡ ok (c .before .count-read .given .0 .0) (c .before .count-read .given .0 .1 .0)
-counted c = got u8Read (c .before .before .before .read-count .ensures ∙ ap (count .dec) (rest (c .before .before .before .before .before .before .before .before .before .before .args .bytes .now) _)) (c .before .count-read .given .1)
+counted : (c : tie.After-known-told2) → slotCount .dec (drop (c .before .before .before .before .before .before .epoch-read .given .0 .1 .0) (c .before .before .before .before .before .before .before .before .before .before .args .bytes .now)) ≡ ok (c .before .count-read .given .0 .0) (c .before .count-read .given .0 .1 .0)
+counted c = got u8Read (c .before .before .before .read-count .ensures ∙ ap (slotCount .dec) (rest (c .before .before .before .before .before .before .before .before .before .before .args .bytes .now) _)) (c .before .count-read .given .1)
 
 read-epoch-requires : tie.Need-read-epoch-requires
 read-epoch-requires c κs = search needs
@@ -89,7 +89,7 @@ returns-2 : tie.Need-returns-2
 unfolding configuration
 returns-2 c =
     outcome-no _ (c .refused-configuration2 .ensures ∙ ap (λ a. outcome blankVoterConfiguration (no (numberOf a))) (c .before .why-u8 .ensures ∙ ap whyU8 (c .before .before .enum-told2 .given .1)))
-    (via-no _ _ _ _ _ (dep-no-1 _ _ _ (dep-no-2 _ _ _ (got-1 (c .before .before .before .before .before .before)) (got u8Read (c .before .before .before .before .read-count .ensures ∙ ap (count .dec) (rest (c .before .before .before .before .before .before .before .before .before .before .before .args .bytes .now) _)) (c .before .before .enum-told2 .given .1)))))
+    (via-no _ _ _ _ _ (dep-no-1 _ _ _ (dep-no-2 _ _ _ (got-1 (c .before .before .before .before .before .before)) (got u8Read (c .before .before .before .before .read-count .ensures ∙ ap (slotCount .dec) (rest (c .before .before .before .before .before .before .before .before .before .before .before .args .bytes .now) _)) (c .before .before .enum-told2 .given .1)))))
 
 add-at : tie.Need-add-at
 add-at c = record { fits = lt-of-le-of-lt (c2 .within _ (got-2 c)) (c .before .before .before .before .before .before .before .before .before .before .good .0 .0) }

@@ -1,92 +1,65 @@
--- `reader::decode::read_table` meets its contract: field by field, and at the end by the flag. Written by hand, in the form of scripts/readers.py. Assumes nothing.
+-- `reader::decode::read_table` meets its contract: the front, the flag, and after a yes the open request. Assumes nothing.
 use Prim.Native.Nat.{ℕ, _+_}
 use native.Mathlib.Omega.{arith}
-use mathlib.Core.Bool.{Bool, true}
+use mathlib.Core.Bool.{true}
 use mathlib.Core.List.{List}
-use mathlib.Core.Path.{_≡_, refl, sym, ap, _∙_}
+use mathlib.Core.Path.{_≡_, sym, ap, _∙_}
 use native.Mathlib.Nat.{lt-of-le-of-lt}
 use borrow.Author.Needs.{needs}
+use borrow.Author.Tests.{not-true, not-false}
 use lib.ListN.{drop}
 use lib.Seq.{drop-drop}
-use Rattle.format.specs.Res.{Res, andThen}
 use Rattle.format.specs.Res.Res.{ok, no}
-use Rattle.format.specs.Codec.{Codec, dep, dep-ok, dep-no-1, dep-no-2, via-ok, via-no, rest}
-use Rattle.records.specs.Blank.{blankVoterSlotTable}
-use Rattle.layout.specs.Parts.{tableOf, blankTableHead, blankVoterSlotRecords}
+use Rattle.format.specs.Codec.{dep, dep-ok, dep-no-1, dep-no-2, via-ok, via-no, rest}
 use Rattle.format.specs.List.{flag, opt-no, opt-none, opt-some, opt-bad}
-use Rattle.layout.specs.Format.{count, head, slots, replacement, tableHead, table}
-use Rattle.layout.specs.FormatLaws.{count-read}
-use Rattle.layout.specs.Reading.{report, outcome, u8Read, boolRead, whyOf, whyU8, whyBool}
+use Rattle.records.specs.Blank.{blankVoterReplacementRecord, blankVoterSlotTable}
+use Rattle.records.specs.declared.records.VoterReplacementRecord.{VoterReplacementRecord}
+use Rattle.layout.specs.Parts.{tableOf, TableFront, blankTableFront}
+use Rattle.layout.specs.Format.{replacement, tableFront, table}
+use Rattle.layout.specs.Reading.{outcome, boolRead, whyOf, whyBool}
 use Rattle.layout.specs.ReadingLaws.{told, told-not, got, outcome-ok, outcome-no}
 use Rattle.identity.specs.Answer.{numberOf}
-use Rattle.records.specs.declared.records.VoterSlotRecord.{VoterSlotRecord}
-use Rattle.records.specs.declared.records.VoterReplacementRecord.{VoterReplacementRecord}
-use Rattle.records.specs.declared.records.VoterSlotTable.{VoterSlotTable}
-use Rattle.layout.specs.declared.parts.TableHead.{TableHead}
 use Rattle.reader.proofs.decode.read_table.Statement.{statement}
 use Rattle.reader.proofs.decode.read_table.Tie as tie
 
--- after each field: what was read so far, and up to where
-abbrev c1 : Codec (Unit {0})
-c1 = head
-
-abbrev c2 : Codec (Unit {0} × TableHead)
-c2 = dep c1 (λ a. tableHead)
-
-abbrev c3 : Codec ((Unit {0} × TableHead) × ℕ)
-c3 = dep c2 (λ a. count)
-
-abbrev c4 : Codec (((Unit {0} × TableHead) × ℕ) × List VoterSlotRecord)
-c4 = dep c3 (λ a. slots (a .1))
-
-abbrev c5 : Codec ((((Unit {0} × TableHead) × ℕ) × List VoterSlotRecord) × Bool)
-c5 = dep c4 (λ a. flag)
-
-got-1 : (c : tie.After-known-told) → c1 .dec (c .before .before .before .before .before .args .bytes .now) ≡ ok tt (c .before .magic .given .0 .0)
-got-1 c = got report (c .before .before .before .read-head .ensures) (c .before .magic .given .1)
-
-got-2 : (c : tie.After-head) → c2 .dec (c .before .before .before .before .before .before .before .before .before .before .before .args .bytes .now) ≡ ok (tt, c .before .before .before .before .read-table-head .result .value) (c .before .before .before .before .before .before .before .magic .given .0 .0 + c .before .before .head-to .given .0 .0)
-got-2 c = dep-ok _ _ _ (got-1 (c .before .before .before .before .before .before)) (told blankTableHead _ (c .before .before .before .before .read-table-head .ensures ∙ ap (λ l. outcome blankTableHead (tableHead .dec l)) (rest (c .before .before .before .before .before .before .before .before .before .before .before .args .bytes .now) _)) (c .before .before .head-to .given .1))
-
-got-3 : (c : tie.After-known-told3) → c3 .dec (c .before .before .before .before .before .before .before .before .before .before .before .before .before .before .before .before .args .bytes .now) ≡ ok ((tt, c .before .before .before .before .before .before .before .before .before .read-table-head .result .value), c .before .count-read .given .0 .0) ((c .before .before .before .before .before .before .before .before .before .before .before .before .magic .given .0 .0 + c .before .before .before .before .before .before .before .head-to .given .0 .0) + c .before .count-read .given .0 .1 .0)
-got-3 c = dep-ok _ _ _ (got-2 (c .before .before .before .before .before)) (got u8Read (c .before .before .before .read-count .ensures ∙ ap (count .dec) (rest (c .before .before .before .before .before .before .before .before .before .before .before .before .before .before .before .before .args .bytes .now) _)) (c .before .count-read .given .1))
-
-got-4 : (c : tie.After-slots) → c4 .dec (c .before .before .before .before .before .before .before .before .before .before .before .before .before .before .before .before .before .before .before .before .before .before .args .bytes .now) ≡ ok (((tt, c .before .before .before .before .before .before .before .before .before .before .before .before .before .before .before .read-table-head .result .value), c .before .before .before .before .before .before .before .count-read .given .0 .0), c .before .before .before .before .read-slots .result .value) (((c .before .before .before .before .before .before .before .before .before .before .before .before .before .before .before .before .before .before .magic .given .0 .0 + c .before .before .before .before .before .before .before .before .before .before .before .before .before .head-to .given .0 .0) + c .before .before .before .before .before .before .before .count-read .given .0 .1 .0) + c .before .before .slots-to .given .0 .0)
-got-4 c = dep-ok _ _ _ (got-3 (c .before .before .before .before .before .before)) (told blankVoterSlotRecords _ (c .before .before .before .before .read-slots .ensures ∙ ap (λ l. outcome blankVoterSlotRecords ((slots (c .before .before .before .before .before .before .before .count-read .given .0 .0)) .dec l)) (rest (c .before .before .before .before .before .before .before .before .before .before .before .before .before .before .before .before .before .before .before .before .before .before .args .bytes .now) _)) (c .before .before .slots-to .given .1))
+-- the front that was read, and up to where
+front : (c : tie.After-slots) → tableFront .dec (c .before .before .before .before .before .before .before .args .bytes .now) ≡ ok (((tt, c .before .before .before .before .before .read-table-front .result .head), c .before .before .before .before .before .read-table-front .result .count), c .before .before .before .before .before .read-table-front .result .slots) (c .before .before .before .front-to .given .0 .0)
+front c = told blankTableFront _ (c .before .before .before .before .before .read-table-front .ensures) (c .before .before .before .front-to .given .1)
 
 -- whether there is an open request
-flagged : (c : tie.After-known-told5) → flag .dec (drop (((c .before .before .before .before .before .before .before .before .before .before .before .before .before .before .before .before .before .before .before .before .before .before .before .magic .given .0 .0 + c .before .before .before .before .before .before .before .before .before .before .before .before .before .before .before .before .before .before .head-to .given .0 .0) + c .before .before .before .before .before .before .before .before .before .before .before .before .count-read .given .0 .1 .0) + c .before .before .before .before .before .before .before .slots-to .given .0 .0) (c .before .before .before .before .before .before .before .before .before .before .before .before .before .before .before .before .before .before .before .before .before .before .before .before .before .before .before .args .bytes .now)) ≡ ok (c .before .flag .given .0 .0) (c .before .flag .given .0 .1 .0)
-flagged c = got boolRead (c .before .before .before .read-flag .ensures ∙ ap (flag .dec) (rest (c .before .before .before .before .before .before .before .before .before .before .before .before .before .before .before .before .before .before .before .before .before .before .before .before .before .before .before .args .bytes .now) _)) (c .before .flag .given .1)
+flagged : (c : tie.After-known-told2) → flag .dec (drop (c .before .before .before .before .before .before .before .before .front-to .given .0 .0) (c .before .before .before .before .before .before .before .before .before .before .before .before .args .bytes .now)) ≡ ok (c .before .flag .given .0 .0) (c .before .flag .given .0 .1 .0)
+flagged c = got boolRead (c .before .before .before .read-flag .ensures ∙ ap (flag .dec) (rest (c .before .before .before .before .before .before .before .before .before .before .before .before .args .bytes .now) _)) (c .before .flag .given .1)
 
-got-5 : (c : tie.After-known-told5) → c5 .dec (c .before .before .before .before .before .before .before .before .before .before .before .before .before .before .before .before .before .before .before .before .before .before .before .before .before .before .before .args .bytes .now) ≡ ok ((((tt, c .before .before .before .before .before .before .before .before .before .before .before .before .before .before .before .before .before .before .before .before .read-table-head .result .value), c .before .before .before .before .before .before .before .before .before .before .before .before .count-read .given .0 .0), c .before .before .before .before .before .before .before .before .before .read-slots .result .value), c .before .flag .given .0 .0) ((((c .before .before .before .before .before .before .before .before .before .before .before .before .before .before .before .before .before .before .before .before .before .before .before .magic .given .0 .0 + c .before .before .before .before .before .before .before .before .before .before .before .before .before .before .before .before .before .before .head-to .given .0 .0) + c .before .before .before .before .before .before .before .before .before .before .before .before .count-read .given .0 .1 .0) + c .before .before .before .before .before .before .before .slots-to .given .0 .0) + c .before .flag .given .0 .1 .0)
-got-5 c = dep-ok _ _ _ (got-4 (c .before .before .before .before .before)) (flagged c)
+within : (c : tie.After-known-told2) → dep tableFront (λ a. flag) .dec (c .before .before .before .before .before .before .before .before .before .before .before .before .args .bytes .now) ≡ ok ((((tt, c .before .before .before .before .before .before .before .before .before .before .read-table-front .result .head), c .before .before .before .before .before .before .before .before .before .before .read-table-front .result .count), c .before .before .before .before .before .before .before .before .before .before .read-table-front .result .slots), c .before .flag .given .0 .0) (c .before .before .before .before .before .before .before .before .front-to .given .0 .0 + c .before .flag .given .0 .1 .0)
+within c = dep-ok _ _ _ (front (c .before .before .before .before .before)) (flagged c)
 
--- behind a yes the table is what the open request behind it makes of it
-module _ (bs : List ℕ) {h : TableHead} {n : ℕ} {s : List VoterSlotRecord} {k m : ℕ} (p : c4 .dec bs ≡ ok (((tt, h), n), s) k) (f : flag .dec (drop k bs) ≡ ok true m) where
-  abbrev goes-on : VoterReplacementRecord → ℕ → Res VoterSlotTable
-  goes-on x j = ok (tableOf h n s true x) ((k + m) + j)
+flagged-yes : (c : tie.Else1) → flag .dec (drop (c .before .before .before .before .before .before .before .before .before .front-to .given .0 .0) (c .before .before .before .before .before .before .before .before .before .before .before .before .before .args .bytes .now)) ≡ ok true (c .before .before .flag .given .0 .1 .0)
+flagged-yes c = flagged (c .before) ∙ ap (λ t. ok t (c .before .before .flag .given .0 .1 .0)) (not-false _ (c .if1 .left))
 
-  opened-by : (x : Res VoterReplacementRecord) → replacement .dec (drop (k + m) bs) ≡ x → table .dec bs ≡ andThen (replacement .dec (drop (k + m) bs)) goes-on
-  unfolding table andThen
-  opened-by (ok r j) e =
+-- the open request that was read
+request : (c : tie.After-replacement) → replacement .dec (drop (c .before .before .before .before .before .before .before .before .before .before .before .before .before .before .before .front-to .given .0 .0 + c .before .before .before .before .before .before .before .before .flag .given .0 .1 .0) (c .before .before .before .before .before .before .before .before .before .before .before .before .before .before .before .before .before .before .before .args .bytes .now)) ≡ ok (c .before .before .before .before .read-replacement .result .value) (c .before .before .replacement-to .given .0 .0)
+request c = told blankVoterReplacementRecord _ (c .before .before .before .before .read-replacement .ensures ∙ ap (λ l. outcome blankVoterReplacementRecord (replacement .dec l)) (rest (c .before .before .before .before .before .before .before .before .before .before .before .before .before .before .before .before .before .before .before .args .bytes .now) _)) (c .before .before .replacement-to .given .1)
+
+-- after a yes the table is that of the open request, and its refusal the table's
+module _ (bs : List ℕ) {f : TableFront} {k m : ℕ} (p : tableFront .dec bs ≡ ok f k) (y : flag .dec (drop k bs) ≡ ok true m) where
+  opened : {r : VoterReplacementRecord} {j : ℕ} → replacement .dec (drop (k + m) bs) ≡ ok r j → table .dec bs ≡ ok (tableOf (f .0 .0 .1) (f .0 .1) (f .1) true r) ((k + m) + j)
+  unfolding table
+  opened {r} {j} e =
       let sum : k + (m + j) ≡ (k + m) + j = omega arith in
-      via-ok _ _ _ _ _ (dep-ok _ _ _ p (opt-some _ _ _ f (ap (replacement .dec) (drop-drop m k bs) ∙ e)))
-      ∙ ap (ok (tableOf h n s true r)) sum
-      ∙ sym (ap (λ x. andThen x goes-on) e)
-  opened-by (no j) e =
-      via-no _ _ _ _ _ (dep-no-2 _ _ _ p (opt-bad _ _ _ f (ap (replacement .dec) (drop-drop m k bs) ∙ e))) ∙ sym (ap (λ x. andThen x goes-on) e)
+      via-ok _ _ _ _ _ (dep-ok _ _ _ p (opt-some _ _ _ y (ap (replacement .dec) (drop-drop m k bs) ∙ e))) ∙ ap (ok (tableOf (f .0 .0 .1) (f .0 .1) (f .1) true r)) sum
 
-  opened : table .dec bs ≡ andThen (replacement .dec (drop (k + m) bs)) goes-on
-  opened = opened-by _ refl
+  refused : {j : ℕ} → replacement .dec (drop (k + m) bs) ≡ no j → table .dec bs ≡ no j
+  unfolding table
+  refused e = via-no _ _ _ _ _ (dep-no-2 _ _ _ p (opt-bad _ _ _ y (ap (replacement .dec) (drop-drop m k bs) ∙ e)))
 
-counted : (c : tie.After-known-told3) → count .dec (drop (c .before .before .before .before .before .before .before .before .before .before .before .before .magic .given .0 .0 + c .before .before .before .before .before .before .before .head-to .given .0 .0) (c .before .before .before .before .before .before .before .before .before .before .before .before .before .before .before .before .args .bytes .now)) ≡ ok (c .before .count-read .given .0 .0) (c .before .count-read .given .0 .1 .0)
-counted c = got u8Read (c .before .before .before .read-count .ensures ∙ ap (count .dec) (rest (c .before .before .before .before .before .before .before .before .before .before .before .before .before .before .before .before .args .bytes .now) _)) (c .before .count-read .given .1)
+whole : (c : tie.After-replacement) → table .dec (c .before .before .before .before .before .before .before .before .before .before .before .before .before .before .before .before .before .before .before .args .bytes .now) ≡ ok (tableOf (c .before .before .before .before .before .before .before .before .before .before .before .before .before .before .before .before .before .read-table-front .result .head) (c .before .before .before .before .before .before .before .before .before .before .before .before .before .before .before .before .before .read-table-front .result .count) (c .before .before .before .before .before .before .before .before .before .before .before .before .before .before .before .before .before .read-table-front .result .slots) true (c .before .before .before .before .read-replacement .result .value)) (c .before .before .before .before .before .before .before .before .before .before .before .before .before .before .before .front-to .given .0 .0 + c .before .before .before .before .before .before .before .before .flag .given .0 .1 .0 + c .before .before .replacement-to .given .0 .0)
+whole c = opened _ (front (c .before .before .before .before .before .before .before .before .before .before .before .before)) (flagged-yes (c .before .before .before .before .before .before)) (request c)
 
-read-head-requires : tie.Need-read-head-requires
-read-head-requires c κs = search needs
+read-table-front-requires : tie.Need-read-table-front-requires
+read-table-front-requires c κs = search needs
 
-enum-known-magic : tie.Need-enum-known-magic
-enum-known-magic c = search needs
+enum-known-front-to : tie.Need-enum-known-front-to
+enum-known-front-to c = search needs
 
 enum-told : tie.Need-enum-told
 enum-told c = search needs
@@ -101,115 +74,13 @@ returns : tie.Need-returns
 unfolding table
 returns c =
     outcome-no _ (c .refused-table .ensures ∙ ap (λ a. outcome blankVoterSlotTable (no (numberOf a))) (c .before .why .ensures ∙ ap whyOf (c .before .before .enum-told .given .1)))
-    (via-no _ _ _ _ _ (dep-no-1 _ _ _ (dep-no-1 _ _ _ (dep-no-1 _ _ _ (dep-no-1 _ _ _ (got report (c .before .before .before .before .read-head .ensures) (c .before .before .enum-told .given .1)))))))
-
-sub-read-table-head : tie.Need-sub-read-table-head
-sub-read-table-head c = c1 .within _ (got-1 c)
-
-part-read-table-head-start : tie.Need-part-read-table-head-start
-part-read-table-head-start c = c1 .within _ (got-1 c)
-
-part-read-table-head-end : tie.Need-part-read-table-head-end
-part-read-table-head-end c = search needs
-
-read-table-head-requires : tie.Need-read-table-head-requires
-read-table-head-requires c κs = search needs
-
-enum-known-head-to : tie.Need-enum-known-head-to
-enum-known-head-to c = search needs
-
-enum-told-2 : tie.Need-enum-told-2
-enum-told-2 c = search needs
-
-why-requires-2 : tie.Need-why-requires-2
-why-requires-2 c κs = search needs
-
-refused-table-requires-2 : tie.Need-refused-table-requires-2
-refused-table-requires-2 c κs = search needs
-
-returns-2 : tie.Need-returns-2
-unfolding table
-returns-2 c =
-    outcome-no _ (c .refused-table2 .ensures ∙ ap (λ a. outcome blankVoterSlotTable (no (numberOf a))) (c .before .why2 .ensures ∙ ap whyOf (c .before .before .enum-told2 .given .1)))
-    (via-no _ _ _ _ _ (dep-no-1 _ _ _ (dep-no-1 _ _ _ (dep-no-1 _ _ _ (dep-no-2 _ _ _ (got-1 (c .before .before .before .before .before .before)) (told-not blankTableHead _ (c .before .before .before .before .read-table-head .ensures ∙ ap (λ l. outcome blankTableHead (tableHead .dec l)) (rest (c .before .before .before .before .before .before .before .before .before .before .before .args .bytes .now) _)) (c .before .before .enum-told2 .given .1)))))))
-
-add-at : tie.Need-add-at
-add-at c = record { fits = lt-of-le-of-lt (c2 .within _ (got-2 c)) (c .before .before .before .before .before .before .before .before .before .before .before .good .0 .0) }
-
-sub-read-count : tie.Need-sub-read-count
-sub-read-count c = c2 .within _ (got-2 c)
-
-part-read-count-start : tie.Need-part-read-count-start
-part-read-count-start c = c2 .within _ (got-2 c)
-
-part-read-count-end : tie.Need-part-read-count-end
-part-read-count-end c = search needs
-
-read-count-requires : tie.Need-read-count-requires
-read-count-requires c κs = search needs
-
-enum-known-count-read : tie.Need-enum-known-count-read
-enum-known-count-read c = search needs
-
-enum-told-3 : tie.Need-enum-told-3
-enum-told-3 c = search needs
-
-why-u8-requires : tie.Need-why-u8-requires
-why-u8-requires c κs = search needs
-
-refused-table-requires-3 : tie.Need-refused-table-requires-3
-refused-table-requires-3 c κs = search needs
-
-returns-3 : tie.Need-returns-3
-unfolding table
-returns-3 c =
-    outcome-no _ (c .refused-table3 .ensures ∙ ap (λ a. outcome blankVoterSlotTable (no (numberOf a))) (c .before .why-u8 .ensures ∙ ap whyU8 (c .before .before .enum-told3 .given .1)))
-    (via-no _ _ _ _ _ (dep-no-1 _ _ _ (dep-no-1 _ _ _ (dep-no-2 _ _ _ (got-2 (c .before .before .before .before .before .before)) (got u8Read (c .before .before .before .before .read-count .ensures ∙ ap (count .dec) (rest (c .before .before .before .before .before .before .before .before .before .before .before .before .before .before .before .before .before .args .bytes .now) _)) (c .before .before .enum-told3 .given .1))))))
-
-add-at-2 : tie.Need-add-at-2
-add-at-2 c = record { fits = lt-of-le-of-lt (c3 .within _ (got-3 c)) (c .before .before .before .before .before .before .before .before .before .before .before .before .before .before .before .before .good .0 .0) }
-
-sub-read-slots : tie.Need-sub-read-slots
-sub-read-slots c = c3 .within _ (got-3 c)
-
-part-read-slots-start : tie.Need-part-read-slots-start
-part-read-slots-start c = c3 .within _ (got-3 c)
-
-part-read-slots-end : tie.Need-part-read-slots-end
-part-read-slots-end c = search needs
-
-cast-read-slots : tie.Need-cast-read-slots
-cast-read-slots c = search needs
-
-read-slots-requires : tie.Need-read-slots-requires
-read-slots-requires c κs = count-read _ (counted (c .before))
-
-enum-known-slots-to : tie.Need-enum-known-slots-to
-enum-known-slots-to c = search needs
-
-enum-told-4 : tie.Need-enum-told-4
-enum-told-4 c = search needs
-
-why-requires-3 : tie.Need-why-requires-3
-why-requires-3 c κs = search needs
-
-refused-table-requires-4 : tie.Need-refused-table-requires-4
-refused-table-requires-4 c κs = search needs
-
-returns-4 : tie.Need-returns-4
-unfolding table
-returns-4 c =
-    outcome-no _ (c .refused-table4 .ensures ∙ ap (λ a. outcome blankVoterSlotTable (no (numberOf a))) (c .before .why3 .ensures ∙ ap whyOf (c .before .before .enum-told4 .given .1)))
-    (via-no _ _ _ _ _ (dep-no-1 _ _ _ (dep-no-2 _ _ _ (got-3 (c .before .before .before .before .before .before)) (told-not blankVoterSlotRecords _ (c .before .before .before .before .read-slots .ensures ∙ ap (λ l. outcome blankVoterSlotRecords ((slots (c .before .before .before .before .before .before .before .count-read .given .0 .0)) .dec l)) (rest (c .before .before .before .before .before .before .before .before .before .before .before .before .before .before .before .before .before .before .before .before .before .before .args .bytes .now) _)) (c .before .before .enum-told4 .given .1)))))
-
-add-at-3 : tie.Need-add-at-3
-add-at-3 c = record { fits = lt-of-le-of-lt (c4 .within _ (got-4 c)) (c .before .before .before .before .before .before .before .before .before .before .before .before .before .before .before .before .before .before .before .before .before .before .good .0 .0) }
+    (via-no _ _ _ _ _ (dep-no-1 _ _ _ (told-not blankTableFront _ (c .before .before .before .before .read-table-front .ensures) (c .before .before .enum-told .given .1))))
 
 sub-read-flag : tie.Need-sub-read-flag
-sub-read-flag c = c4 .within _ (got-4 c)
+sub-read-flag c = tableFront .within _ (front c)
 
 part-read-flag-start : tie.Need-part-read-flag-start
-part-read-flag-start c = c4 .within _ (got-4 c)
+part-read-flag-start c = tableFront .within _ (front c)
 
 part-read-flag-end : tie.Need-part-read-flag-end
 part-read-flag-end c = search needs
@@ -220,103 +91,103 @@ read-flag-requires c κs = search needs
 enum-known-flag : tie.Need-enum-known-flag
 enum-known-flag c = search needs
 
-enum-told-5 : tie.Need-enum-told-5
-enum-told-5 c = search needs
+enum-told-2 : tie.Need-enum-told-2
+enum-told-2 c = search needs
 
 why-bool-requires : tie.Need-why-bool-requires
 why-bool-requires c κs = search needs
 
-refused-table-requires-5 : tie.Need-refused-table-requires-5
-refused-table-requires-5 c κs = search needs
+refused-table-requires-2 : tie.Need-refused-table-requires-2
+refused-table-requires-2 c κs = search needs
 
-returns-5 : tie.Need-returns-5
+returns-2 : tie.Need-returns-2
 unfolding table
-returns-5 c =
-    outcome-no _ (c .refused-table5 .ensures ∙ ap (λ a. outcome blankVoterSlotTable (no (numberOf a))) (c .before .why-bool .ensures ∙ ap whyBool (c .before .before .enum-told5 .given .1)))
-    (via-no _ _ _ _ _ (dep-no-2 _ _ _ (got-4 (c .before .before .before .before .before .before)) (opt-no _ _ _ (got boolRead (c .before .before .before .before .read-flag .ensures ∙ ap (flag .dec) (rest (c .before .before .before .before .before .before .before .before .before .before .before .before .before .before .before .before .before .before .before .before .before .before .before .before .before .before .before .before .args .bytes .now) _)) (c .before .before .enum-told5 .given .1)))))
+returns-2 c =
+    outcome-no _ (c .refused-table2 .ensures ∙ ap (λ a. outcome blankVoterSlotTable (no (numberOf a))) (c .before .why-bool .ensures ∙ ap whyBool (c .before .before .enum-told2 .given .1)))
+    (via-no _ _ _ _ _ (dep-no-2 _ _ _ (front (c .before .before .before .before .before .before)) (opt-no _ _ _ (got boolRead (c .before .before .before .before .read-flag .ensures ∙ ap (flag .dec) (rest (c .before .before .before .before .before .before .before .before .before .before .before .before .before .args .bytes .now) _)) (c .before .before .enum-told2 .given .1)))))
 
-add-at-4 : tie.Need-add-at-4
-add-at-4 c = record { fits = lt-of-le-of-lt (c5 .within _ (got-5 c)) (c .before .before .before .before .before .before .before .before .before .before .before .before .before .before .before .before .before .before .before .before .before .before .before .before .before .before .before .good .0 .0) }
-
-cast-read-open-table : tie.Need-cast-read-open-table
-cast-read-open-table c = search needs
-
-read-open-table-requires : tie.Need-read-open-table-requires
-read-open-table-requires c κs = c5 .within _ (got-5 (c .before))
-
-returns-6 : tie.Need-returns-6
-returns-6 c =
-    let n = c .before .before .before .flag .given .0 .1 .0 in
-    c .read-open-table .ensures
-    ∙ ap (outcome blankVoterSlotTable) (sym (opened _ (got-4 (c .before .before .before .before .before .before .before)) (flagged (c .before .before) ∙ ap (λ t. ok t n) (c .before .if1 .taken))))
-
-cast-idle-table-of : tie.Need-cast-idle-table-of
-cast-idle-table-of c = search needs
+add-at : tie.Need-add-at
+add-at c = record { fits = lt-of-le-of-lt (dep tableFront (λ a. flag) .within _ (within c)) (c .before .before .before .before .before .before .before .before .before .before .before .before .good .0 .0) }
 
 idle-table-of-requires : tie.Need-idle-table-of-requires
 idle-table-of-requires c κs = search needs
 
-returns-7 : tie.Need-returns-7
+returns-3 : tie.Need-returns-3
 unfolding table
-returns-7 c =
+returns-3 c =
     let n = c .before .before .before .flag .given .0 .1 .0 in
-    let p = dep-ok _ _ _ (got-4 (c .before .before .before .before .before .before .before)) (opt-none _ _ _ (flagged (c .before .before) ∙ ap (λ t. ok t n) (c .before .if1 .left))) in
-    outcome-ok _ (via-ok _ _ _ _ _ p ∙ ap (λ v. ok v ((((c .before .before .before .before .before .before .before .before .before .before .before .before .before .before .before .before .before .before .before .before .before .before .before .before .before .magic .given .0 .0 + c .before .before .before .before .before .before .before .before .before .before .before .before .before .before .before .before .before .before .before .before .head-to .given .0 .0) + c .before .before .before .before .before .before .before .before .before .before .before .before .before .before .count-read .given .0 .1 .0) + c .before .before .before .before .before .before .before .before .before .slots-to .given .0 .0) + n)) (sym (c .idle-table-of .ensures)))
+    let p = dep-ok _ _ _ (front (c .before .before .before .before .before .before .before)) (opt-none _ _ _ (flagged (c .before .before) ∙ ap (λ t. ok t n) (not-true _ (c .before .if1 .taken)))) in
+    outcome-ok _ (via-ok _ _ _ _ _ p ∙ ap (λ v. ok v (c .before .before .before .before .before .before .before .before .before .before .front-to .given .0 .0 + n)) (sym (c .idle-table-of .ensures)))
+
+sub-read-replacement : tie.Need-sub-read-replacement
+sub-read-replacement c = dep tableFront (λ a. flag) .within _ (within (c .before))
+
+part-read-replacement-start : tie.Need-part-read-replacement-start
+part-read-replacement-start c = dep tableFront (λ a. flag) .within _ (within (c .before))
+
+part-read-replacement-end : tie.Need-part-read-replacement-end
+part-read-replacement-end c = search needs
+
+read-replacement-requires : tie.Need-read-replacement-requires
+read-replacement-requires c κs = search needs
+
+enum-known-replacement-to : tie.Need-enum-known-replacement-to
+enum-known-replacement-to c = search needs
+
+enum-told-3 : tie.Need-enum-told-3
+enum-told-3 c = search needs
+
+why-requires-2 : tie.Need-why-requires-2
+why-requires-2 c κs = search needs
+
+refused-table-requires-3 : tie.Need-refused-table-requires-3
+refused-table-requires-3 c κs = search needs
+
+returns-4 : tie.Need-returns-4
+returns-4 c =
+    outcome-no _ (c .refused-table3 .ensures ∙ ap (λ a. outcome blankVoterSlotTable (no (numberOf a))) (c .before .why2 .ensures ∙ ap whyOf (c .before .before .enum-told3 .given .1)))
+    (refused _ (front (c .before .before .before .before .before .before .before .before .before .before .before .before)) (flagged-yes (c .before .before .before .before .before .before)) (told-not blankVoterReplacementRecord _ (c .before .before .before .before .read-replacement .ensures ∙ ap (λ l. outcome blankVoterReplacementRecord (replacement .dec l)) (rest (c .before .before .before .before .before .before .before .before .before .before .before .before .before .before .before .before .before .before .before .args .bytes .now) _)) (c .before .before .enum-told3 .given .1)))
+
+add-t17 : tie.Need-add-t17
+add-t17 c = record { fits = lt-of-le-of-lt (table .within _ (whole c)) (c .before .before .before .before .before .before .before .before .before .before .before .before .before .before .before .before .before .before .before .good .0 .0) }
+
+table-of-requires : tie.Need-table-of-requires
+table-of-requires c κs = search needs
+
+returns-5 : tie.Need-returns-5
+returns-5 c = outcome-ok _ (whole (c .before) ∙ ap (λ v. ok v (c .before .before .before .before .before .before .before .before .before .before .before .before .before .before .before .before .front-to .given .0 .0 + c .before .before .before .before .before .before .before .before .before .flag .given .0 .1 .0 + c .before .before .before .replacement-to .given .0 .0)) (sym (c .table-of .ensures)))
 
 pub read-table-spec : {M : Type 1} → statement M
 read-table-spec =
     tie.close
     (tie.spec
-    read-head-requires
-    enum-known-magic
+    read-table-front-requires
+    enum-known-front-to
     enum-told
     why-requires
     refused-table-requires
     returns
-    sub-read-table-head
-    part-read-table-head-start
-    part-read-table-head-end
-    read-table-head-requires
-    enum-known-head-to
-    enum-told-2
-    why-requires-2
-    refused-table-requires-2
-    returns-2
-    add-at
-    sub-read-count
-    part-read-count-start
-    part-read-count-end
-    read-count-requires
-    enum-known-count-read
-    enum-told-3
-    why-u8-requires
-    refused-table-requires-3
-    returns-3
-    add-at-2
-    sub-read-slots
-    part-read-slots-start
-    part-read-slots-end
-    cast-read-slots
-    read-slots-requires
-    enum-known-slots-to
-    enum-told-4
-    why-requires-3
-    refused-table-requires-4
-    returns-4
-    add-at-3
     sub-read-flag
     part-read-flag-start
     part-read-flag-end
     read-flag-requires
     enum-known-flag
-    enum-told-5
+    enum-told-2
     why-bool-requires
-    refused-table-requires-5
-    returns-5
-    add-at-4
-    cast-read-open-table
-    read-open-table-requires
-    returns-6
-    cast-idle-table-of
+    refused-table-requires-2
+    returns-2
+    add-at
     idle-table-of-requires
-    returns-7)
+    returns-3
+    sub-read-replacement
+    part-read-replacement-start
+    part-read-replacement-end
+    read-replacement-requires
+    enum-known-replacement-to
+    enum-told-3
+    why-requires-2
+    refused-table-requires-3
+    returns-4
+    add-t17
+    table-of-requires
+    returns-5)

@@ -4,7 +4,7 @@ use Rattle.format.specs.Res.Res.{ok}
 use Rattle.format.specs.Codec.{checked-ok, checked-no, checked-bad}
 use Rattle.format.specs.Num.{uint, pick}
 use Rattle.records.specs.ValidationLaws.{failed, held}
-use Rattle.layout.specs.Format.{require, count}
+use Rattle.layout.specs.Format.{require, slotCount}
 use Rattle.layout.specs.Reading.{u8Read}
 use Rattle.layout.specs.ReadingLaws.{got}
 use borrow.Author.Needs.{needs}
@@ -25,7 +25,7 @@ enum-told : tie.Need-enum-told
 enum-told c = search needs
 
 returns : tie.Need-returns
-unfolding count
+unfolding slotCount
 returns c = ap u8Read (c .enum-told .given .1) ∙ sym (checked-no _ _ _ (got u8Read (c .before .before .read-u8 .ensures) (c .enum-told .given .1)))
 
 cast-is-valid-count : tie.Need-cast-is-valid-count
@@ -35,11 +35,11 @@ is-valid-count-requires : tie.Need-is-valid-count-requires
 is-valid-count-requires c κs = search needs
 
 returns-2 : tie.Need-returns-2
-unfolding count pick
+unfolding slotCount pick
 returns-2 c = sym (checked-bad _ _ _ (is (c .before .before .before)) (ap require (failed (c .before .is-valid-count .ensures) (c .if1 .taken))))
 
 returns-3 : tie.Need-returns-3
-unfolding count pick
+unfolding slotCount pick
 returns-3 c = sym (checked-ok _ _ _ (is (c .before .before .before)) (ap require (held (c .before .is-valid-count .ensures) (c .if1 .left))))
 
 pub read-count-spec : {M : Type 1} → statement M

@@ -13,10 +13,10 @@ use Rattle.reader.proofs.reader.read_epoch.Tie as tie
 
 -- what was read
 is : (c : tie.After-number) → uint 8 .dec (c .before .before .before .before .args .bytes .now) ≡ ok (c .number .given .0 .0) (c .number .given .0 .1 .0)
-is c = got u64Read (c .before .before .read-be .ensures) (c .number .given .1)
+is c = got u64Read (c .before .before .read-u64 .ensures) (c .number .given .1)
 
-read-be-requires : tie.Need-read-be-requires
-read-be-requires c κs = search needs
+read-u64-requires : tie.Need-read-u64-requires
+read-u64-requires c κs = search needs
 
 enum-known-number : tie.Need-enum-known-number
 enum-known-number c = search needs
@@ -26,7 +26,7 @@ enum-told c = search needs
 
 returns : tie.Need-returns
 unfolding epoch
-returns c = ap u64Read (c .enum-told .given .1) ∙ sym (checked-no _ _ _ (got u64Read (c .before .before .read-be .ensures) (c .enum-told .given .1)))
+returns c = ap u64Read (c .enum-told .given .1) ∙ sym (checked-no _ _ _ (got u64Read (c .before .before .read-u64 .ensures) (c .enum-told .given .1)))
 
 is-configuration-epoch-requires : tie.Need-is-configuration-epoch-requires
 is-configuration-epoch-requires c κs = search needs
@@ -43,7 +43,7 @@ pub read-epoch-spec : {M : Type 1} → statement M
 read-epoch-spec =
     tie.close
     (tie.spec
-    read-be-requires
+    read-u64-requires
     enum-known-number
     enum-told
     returns

@@ -9,9 +9,9 @@ use Rattle.format.specs.Res.Res.{ok, no}
 use Rattle.format.specs.Codec.{dep, dep-ok, dep-no-1, dep-no-2, checked-ok, checked-no, checked-bad, via-ok, via-no, rest}
 use Rattle.format.specs.Num.{uint, raw, raw-got, raw-not, pick}
 use Rattle.identity.specs.Answer.{numberOf}
-use Rattle.layout.specs.Format.{head, headTest}
+use Rattle.layout.specs.Format.{magicAndVersion, headTest}
 use Rattle.layout.specs.FormatLaws.{magic-bytes}
-use Rattle.layout.specs.Reading.{u64Read, whyU64}
+use Rattle.layout.specs.Reading.{u16Read, whyU16}
 use Rattle.layout.specs.ReadingLaws.{got}
 use borrow.Author.Needs.{needs}
 use Rattle.reader.proofs.reader.read_head.Statement.{statement}
@@ -22,23 +22,23 @@ is : (c : tie.After-number) → dep (raw 4) (λ a. uint 2) .dec (c .before .befo
     ≡ ok (take 4 (c .before .before .before .before .before .before .args .bytes .now), c .number .given .0 .0) (4 + c .number .given .0 .1 .0)
 is c =
     let s = c .before .before .before .before .before .before .args .bytes .now in
-    dep-ok _ _ _ (raw-got 4 s (omega arith)) (got u64Read (c .before .before .read-be .ensures ∙ ap (uint 2 .dec) (rest s 4)) (c .number .given .1))
+    dep-ok _ _ _ (raw-got 4 s (omega arith)) (got u16Read (c .before .before .read-u16 .ensures ∙ ap (uint 2 .dec) (rest s 4)) (c .number .given .1))
 
 returns : tie.Need-returns
-unfolding head
+unfolding magicAndVersion
 returns c = sym (via-no _ _ _ _ _ (checked-no _ _ _ (dep-no-1 _ _ _ (raw-not 4 _ (c .if1 .taken)))))
 
-sub-read-be : tie.Need-sub-read-be
-sub-read-be c = search needs
+sub-read-u16 : tie.Need-sub-read-u16
+sub-read-u16 c = search needs
 
-part-read-be-start : tie.Need-part-read-be-start
-part-read-be-start c = search needs
+part-read-u16-start : tie.Need-part-read-u16-start
+part-read-u16-start c = search needs
 
-part-read-be-end : tie.Need-part-read-be-end
-part-read-be-end c = search needs
+part-read-u16-end : tie.Need-part-read-u16-end
+part-read-u16-end c = search needs
 
-read-be-requires : tie.Need-read-be-requires
-read-be-requires c κs = search needs
+read-u16-requires : tie.Need-read-u16-requires
+read-u16-requires c κs = search needs
 
 enum-known-number : tie.Need-enum-known-number
 enum-known-number c = search needs
@@ -46,15 +46,15 @@ enum-known-number c = search needs
 enum-told : tie.Need-enum-told
 enum-told c = search needs
 
-why-u64-requires : tie.Need-why-u64-requires
-why-u64-requires c κs = search needs
+why-u16-requires : tie.Need-why-u16-requires
+why-u16-requires c κs = search needs
 
 returns-2 : tie.Need-returns-2
-unfolding head
+unfolding magicAndVersion
 returns-2 c =
     let s = c .before .before .before .before .before .before .before .args .bytes .now in
-    ap (λ a. no (numberOf a)) (c .why-u64 .ensures ∙ ap whyU64 (c .before .enum-told .given .1))
-    ∙ sym (via-no _ _ _ _ _ (checked-no _ _ _ (dep-no-2 _ _ _ (raw-got 4 s (omega arith)) (got u64Read (c .before .before .before .read-be .ensures ∙ ap (uint 2 .dec) (rest s 4)) (c .before .enum-told .given .1)))))
+    ap (λ a. no (numberOf a)) (c .why-u16 .ensures ∙ ap whyU16 (c .before .enum-told .given .1))
+    ∙ sym (via-no _ _ _ _ _ (checked-no _ _ _ (dep-no-2 _ _ _ (raw-got 4 s (omega arith)) (got u16Read (c .before .before .before .read-u16 .ensures ∙ ap (uint 2 .dec) (rest s 4)) (c .before .enum-told .given .1)))))
 
 shared-slice-read-if2 : tie.Need-shared-slice-read-if2
 shared-slice-read-if2 c = search needs
@@ -69,13 +69,16 @@ shared-slice-read-if2-4 : tie.Need-shared-slice-read-if2-4
 shared-slice-read-if2-4 c = search needs
 
 returns-3 : tie.Need-returns-3
-unfolding head headTest pick
+unfolding magicAndVersion headTest pick
 returns-3 c =
     let s = c .before .before .before .before .before .before .before .before .before .before .before .before .args .bytes .now in
     sym (via-no _ _ _ _ _ (checked-bad _ _ _ (is (c .before .before .before .before .before .before)) (rw (magic-bytes s (omega arith) ∙ not-true _ (c .if2 .taken)))))
 
+cast-if3 : tie.Need-cast-if3
+cast-if3 c = search needs
+
 returns-4 : tie.Need-returns-4
-unfolding head headTest pick
+unfolding magicAndVersion headTest pick
 returns-4 c =
     let s = c .before .before .before .before .before .before .before .before .before .before .before .before .before .args .bytes .now in
     sym (via-no _ _ _ _ _ (checked-bad _ _ _ (is (c .before .before .before .before .before .before .before)) (rw (magic-bytes s (omega arith) ∙ not-false _ (c .before .if2 .left), ne-eqb _ _ (c .if3 .taken)))))
@@ -84,7 +87,7 @@ add-t5 : tie.Need-add-t5
 add-t5 c = record { fits = lt-of-le-of-lt (dep (raw 4) (λ a. uint 2) .within _ (is (c .before .before .before .before .before .before .before))) (c .before .before .before .before .before .before .before .before .before .before .before .before .before .good .0 .0) }
 
 returns-5 : tie.Need-returns-5
-unfolding head headTest pick
+unfolding magicAndVersion headTest pick
 returns-5 c =
     let s = c .before .before .before .before .before .before .before .before .before .before .before .before .before .args .bytes .now in
     let p = magic-bytes s (omega arith) ∙ not-false _ (c .before .if2 .left) in
@@ -96,19 +99,20 @@ read-head-spec =
     tie.close
     (tie.spec
     returns
-    sub-read-be
-    part-read-be-start
-    part-read-be-end
-    read-be-requires
+    sub-read-u16
+    part-read-u16-start
+    part-read-u16-end
+    read-u16-requires
     enum-known-number
     enum-told
-    why-u64-requires
+    why-u16-requires
     returns-2
     shared-slice-read-if2
     shared-slice-read-if2-2
     shared-slice-read-if2-3
     shared-slice-read-if2-4
     returns-3
+    cast-if3
     returns-4
     add-t5
     returns-5)

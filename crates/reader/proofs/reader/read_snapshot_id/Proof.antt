@@ -1,5 +1,5 @@
 -- `reader::reader::read_snapshot_id` meets its contract. Written by scripts/readers.py. Assumes nothing.
-use Prim.Native.Nat.{ℕ, _+_, _-_, _≤_}
+use Prim.Native.Nat.{_+_, _-_, _≤_}
 use Rattle.format.specs.Codec.{checked-ok, checked-no, checked-bad, via-ok, via-no}
 use Rattle.format.specs.Copy.{length-zeros}
 use Rattle.format.specs.Fill.{put-zeros}
@@ -9,14 +9,14 @@ use Rattle.format.specs.Res.Res.{ok, no}
 use Rattle.identity.specs.Answer.{numberOf}
 use Rattle.identity.specs.Text.{isUtf8}
 use Rattle.layout.specs.Format.{require, sized, string, snapshotId}
-use Rattle.layout.specs.FormatLaws.{sized-small}
+use Rattle.layout.specs.FormatLaws.{sized-small, part-is}
 use Rattle.layout.specs.Reading.{outcome, sizedRead, whySized}
 use Rattle.layout.specs.ReadingLaws.{got, outcome-ok, outcome-no}
 use Rattle.records.specs.Blank.{blankSnapshotId}
 use Rattle.records.specs.ValidationLaws.{failed, held}
 use lib.ListN.{length, take, drop, replicate, length-take, length-drop}
 use lib.Seq.{length-take-le}
-use mathlib.Core.List.{List, _++_}
+use mathlib.Core.List.{_++_}
 use mathlib.Core.Path.{_≡_, sym, ap, _∙_}
 use native.Mathlib.Nat.{lt-of-le-of-lt}
 use native.Mathlib.Omega.{arith}
@@ -25,15 +25,10 @@ use Rattle.reader.proofs.reader.read_snapshot_id.Statement.{statement}
 use Rattle.reader.proofs.reader.read_snapshot_id.Tie as tie
 
 -- what was read
-is : (c : tie.After-known-told) → sized 256 .dec (c .before .before .before .before .before .args .bytes .now)
-    ≡ ok (c .before .size .given .0 .0, take (c .before .size .given .0 .0) (drop 2 (c .before .before .before .before .before .args .bytes .now))) (2 + c .before .size .given .0 .0)
+is : (c : tie.After-known-told) → sized 256 .dec (c .before .before .before .before .before .args .bytes .now) ≡ ok (c .before .size .given .0 .0, take (c .before .size .given .0 .0) (drop (c .before .size .given .0 .1 .0) (c .before .before .before .before .before .args .bytes .now))) (c .before .size .given .0 .1 .0 + c .before .size .given .0 .0)
 is c = got (λ r. sizedRead r (c .before .before .before .before .before .args .bytes .now)) (c .before .before .before .read-sized .ensures) (c .before .size .given .1)
 
--- the text, as the slice says it
-text : (n : ℕ) (s : List ℕ) → take (2 + n - 2) (drop 2 s) ≡ take n (drop 2 s)
-text n s = let e : 2 + n - 2 ≡ n = omega arith in ap (λ m. take m (drop 2 s)) e
-
-fits : (c : tie.After-known-told) → 2 + c .before .size .given .0 .0 ≤ length (c .before .before .before .before .before .args .bytes .now)
+fits : (c : tie.After-known-told) → c .before .size .given .0 .1 .0 + c .before .size .given .0 .0 ≤ length (c .before .before .before .before .before .args .bytes .now)
 fits c = sized 256 .within _ (is c)
 
 read-sized-requires : tie.Need-read-sized-requires
@@ -58,14 +53,14 @@ returns c =
     outcome-no _ (c .refused-snapshot-id .ensures ∙ ap (λ a. outcome blankSnapshotId (no (numberOf a))) (c .before .why-sized .ensures ∙ ap whySized (c .before .before .enum-told .given .1)))
     (via-no _ _ _ _ _ (checked-no _ _ _ (got (λ r. sizedRead r s) (c .before .before .before .before .read-sized .ensures) (c .before .before .enum-told .given .1))))
 
-add-text : tie.Need-add-text
-add-text c = record { fits = lt-of-le-of-lt (fits c) (c .before .before .before .before .before .good .0 .0) }
+add-end : tie.Need-add-end
+add-end c = record { fits = lt-of-le-of-lt (fits c) (c .before .before .before .before .before .good .0 .0) }
 
 sub-text : tie.Need-sub-text
-sub-text c = search needs
+sub-text c = omega arith
 
 part-text-start : tie.Need-part-text-start
-part-text-start c = search needs
+part-text-start c = omega arith
 
 part-text-end : tie.Need-part-text-end
 part-text-end c = fits c
@@ -79,10 +74,11 @@ refused-snapshot-id-requires-2 c κs = search needs
 returns-2 : tie.Need-returns-2
 unfolding snapshotId string pick
 returns-2 c =
-    let s = c .before .before .before .before .before .before .before .before .before .args .bytes .now in
     let n = c .before .before .before .before .before .size .given .0 .0 in
+    let at = c .before .before .before .before .before .size .given .0 .1 .0 in
+    let s = c .before .before .before .before .before .before .before .before .before .args .bytes .now in
     outcome-no _ (c .refused-snapshot-id2 .ensures)
-    (via-no _ _ _ _ _ (checked-bad _ _ _ (is (c .before .before .before .before)) (ap require (ap isUtf8 (sym (text n s)) ∙ failed (c .before .before .is-utf8 .ensures) (c .before .if1 .taken)))))
+    (via-no _ _ _ _ _ (checked-bad _ _ _ (is (c .before .before .before .before)) (ap require (ap isUtf8 (sym (part-is n at s)) ∙ failed (c .before .before .is-utf8 .ensures) (c .before .if1 .taken)))))
 
 zeros256-requires : tie.Need-zeros256-requires
 zeros256-requires c κs = search needs
@@ -92,25 +88,24 @@ slice-aggregate-put-bytes c = search needs
 
 put-bytes-requires : tie.Need-put-bytes-requires
 put-bytes-requires c κs =
-    let s = c .before .before .before .before .before .before .before .before .before .before .args .bytes .now in
     let n = c .before .before .before .before .before .before .size .given .0 .0 in
+    let at = c .before .before .before .before .before .before .size .given .0 .1 .0 in
+    let s = c .before .before .before .before .before .before .before .before .before .before .args .bytes .now in
     let z : length (c .before .zeros256 .result) ≡ 256 = ap length (c .before .zeros256 .ensures) ∙ length-zeros 256 in
-    omega (arith, length-take (2 + n - 2) (drop 2 s), z, sized-small 256 s (is (c .before .before .before .before .before)))
-
-add-t9 : tie.Need-add-t9
-add-t9 c = record { fits = lt-of-le-of-lt (fits (c .before .before .before .before .before .before .before)) (c .before .before .before .before .before .before .before .before .before .before .before .before .good .0 .0) }
+    omega (arith, length-take (at + n - at) (drop at s), z, sized-small 256 s (is (c .before .before .before .before .before)))
 
 returns-3 : tie.Need-returns-3
 unfolding snapshotId string pick
 returns-3 c =
-    let s = c .before .before .before .before .before .before .before .before .before .before .before .before .args .bytes .now in
     let n = c .before .before .before .before .before .before .before .before .size .given .0 .0 in
-    let l = take n (drop 2 s) in
-    let h : length l ≡ n = length-take-le n (drop 2 s) (omega (arith, length-drop 2 s, fits (c .before .before .before .before .before .before .before))) in
-    let p = c .before .put-bytes .ensures .bytes ∙ (λ i. put (text n s i) 0 (c .before .before .before .zeros256 .ensures i)) ∙ put-zeros l 256 ∙ ap (λ m. l ++ replicate (256 - m) 0) h in
+    let at = c .before .before .before .before .before .before .before .before .size .given .0 .1 .0 in
+    let s = c .before .before .before .before .before .before .before .before .before .before .before .before .args .bytes .now in
+    let l = take n (drop at s) in
+    let h : length l ≡ n = length-take-le n (drop at s) (omega (arith, length-drop at s, fits (c .before .before .before .before .before .before .before))) in
+    let p = c .before .put-bytes .ensures .bytes ∙ (λ i. put (part-is n at s i) 0 (c .before .before .before .zeros256 .ensures i)) ∙ put-zeros l 256 ∙ ap (λ m. l ++ replicate (256 - m) 0) h in
     outcome-ok blankSnapshotId
-    (via-ok _ _ _ _ _ (checked-ok _ _ _ (is (c .before .before .before .before .before .before .before)) (ap require (ap isUtf8 (sym (text n s)) ∙ held (c .before .before .before .before .before .is-utf8 .ensures) (c .before .before .before .before .if1 .left))))
-    ∙ ap (λ b. ok (record { len = n; bytes = b }) (2 + n)) (sym p))
+    (via-ok _ _ _ _ _ (checked-ok _ _ _ (is (c .before .before .before .before .before .before .before)) (ap require (ap isUtf8 (sym (part-is n at s)) ∙ held (c .before .before .before .before .before .is-utf8 .ensures) (c .before .before .before .before .if1 .left))))
+    ∙ ap (λ b. ok (record { len = n; bytes = b }) (at + n)) (sym p))
 
 pub read-snapshot-id-spec : {M : Type 1} → statement M
 read-snapshot-id-spec =
@@ -122,7 +117,7 @@ read-snapshot-id-spec =
     why-sized-requires
     refused-snapshot-id-requires
     returns
-    add-text
+    add-end
     sub-text
     part-text-start
     part-text-end
@@ -132,5 +127,4 @@ read-snapshot-id-spec =
     zeros256-requires
     slice-aggregate-put-bytes
     put-bytes-requires
-    add-t9
     returns-3)

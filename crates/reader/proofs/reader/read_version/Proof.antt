@@ -6,7 +6,7 @@ use Rattle.format.specs.Codec.{checked-ok, checked-no, checked-bad, via-ok, via
 use Rattle.format.specs.Num.{uint, pick}
 use Rattle.identity.specs.Answer.{numberOf}
 use Rattle.layout.specs.Format.{require, version}
-use Rattle.layout.specs.Reading.{u64Read, whyU64}
+use Rattle.layout.specs.Reading.{u16Read, whyU16}
 use Rattle.layout.specs.ReadingLaws.{got}
 use borrow.Author.Needs.{needs}
 use Rattle.reader.proofs.reader.read_version.Statement.{statement}
@@ -14,10 +14,10 @@ use Rattle.reader.proofs.reader.read_version.Tie as tie
 
 -- what was read
 is : (c : tie.After-number) → uint 2 .dec (c .before .before .before .before .args .bytes .now) ≡ ok (c .number .given .0 .0) (c .number .given .0 .1 .0)
-is c = got u64Read (c .before .before .read-be .ensures) (c .number .given .1)
+is c = got u16Read (c .before .before .read-u16 .ensures) (c .number .given .1)
 
-read-be-requires : tie.Need-read-be-requires
-read-be-requires c κs = search needs
+read-u16-requires : tie.Need-read-u16-requires
+read-u16-requires c κs = search needs
 
 enum-known-number : tie.Need-enum-known-number
 enum-known-number c = search needs
@@ -25,12 +25,15 @@ enum-known-number c = search needs
 enum-told : tie.Need-enum-told
 enum-told c = search needs
 
-why-u64-requires : tie.Need-why-u64-requires
-why-u64-requires c κs = search needs
+why-u16-requires : tie.Need-why-u16-requires
+why-u16-requires c κs = search needs
 
 returns : tie.Need-returns
 unfolding version
-returns c = ap (λ a. no (numberOf a)) (c .why-u64 .ensures ∙ ap whyU64 (c .before .enum-told .given .1)) ∙ sym (via-no _ _ _ _ _ (checked-no _ _ _ (got u64Read (c .before .before .before .read-be .ensures) (c .before .enum-told .given .1))))
+returns c = ap (λ a. no (numberOf a)) (c .why-u16 .ensures ∙ ap whyU16 (c .before .enum-told .given .1)) ∙ sym (via-no _ _ _ _ _ (checked-no _ _ _ (got u16Read (c .before .before .before .read-u16 .ensures) (c .before .enum-told .given .1))))
+
+cast-if1 : tie.Need-cast-if1
+cast-if1 c = search needs
 
 returns-2 : tie.Need-returns-2
 unfolding version pick
@@ -44,10 +47,11 @@ pub read-version-spec : {M : Type 1} → statement M
 read-version-spec =
     tie.close
     (tie.spec
-    read-be-requires
+    read-u16-requires
     enum-known-number
     enum-told
-    why-u64-requires
+    why-u16-requires
     returns
+    cast-if1
     returns-2
     returns-3)

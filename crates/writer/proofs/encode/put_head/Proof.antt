@@ -7,7 +7,7 @@ use lib.ListN.{length}
 use Rattle.format.specs.Codec.{dep, via, check}
 use Rattle.format.specs.Num.{uint, raw}
 use Rattle.format.specs.Put.{Put, then, room, room-left, length-put}
-use Rattle.layout.specs.Format.{magic, head}
+use Rattle.layout.specs.Format.{magic, magicAndVersion}
 use Rattle.writer.proofs.encode.put_head.Statement.{statement}
 use Rattle.writer.proofs.encode.put_head.Tie as tie
 
@@ -20,7 +20,7 @@ e2 = e1 ++ uint 2 .enc 1
 
 -- there is room for all of it, and so for each part
 room2 : (c : tie.Start) → c .args .at + length e2 ≤ length (c .args .buffer .now)
-unfolding head via dep check raw
+unfolding magicAndVersion via dep check raw
 room2 c = c .pre
 
 room1 : (c : tie.Start) → c .args .at + length e1 ≤ length (c .args .buffer .now)
@@ -53,7 +53,7 @@ same-length : tie.Need-same-length
 same-length c = ap length (wrote2 (c .before .before) .bytes) ∙ length-put _ _ _ (room2 (start2 (c .before .before)))
 
 returns : tie.Need-returns
-unfolding head via dep check raw
+unfolding magicAndVersion via dep check raw
 returns c = wrote2 (c .before .before)
 
 pub put-head-spec : {M : Type 1} → statement M

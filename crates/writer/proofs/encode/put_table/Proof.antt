@@ -9,14 +9,14 @@ use Rattle.format.specs.List.{opt}
 use Rattle.format.specs.Put.{Put, then, room, room-left, length-put}
 use Rattle.records.specs.Blank.{blankVoterReplacementRecord}
 use Rattle.layout.specs.Parts.{tableHeadOf}
-use Rattle.layout.specs.Format.{count, slots, replacement, head, tableHead, table}
+use Rattle.layout.specs.Format.{slotCount, slots, replacement, magicAndVersion, tableHead, table}
 use Rattle.records.specs.declared.records.VoterSlotTable.{VoterSlotTable}
 use Rattle.writer.proofs.encode.put_table.Statement.{statement}
 use Rattle.writer.proofs.encode.put_table.Tie as tie
 
 -- what is written, put by put
 abbrev e1 : VoterSlotTable → List ℕ
-e1 x = head .enc tt
+e1 x = magicAndVersion .enc tt
 
 abbrev e2 : VoterSlotTable → List ℕ
 e2 x = e1 x ++ tableHead .enc (tableHeadOf x)
@@ -32,7 +32,7 @@ e5 x = e4 x ++ opt replacement blankVoterReplacementRecord .enc (x .«has_replac
 
 -- there is room for all of it, and so for each part
 room5 : (c : tie.Start) → c .args .at + length (e5 (c .args .t)) ≤ length (c .args .buffer .now)
-unfolding table count via dep check
+unfolding table slotCount via dep check
 room5 c = c .pre .0
 
 room4 : (c : tie.Start) → c .args .at + length (e4 (c .args .t)) ≤ length (c .args .buffer .now)
@@ -98,7 +98,7 @@ same-length : tie.Need-same-length
 same-length c = ap length (wrote5 (c .before .before) .bytes) ∙ length-put _ _ _ (room5 (start5 (c .before .before)))
 
 returns : tie.Need-returns
-unfolding table count via dep check
+unfolding table slotCount via dep check
 returns c = wrote5 (c .before .before)
 
 pub put-table-spec : {M : Type 1} → statement M

@@ -1,17 +1,17 @@
--- `reader::reader::read_array64` meets its contract. Written by scripts/readers.py. Assumes nothing.
+-- `layout::get::read_array64` meets its contract. Written by scripts/readers.py. Assumes nothing.
 use Rattle.format.specs.Copy.{zeros, length-zeros}
 use Rattle.format.specs.Fill.{put-whole}
 use Rattle.format.specs.Num.{raw-got, raw-not}
 use Rattle.format.specs.Put.{put}
 use Rattle.format.specs.Res.Res.{ok}
 use Rattle.layout.specs.ReadingLaws.{outcome-ok, outcome-no}
 use lib.ListN.{length, take, length-take}
 use lib.Seq.{length-take-le}
 use mathlib.Core.Path.{_≡_, sym, ap, _∙_}
 use native.Mathlib.Omega.{arith}
 use borrow.Author.Needs.{needs}
-use Rattle.reader.proofs.reader.read_array64.Statement.{statement}
-use Rattle.reader.proofs.reader.read_array64.Tie as tie
+use Rattle.layout.proofs.get.read_array64.Statement.{statement}
+use Rattle.layout.proofs.get.read_array64.Tie as tie
 
 refused-array64-requires : tie.Need-refused-array64-requires
 refused-array64-requires c κs = search needs

@@ -1,20 +1,18 @@
--- `reader::reader::read_sized` meets its contract. Assumes nothing.
-use Prim.Native.Nat.{_+_}
+-- `layout::get::read_sized` meets its contract. Assumes nothing.
 use mathlib.Core.Path.{_≡_, sym, ap, _∙_}
 use native.Mathlib.Omega.{arith}
 use borrow.Author.Tests.{le-leb, lt-leb}
-use lib.ListN.{take, drop, length-drop}
+use lib.ListN.{drop, length-drop}
 use Rattle.format.specs.Res.Res.{ok, no}
 use Rattle.format.specs.Codec.{checked-ok, checked-no, checked-bad, dep-ok, dep-no-1, dep-no-2}
-use Rattle.format.specs.Fill.{uint-count}
 use Rattle.format.specs.Num.{uint, raw-got, raw-not, pick}
 use Rattle.identity.specs.Answer.{numberOf}
 use Rattle.layout.specs.Format.{sized}
 use Rattle.layout.specs.Reading.{u16Read, whyU16}
 use Rattle.layout.specs.ReadingLaws.{got}
 use borrow.Author.Needs.{needs}
-use Rattle.reader.proofs.reader.read_sized.Statement.{statement}
-use Rattle.reader.proofs.reader.read_sized.Tie as tie
+use Rattle.layout.proofs.get.read_sized.Statement.{statement}
+use Rattle.layout.proofs.get.read_sized.Tie as tie
 
 -- what was read
 is : (c : tie.After-number) → uint 2 .dec (c .before .before .before .before .args .bytes .now) ≡ ok (c .number .given .0 .0) (c .number .given .0 .1 .0)
@@ -59,8 +57,7 @@ returns-4 c =
     let s = c .before .before .before .before .before .before .before .args .bytes .now in
     let v = c .before .before .before .number .given .0 .0 in
     let n = c .before .before .before .number .given .0 .1 .0 in
-    sym (dep-ok _ _ _ (checked-ok _ _ _ (is (c .before .before .before)) (ap (λ t. pick t 0 5) (le-leb (c .before .before .before .number .given .0 .0) (c .before .before .before .before .before .before .before .args .bound) (omega arith)))) (raw-got v (drop n s) (omega (arith, length-drop n s)))
-    ∙ ap (λ k. ok (v, take v (drop k s)) (k + v)) (uint-count 2 s (is (c .before .before .before))))
+    sym (dep-ok _ _ _ (checked-ok _ _ _ (is (c .before .before .before)) (ap (λ t. pick t 0 5) (le-leb (c .before .before .before .number .given .0 .0) (c .before .before .before .before .before .before .before .args .bound) (omega arith)))) (raw-got v (drop n s) (omega (arith, length-drop n s))))
 
 pub read-sized-spec : {M : Type 1} → statement M
 read-sized-spec =

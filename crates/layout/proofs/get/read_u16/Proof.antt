@@ -1,4 +1,4 @@
--- `reader::reader::read_u16` meets its contract. Assumes nothing.
+-- `layout::get::read_u16` meets its contract. Assumes nothing.
 use Prim.Native.Nat.{_<_, _^_}
 use mathlib.Core.Path.{_≡_, sym, ap, _∙_}
 use native.Mathlib.Omega.{arith}
@@ -6,11 +6,11 @@ use Rattle.format.specs.Res.Res.{ok, no}
 use Rattle.format.specs.Codec.{Bytes, held}
 use Rattle.format.specs.Num.{uint}
 use Rattle.identity.specs.Answer.{numberOf}
 use Rattle.layout.specs.Reading.{u64Read, whyU64}
 use Rattle.layout.specs.ReadingLaws.{got}
 use borrow.Author.Needs.{needs}
-use Rattle.reader.proofs.reader.read_u16.Statement.{statement}
-use Rattle.reader.proofs.reader.read_u16.Tie as tie
+use Rattle.layout.proofs.get.read_u16.Statement.{statement}
+use Rattle.layout.proofs.get.read_u16.Tie as tie
 
 bytes : (c : tie.After-shared-slice-known) → Bytes (c .before .args .bytes .now)
 unfolding Bytes

@@ -1,4 +1,4 @@
--- `reader::reader::read_be` meets its contract. Assumes nothing.
+-- `layout::get::read_be` meets its contract. Assumes nothing.
 use Prim.Native.Nat.{_+_, _-_, _*_, _^_, _≤_, _<_}
 use mathlib.Core.Path.{_≡_, refl, sym, ap, _∙_}
 use native.Mathlib.Omega.{arith}
@@ -12,8 +12,8 @@ use lib.Dec.{lit<}
 use Rattle.format.specs.Res.Res.{ok}
 use Rattle.format.specs.Num.{val, val-snoc, uint, raw, decUint, uint-ok, uint-no}
 use Rattle.format.specs.Codec.{held, via}
-use Rattle.reader.proofs.reader.read_be.Statement.{statement}
-use Rattle.reader.proofs.reader.read_be.Tie as tie
+use Rattle.layout.proofs.get.read_be.Statement.{statement}
+use Rattle.layout.proofs.get.read_be.Tie as tie
 
 abbrev Inv-loop : tie.InvT-loop
 Inv-loop bytes width value₀ i₀ value i = (i ≤ width) × (value ≡ val 0 (take i bytes)) × (value < 256 ^ i)
