@@ -14,14 +14,14 @@ len256 : (c : tie.Start) → length (c .args .t1 .bytes) ≡ 256
 len256 c = search needs
 
 returns : tie.Need-returns
-returns c = rw (lt-leb (c .before .args .t1 .len) maxSnapshotIdBytes (c .if1 .taken))
+returns c = rw (lt-leb (c .before .args .t1 .len) maxSnapshotIdBytes (omega arith))
 
 slice-aggregate-is-snapshot-id : tie.Need-slice-aggregate-is-snapshot-id
 slice-aggregate-is-snapshot-id c =
     let t = c .before .before .before .before in
     let id = t .before .args .t1 in
     let h = len256 (t .before) in
-    let l : id .len ≤ 256 = t .if1 .left in
+    let l : id .len ≤ 256 = omega (arith, t .if1 .left) in
     let k : id .len ≡ length (take (id .len) (id .bytes)) = simp length-take (omega arith) in
     k
 
@@ -31,7 +31,7 @@ is-snapshot-id-requires c κs = search needs
 returns-2 : tie.Need-returns-2
 returns-2 c =
     let t = c .before .before .before .before .before in
-    rw (le-leb (t .before .args .t1 .len) maxSnapshotIdBytes (t .if1 .left)) (c .is-snapshot-id .ensures)
+    rw (le-leb (t .before .args .t1 .len) maxSnapshotIdBytes (omega (arith, t .if1 .left))) (c .is-snapshot-id .ensures)
 
 pub is-valid-snapshot-id-spec : {M : Type 1} → statement M
 is-valid-snapshot-id-spec =

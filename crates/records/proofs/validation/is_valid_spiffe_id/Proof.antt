@@ -10,7 +10,7 @@ use Rattle.records.proofs.validation.is_valid_spiffe_id.Statement.{stat
 use Rattle.records.proofs.validation.is_valid_spiffe_id.Tie as tie
 
 returns : tie.Need-returns
-returns c = rw (lt-leb (c .before .args .len) maxSpiffeIdBytes (c .if1 .taken))
+returns c = rw (lt-leb (c .before .args .len) maxSpiffeIdBytes (omega arith))
 
 slice-aggregate-text : tie.Need-slice-aggregate-text
 slice-aggregate-text c = search needs
