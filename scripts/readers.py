@@ -609,7 +609,7 @@ def text(name, codec, blank, size):
     told = f"{back(2)} .enum-told .given .1"
 
     def read(steps):
-        """How many bytes were read and where they begin, and of which bytes, with so many steps to the place behind the answer."""
+        """How many bytes were read and where they begin, and of which bytes, with so many steps to the place after the answer."""
         return f"{back(steps + 1)} .size .given .0 .0", f"{back(steps + 1)} .size .given .0 .1 .0", f"{back(steps + 5)} .args .bytes .now"
 
     def names(steps):
