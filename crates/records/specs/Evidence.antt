@@ -64,7 +64,7 @@ validContinuation e =
     && ((not (e .fence .«is_some») || follows (e .fence .cut) c false)
     && (validBeside c (snapshotCut e) true && (validBeside c (e .learner) false && validBeside c (e .«caught_up») false)))))
 
--- A snapshot id. One that is longer than its field is none, whatever the field holds.
+-- A snapshot id. One that is longer than its field is invalid, whatever the field holds.
 abbrev pub validSnapshotId : SnapshotId → Bool
 validSnapshotId s = leb (s .len) maxSnapshotIdBytes && isSnapshotId (take (s .len) (s .bytes))
 

@@ -39,7 +39,7 @@ validConfiguration c =
     && (allBelow (λ i. ltb 0 (memberAt c i .«admission_generation»)) (c .count)
     && allBelow (λ i. ltb (memberAt c i .identity .slot) (memberAt c (i + 1) .identity .slot)) (c .count - 1))
 
--- A controller or candidate name. One that is longer than its field is none, whatever the field holds.
+-- A controller or candidate name. One that is longer than its field is invalid, whatever the field holds.
 abbrev pub validSpiffeId : SpiffeId → Bool
 validSpiffeId s = leb (s .len) maxSpiffeIdBytes && isName (take (s .len) (s .bytes))
 
