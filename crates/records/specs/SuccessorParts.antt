@@ -226,3 +226,26 @@ check-accepted new old h =
     let v = valid-parts new (h .new-valid) in
     let w = valid-parts old (h .old-valid) in
     check-is new old (v .0) (w .0) (w .1) ∙ then-accepted (validity new) (succession new old) (v .1) (h .follows)
+
+-- ---- answers as tests
+
+-- validity and then the successor check are accepted where both tests hold
+pub accepted-both : (v w : Bool) → isAccepted (andThen (requireOf v Accepted) (orRegression w Accepted)) ≡ (v && w)
+accepted-both true true = refl
+accepted-both true false = refl
+accepted-both false w = refl
+
+-- the same of the second alone
+pub accepted-where : (w : Bool) → isAccepted (orRegression w Accepted) ≡ w
+accepted-where true = refl
+accepted-where false = refl
+
+-- of four tests of which three hold, the second decides
+pub only-second : (a b c d : Bool) → a ≡ true → c ≡ true → d ≡ true → (a && (b && (c && d))) ≡ b
+only-second a b c d h k l = go a c d h k l
+  where
+    go : (a c d : Bool) → a ≡ true → c ≡ true → d ≡ true → (a && (b && (c && d))) ≡ b
+    go true true true h k l = and-true b
+    go true true false h k l = absurd (false≢true l)
+    go true false d h k l = absurd (false≢true k)
+    go false c d h k l = absurd (false≢true h)

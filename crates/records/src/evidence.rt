@@ -135,7 +135,11 @@ fn is_valid_continuation(evidence: VoterReplacementEvidence) -> bool
         & (after_prepare & (before_fence & (beside_snapshot & (beside_learner & beside_caught_up))))
 }
 
-fn is_valid_beside(continuation: VoterSlotLogId, other: OptionalLogId, is_snapshot: bool) -> bool
+pub fn is_valid_beside(
+    continuation: VoterSlotLogId,
+    other: OptionalLogId,
+    is_snapshot: bool,
+) -> bool
     ensures { λ r. ⌜ r ≡ validBeside continuation other «is_snapshot» ⌝ }
 {
     if !other.is_some {
@@ -149,7 +153,7 @@ fn is_valid_beside(continuation: VoterSlotLogId, other: OptionalLogId, is_snapsh
 }
 
 // A length above the field is a no.
-fn is_valid_snapshot_id(id: SnapshotId) -> bool
+pub fn is_valid_snapshot_id(id: SnapshotId) -> bool
     ensures { λ r. ⌜ r ≡ validSnapshotId id ⌝ }
 {
     let len = id.len;
@@ -241,7 +245,7 @@ pub fn latest_cut(evidence: VoterReplacementEvidence) -> VoterSlotLogId
     later_of(f, uniform)
 }
 
-fn later_of(latest: VoterSlotLogId, stage: OptionalLogId) -> VoterSlotLogId
+pub fn later_of(latest: VoterSlotLogId, stage: OptionalLogId) -> VoterSlotLogId
     ensures { λ r. ⌜ r ≡ laterOf latest stage ⌝ }
 {
     if stage.is_some & (latest.index < stage.cut.index) {

@@ -201,7 +201,7 @@ fn ended_succeeds(new: VoterSlotTable, old: VoterReplacementRecord) -> Answer
 }
 
 // The first slot of that number, or the count.
-fn slot_index(table: VoterSlotTable, slot: u16) -> usize
+pub fn slot_index(table: VoterSlotTable, slot: u16) -> usize
     requires { ⌜ table .count ≤ 9 ⌝ }
     ensures { λ r. ⌜ r ≡ slotIndex table slot ⌝ }
 {

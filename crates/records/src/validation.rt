@@ -127,7 +127,7 @@ pub fn is_valid_attestation(attestation: LostVoterAttestationV1) -> bool
 
 // A length above the field is a no. The bytes come by themselves: of a record the caller would make
 // a copy first.
-fn is_valid_spiffe_id(len: usize, bytes: [u8; 2048]) -> bool
+pub fn is_valid_spiffe_id(len: usize, bytes: [u8; 2048]) -> bool
     ensures { λ r. ⌜ r ≡ validSpiffeId (record { len = len; bytes = bytes }) ⌝ }
 {
     if MAX_VOTER_SPIFFE_ID_BYTES < len {
@@ -138,7 +138,7 @@ fn is_valid_spiffe_id(len: usize, bytes: [u8; 2048]) -> bool
 }
 
 // The numbers of an attestation: what was observed, decided and issued came in that order.
-fn are_valid_times(
+pub fn are_valid_times(
     generation: u64,
     observation_start_ms: u64,
     decision_ms: u64,

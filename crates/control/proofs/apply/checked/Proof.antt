@@ -1,0 +1,70 @@
+-- `control::apply::checked` meets its contract: the two tests for 30, then the two for 25. Assumes nothing.
+use Rattle.control.specs.Verdicts.{checkedOf}
+use Rattle.control.specs.Control.{representableControl}
+use Rattle.records.specs.ValidationLaws.{failed, held}
+use Rattle.records.specs.Validation.{validity}
+use Rattle.records.specs.TestLaws.{cond-true, cond-false}
+use Rattle.records.specs.RepresentableParts.{representable-count}
+use Rattle.records.specs.Representable.{representable}
+use Rattle.records.specs.Evidence.{validLogId}
+use Rattle.identity.specs.Utf8Laws.{and-left}
+use Rattle.identity.specs.Answer.{isAccepted}
+use mathlib.Core.Bool.{cond, true, false, _&&_}
+use mathlib.Core.Path.{ap, ap₂, refl, sym, _≡_, _∙_}
+use borrow.Author.Needs.{needs}
+use Rattle.control.proofs.apply.checked.Statement.{statement}
+use Rattle.control.proofs.apply.checked.Tie as tie
+
+-- the two tests of 30, and the two of 25
+fits : (j : tie.After-is-representable-control)
+    → (j .before .is-representable .result && j .is-representable-control .result) ≡ (representable (j .before .before .args .t) && representableControl (j .before .before .args .c))
+fits j = ap₂ _&&_ (j .before .is-representable .ensures) (j .is-representable-control .ensures)
+
+stands : (j : tie.After-is-valid-log-id)
+    → (j .before .accepted .result && j .is-valid-log-id .result)
+    ≡ (isAccepted (validity (j .before .before .before .before .before .before .args .t)) && validLogId (j .before .before .before .before .before .before .args .cut))
+stands j = ap₂ _&&_ (j .before .accepted .ensures ∙ ap isAccepted (j .before .before .validate-representable .ensures)) (j .is-valid-log-id .ensures)
+
+is-representable-requires : tie.Need-is-representable-requires
+is-representable-requires c κs = search needs
+
+is-representable-control-requires : tie.Need-is-representable-control-requires
+is-representable-control-requires c κs = search needs
+
+returns : tie.Need-returns
+unfolding checkedOf
+returns c =
+    sym (cond-false _ _ _ (sym (fits (c .before)) ∙ failed refl (c .if1 .taken)))
+
+validate-representable-requires : tie.Need-validate-representable-requires
+validate-representable-requires c κs =
+    representable-count (c .before .before .before .args .t) (and-left _ _ (sym (fits (c .before)) ∙ held refl (c .if1 .left)))
+
+accepted-requires : tie.Need-accepted-requires
+accepted-requires c κs = search needs
+
+is-valid-log-id-requires : tie.Need-is-valid-log-id-requires
+is-valid-log-id-requires c κs = search needs
+
+returns-2 : tie.Need-returns-2
+unfolding checkedOf
+returns-2 c =
+    sym (cond-true _ _ _ (sym (fits (c .before .before .before .before .before)) ∙ held refl (c .before .before .before .before .if1 .left)) ∙ cond-false _ _ _ (sym (stands (c .before)) ∙ failed refl (c .if2 .taken)))
+
+returns-3 : tie.Need-returns-3
+unfolding checkedOf
+returns-3 c =
+    sym (cond-true _ _ _ (sym (fits (c .before .before .before .before .before)) ∙ held refl (c .before .before .before .before .if1 .left)) ∙ cond-true _ _ _ (sym (stands (c .before)) ∙ held refl (c .if2 .left)))
+
+pub checked-spec : {M : Type 1} → statement M
+checked-spec =
+    tie.close
+    (tie.spec
+    is-representable-requires
+    is-representable-control-requires
+    returns
+    validate-representable-requires
+    accepted-requires
+    is-valid-log-id-requires
+    returns-2
+    returns-3)

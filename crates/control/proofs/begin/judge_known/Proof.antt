@@ -1,0 +1,47 @@
+-- `control::begin::judge_known` meets its contract: the open request, or else the receipt that was found. Assumes nothing.
+use mathlib.Core.Bool.{cond, _&&_, _||_}
+use mathlib.Core.Path.{ap, _∙_}
+use borrow.Author.Needs.{needs}
+use Rattle.records.proofs.Held.{held-voter-slot-table}
+use Rattle.control.specs.BeginJudgeLaws.{known-judged}
+use Rattle.control.specs.Verdicts.{verdictOf}
+use Rattle.control.specs.Judgement.{Move, Verdict}
+use Rattle.control.proofs.begin.judge_known.Statement.{statement}
+use Rattle.control.proofs.begin.judge_known.Tie as tie
+
+same16-requires : tie.Need-same16-requires
+same16-requires c κs = search needs
+
+same32-requires : tie.Need-same32-requires
+same32-requires c κs = search needs
+
+find-receipt-requires : tie.Need-find-receipt-requires
+find-receipt-requires c κs = search needs
+
+either-requires : tie.Need-either-requires
+either-requires c κs = search needs
+
+either-requires-2 : tie.Need-either-requires-2
+either-requires-2 c κs = search needs
+
+returns : tie.Need-returns
+returns c =
+    let s = c .before .before .before .before .before .before .before .before .before .before .before .before in
+    let t = s .args .t in
+    let a = s .args .r .attestation in
+    let nine = held-voter-slot-table t _ (s .good .0) .slots .count in
+    let is-known = (t .«has_replacement» && (c .before .before .before .before .before .before .before .before .same16) .result) || (c .before .before .before .before .before .find-receipt) .result .found in
+    (c .either2 .ensures)
+    ∙ (ap (λ (v : Verdict Move). cond is-known v (verdictOf (s .args .fresh))) (c .before .before .either .ensures)
+    ∙ known-judged t nine (a .«request_id») (a .«request_digest») _ _ _ _ _ _ (c .before .before .before .before .before .before .before .before .same16 .ensures) (c .before .before .before .before .before .before .same32 .ensures) (c .before .before .before .before .before .find-receipt .ensures))
+
+pub judge-known-spec : {M : Type 1} → statement M
+judge-known-spec =
+    tie.close
+    (tie.spec
+    same16-requires
+    same32-requires
+    find-receipt-requires
+    either-requires
+    either-requires-2
+    returns)

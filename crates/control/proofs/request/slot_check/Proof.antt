@@ -1,0 +1,62 @@
+-- `control::request::slot_check` meets its contract: what was found at the named place is what the definition reads there. Assumes nothing.
+use mathlib.Core.Bool.{cond, _&&_}
+use mathlib.Core.Path.{ap, _∙_}
+use lib.Dec.{eqb, leb}
+use borrow.Author.Needs.{needs}
+use Rattle.identity.specs.declared.answer.Answer.the-variants.{NoSurvivingQuorum, StaleIncarnation}
+use Rattle.identity.specs.declared.answer.Answer.{Answer}
+use Rattle.records.proofs.Held.{held-lost-voter-attestation-v1, held-voter-slot-table}
+use Rattle.control.specs.BeginJudgeLaws.{slot-judged}
+use Rattle.control.proofs.request.slot_check.Statement.{statement}
+use Rattle.control.proofs.request.slot_check.Tie as tie
+
+named-member-requires : tie.Need-named-member-requires
+named-member-requires c κs = search needs
+
+is-expected-requires : tie.Need-is-expected-requires
+is-expected-requires c κs = search needs
+
+same32-requires : tie.Need-same32-requires
+same32-requires c κs = search needs
+
+is-attested-requires : tie.Need-is-attested-requires
+is-attested-requires c κs = search needs
+
+is-newer-requires : tie.Need-is-newer-requires
+is-newer-requires c κs = search needs
+
+answer-by-requires : tie.Need-answer-by-requires
+answer-by-requires c κs = search needs
+
+answer-by-requires-2 : tie.Need-answer-by-requires-2
+answer-by-requires-2 c κs = search needs
+
+answer-by-requires-3 : tie.Need-answer-by-requires-3
+answer-by-requires-3 c κs = search needs
+
+returns : tie.Need-returns
+returns c =
+    let s = c .before .before .before .before .before .before .before .before .before .before .before .before .before .before .before in
+    let t = s .args .t in
+    let r = s .args .r in
+    let nine = held-voter-slot-table t _ (s .good .0) .slots .count in
+    let bytes = held-lost-voter-attestation-v1 (r .attestation) _ (s .good .1 .0 .1 .1 .1 .1 .1 .0) .«old_descriptor_digest» .count in
+    let x = (c .before .before .before .before .before .before .before .before .before .before .before .before .before .before .named-member) .result in
+    let now = x .found && (eqb (t .revision) (r .«expected_revision») && ((c .before .before .before .before .before .before .before .before .before .before .before .before .is-expected) .result && ((c .before .before .before .before .before .before .before .before .before .same32) .result && (c .before .before .before .before .before .before .before .before .is-attested) .result))) in
+    (c .answer-by3 .ensures)
+    ∙ (ap (λ (a : Answer). cond now a StaleIncarnation) ((c .before .answer-by2 .ensures) ∙ ap (λ (a : Answer). cond (leb 3 (t .count)) a NoSurvivingQuorum) (c .before .before .before .answer-by .ensures))
+    ∙ slot-judged t r nine bytes x _ _ _ _ (c .before .before .before .before .before .before .before .before .before .before .before .before .before .before .named-member .ensures) (c .before .before .before .before .before .before .before .before .before .before .before .before .is-expected .ensures) (c .before .before .before .before .before .before .before .before .before .same32 .ensures) (c .before .before .before .before .before .before .before .before .is-attested .ensures) (c .before .before .before .before .before .before .before .is-newer .ensures))
+
+pub slot-check-spec : {M : Type 1} → statement M
+slot-check-spec =
+    tie.close
+    (tie.spec
+    named-member-requires
+    is-expected-requires
+    same32-requires
+    is-attested-requires
+    is-newer-requires
+    answer-by-requires
+    answer-by-requires-2
+    answer-by-requires-3
+    returns)

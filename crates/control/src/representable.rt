@@ -1,0 +1,138 @@
+// The test for 30 of a command: whether the Rust types can hold it, and whether the parts that its
+// kind does not use are zero.
+//
+// There is no such test in the original, whose types rule these values out. It is made after the
+// types of crates/opc-consensus/src/voter_slots/control.rs of openpacketcore-sdk, commit 717de332e7,
+// Apache-2.0 (see NOTICE). Document 01, number 30.
+ghost use mathlib.Core.Path.{_≡_};
+ghost use mathlib.Core.Bool.{cond, _&&_};
+ghost use Rattle.records.specs.Blank.{blankVoterSnapshotEvidence};
+ghost use Rattle.records.specs.Equality.{sameVoterSnapshotEvidence};
+ghost use Rattle.records.specs.Representable.{representableSnapshot};
+ghost use Rattle.control.specs.Blank.{blankConsensusIdentity, sameConsensusIdentity};
+ghost use Rattle.control.specs.Control.{isBlankName, isBlankRequest, isBlankStep, representableControl, representableRequest, representableStep};
+use crate::control::ADVANCE;
+use crate::control::BEGIN;
+use crate::control::FINALIZE;
+use crate::control::MARKER;
+use crate::control::RECORD_CAUGHT_UP;
+use crate::control::RECORD_SNAPSHOT;
+use crate::control::VoterReplacementRequest;
+use crate::control::VoterReplacementStep;
+use crate::control::VoterSlotControl;
+use identity::identity::ConsensusIdentity;
+use records::records::VoterSnapshotEvidence;
+use records::representable::is_representable_attestation;
+use records::representable::is_representable_member;
+use records::representable::is_representable_snapshot;
+use records::zero::is_blank_lost_voter_attestation_v1;
+use records::zero::is_blank_voter_slot_log_id;
+use records::zero::is_blank_voter_slot_member;
+use records::zero::is_blank_voter_snapshot_evidence;
+use records::zero::zeros;
+
+// A kind of the three; the request is a Begin's, the step an Advance's.
+pub fn is_representable_control(c: VoterSlotControl) -> bool
+    ensures { λ r. ⌜ r ≡ representableControl c ⌝ }
+{
+    let step = c.step;
+    let request_part = is_request_part(c.kind == BEGIN, c);
+    let step_part = is_step_part(c.kind == ADVANCE, step);
+    (c.kind <= MARKER) & (request_part & step_part)
+}
+
+// A Begin has a request and no name; any other command names a request and has none.
+fn is_request_part(is_begin: bool, c: VoterSlotControl) -> bool
+    ensures { λ r. ⌜ r ≡ cond «is_begin» (representableRequest (c .request) && isBlankName c) (isBlankRequest (c .request)) ⌝ }
+{
+    let request = c.request;
+    if is_begin {
+        return is_representable_request(request) & is_blank_name(c);
+    }
+    is_blank_request(request)
+}
+
+// The id and the digest by which an Advance or a Marker names its request are absent.
+fn is_blank_name(c: VoterSlotControl) -> bool
+    ensures { λ r. ⌜ r ≡ isBlankName c ⌝ }
+{
+    let request_id = zeros(&c.request_id);
+    let request_digest = zeros(&c.request_digest);
+    request_id & request_digest
+}
+
+fn is_representable_request(request: VoterReplacementRequest) -> bool
+    ensures { λ r. ⌜ r ≡ representableRequest request ⌝ }
+{
+    let request_candidate = request.candidate;
+    let candidate = is_representable_member(request_candidate);
+    let request_attestation = request.attestation;
+    let attestation = is_representable_attestation(request_attestation);
+    (1 <= request.expected_configuration.configuration_epoch) & (candidate & attestation)
+}
+
+// Field by field, with no blank made: as in `zero` of records.
+fn is_blank_request(request: VoterReplacementRequest) -> bool
+    ensures { λ r. ⌜ r ≡ isBlankRequest request ⌝ }
+{
+    let request_configuration = request.expected_configuration;
+    let expected_configuration = is_blank_consensus_identity(request_configuration);
+    let request_candidate = request.candidate;
+    let candidate = is_blank_voter_slot_member(request_candidate);
+    let request_attestation = request.attestation;
+    let attestation = is_blank_lost_voter_attestation_v1(request_attestation);
+    let supplied_request_digest = zeros(&request.supplied_request_digest);
+    let supplied_configuration_id = zeros(&request.supplied_configuration_id);
+    (request.expected_revision == 0)
+        & (expected_configuration
+            & (candidate & (attestation & (supplied_request_digest & supplied_configuration_id))))
+}
+
+fn is_blank_consensus_identity(x: ConsensusIdentity) -> bool
+    ensures { λ r. ⌜ r ≡ sameConsensusIdentity x blankConsensusIdentity ⌝ }
+{
+    let cluster_id = zeros(&x.cluster_id);
+    let configuration_id = zeros(&x.configuration_id);
+    cluster_id & (configuration_id & (x.configuration_epoch == 0))
+}
+
+// Only an Advance has a step.
+fn is_step_part(is_advance: bool, step: VoterReplacementStep) -> bool
+    ensures { λ r. ⌜ r ≡ cond «is_advance» (representableStep step) (isBlankStep step) ⌝ }
+{
+    if is_advance {
+        return is_representable_step(step);
+    }
+    is_blank_step(step)
+}
+
+// A kind of the five; the snapshot is RecordSnapshot's, the mark RecordCaughtUp's. Any numbers are a
+// mark.
+fn is_representable_step(step: VoterReplacementStep) -> bool
+    ensures { λ r. ⌜ r ≡ representableStep step ⌝ }
+{
+    let step_snapshot = step.snapshot;
+    let snapshot = is_snapshot_part(step.kind == RECORD_SNAPSHOT, step_snapshot);
+    let step_caught_up = step.caught_up;
+    let no_mark = is_blank_voter_slot_log_id(step_caught_up);
+    (step.kind <= FINALIZE) & (snapshot & ((step.kind == RECORD_CAUGHT_UP) | no_mark))
+}
+
+fn is_snapshot_part(is_used: bool, snapshot: VoterSnapshotEvidence) -> bool
+    ensures { λ r. ⌜ r ≡ cond «is_used» (representableSnapshot snapshot) (sameVoterSnapshotEvidence snapshot blankVoterSnapshotEvidence) ⌝ }
+{
+    if is_used {
+        return is_representable_snapshot(snapshot);
+    }
+    is_blank_voter_snapshot_evidence(snapshot)
+}
+
+fn is_blank_step(step: VoterReplacementStep) -> bool
+    ensures { λ r. ⌜ r ≡ isBlankStep step ⌝ }
+{
+    let step_snapshot = step.snapshot;
+    let snapshot = is_blank_voter_snapshot_evidence(step_snapshot);
+    let step_caught_up = step.caught_up;
+    let caught_up = is_blank_voter_slot_log_id(step_caught_up);
+    (step.kind == 0) & (snapshot & caught_up)
+}

@@ -1,0 +1,226 @@
+// The request of a Begin: whether it is valid, whether the table knows it, and whether it was made
+// for this table.
+//
+// Ported from crates/opc-consensus/src/voter_slots/control.rs (`VoterReplacementRequest::validate`,
+// `begin`) of openpacketcore-sdk, commit 717de332e7, Apache-2.0 (see NOTICE). Changed: the caller
+// supplies the digest as recomputed and the id of the current configuration. Loops pass all nine
+// places, from the last to the first, and a place found later takes the place of one found before.
+ghost use mathlib.Core.Path.{_≡_};
+ghost use mathlib.Core.Bool.{cond, not, _&&_};
+ghost use lib.Dec.{eqb, ltb};
+ghost use Rattle.records.specs.Equality.{eqBytes};
+ghost use Rattle.records.specs.Successor.{andThen};
+ghost use Rattle.records.specs.Validation.{validAttestation};
+ghost use Rattle.control.specs.Control.{requestCheck, validRequest, isOpenRequest, isExpected, staleCheck, candidateCheck, currentConfiguration};
+ghost use Rattle.control.specs.BeginJudge.{attestedMember, hasDigest, hasReceipt, namedOf, newerThan, receiptState};
+use crate::control::VoterReplacementRequest;
+use identity::answer::Answer;
+use records::blank::blank_voter_slot_member;
+use records::equality::same16;
+use records::equality::same32;
+use records::number::is_next;
+use records::records::UNIFORM;
+use records::records::VoterSlotMember;
+use records::records::VoterSlotRecord;
+use records::records::VoterSlotTable;
+use records::validation::are_valid_times;
+use records::validation::is_valid_spiffe_id;
+
+// One of two answers.
+pub fn answer_by(test: bool, one: Answer, other: Answer) -> Answer
+    ensures { λ a. ⌜ a ≡ cond test one other ⌝ }
+{
+    if test {
+        return one;
+    }
+    other
+}
+
+// `VoterReplacementRequest::validate`: 12.
+pub fn validate_request(r: VoterReplacementRequest) -> Answer
+    ensures { λ a. ⌜ a ≡ requestCheck r ⌝ }
+{
+    let valid = is_valid_request(r);
+    let supplied = r.supplied_request_digest;
+    let attested = r.attestation.request_digest;
+    let same = same32(supplied, attested);
+    answer_by(valid & same, Answer::Accepted, Answer::InvalidLossEvidence)
+}
+
+// The claims are valid, and the request says the same as they do.
+fn is_valid_request(r: VoterReplacementRequest) -> bool
+    ensures { λ a. ⌜ a ≡ validRequest r ⌝ }
+{
+    let claims = are_valid_claims(r);
+    let cluster = r.expected_configuration.cluster_id;
+    let attested_cluster = r.attestation.cluster_instance;
+    let same_cluster = same32(cluster, attested_cluster);
+    let next = is_next(
+        r.attestation.expected_incarnation,
+        r.candidate.identity.incarnation,
+    );
+    let key = r.candidate.key_digest;
+    let attested_key = r.attestation.candidate_key_digest;
+    let same_key = same32(key, attested_key);
+    claims
+        & ((0 < r.expected_revision)
+            & (same_cluster
+                & ((r.candidate.identity.slot == r.attestation.slot)
+                    & (next
+                        & (same_key
+                            & (r.candidate.admission_generation
+                                == r.attestation.admission_generation))))))
+}
+
+// `LostVoterAttestationV1::validate`, part by part: of the attestation itself a copy would be made.
+fn are_valid_claims(r: VoterReplacementRequest) -> bool
+    ensures { λ a. ⌜ a ≡ validAttestation (r .attestation) ⌝ }
+{
+    let candidate = r.attestation.candidate_spiffe_id.bytes;
+    let t1 = is_valid_spiffe_id(r.attestation.candidate_spiffe_id.len, candidate);
+    let controller = r.attestation.controller_spiffe_id.bytes;
+    let t2 = is_valid_spiffe_id(r.attestation.controller_spiffe_id.len, controller);
+    let t3 = are_valid_times(
+        r.attestation.admission_generation,
+        r.attestation.observation_start_ms,
+        r.attestation.decision_ms,
+        r.attestation.issued_ms,
+        r.attestation.expires_ms,
+    );
+    t1 & (t2 & t3)
+}
+
+// Whether a slot has a receipt of that request; and whether the first one has that digest.
+pub struct Receipt {
+    pub found: bool,
+    pub same: bool,
+}
+
+pub fn find_receipt(t: VoterSlotTable, id: [u8; 16], digest: [u8; 32]) -> Receipt
+    ensures { λ a. ⌜ a ≡ receiptState t id digest ⌝ }
+{
+    let mut found = false;
+    let mut same = false;
+    let mut i: usize = 9;
+    while 0 < i {
+        i -= 1;
+        let slot = t.slots[i];
+        let held = has_receipt(slot, id);
+        let own = has_digest(slot, digest);
+        let one = (i < t.count) & held;
+        found = one | found;
+        same = (one & own) | (!one & same);
+    }
+    Receipt { found, same }
+}
+
+fn has_receipt(slot: VoterSlotRecord, id: [u8; 16]) -> bool
+    ensures { λ a. ⌜ a ≡ hasReceipt id slot ⌝ }
+{
+    let held = slot.last_result.request_id;
+    let same = same16(held, id);
+    slot.has_last_result & same
+}
+
+fn has_digest(slot: VoterSlotRecord, digest: [u8; 32]) -> bool
+    ensures { λ a. ⌜ a ≡ hasDigest digest slot ⌝ }
+{
+    let held = slot.last_result.request_digest;
+    same32(held, digest)
+}
+
+// The request was made for this table, 13; there are three slots, 16; and its candidate is newer
+// than the slot's member, 12.
+pub fn slot_check(t: VoterSlotTable, r: VoterReplacementRequest) -> Answer
+    ensures { λ a. ⌜ a ≡ andThen (staleCheck t r) (candidateCheck t r) ⌝ }
+{
+    let named = named_member(t, r.attestation.slot);
+    let member = named.member;
+    let expected = is_expected(t, r);
+    let cluster = t.cluster_instance;
+    let attested_cluster = r.attestation.cluster_instance;
+    let same_cluster = same32(attested_cluster, cluster);
+    let attested = is_attested(member, r);
+    let newer = is_newer(member, r);
+    let current = named.found
+        & ((t.revision == r.expected_revision) & (expected & (same_cluster & attested)));
+    let fits = answer_by(newer, Answer::Accepted, Answer::InvalidLossEvidence);
+    let enough = answer_by(3 <= t.count, fits, Answer::NoSurvivingQuorum);
+    answer_by(current, enough, Answer::StaleIncarnation)
+}
+
+// The member of the first slot of that number, or a blank.
+pub struct Named {
+    pub found: bool,
+    pub member: VoterSlotMember,
+}
+
+fn named_member(t: VoterSlotTable, number: u16) -> Named
+    ensures { λ a. ⌜ a ≡ namedOf t number ⌝ }
+{
+    let mut found = false;
+    let mut member = blank_voter_slot_member();
+    let mut i: usize = 9;
+    while 0 < i {
+        i -= 1;
+        let slot = t.slots[i];
+        let own = slot.member;
+        let one = (i < t.count) & (slot.member.identity.slot == number);
+        found = one | found;
+        member = member_by(one, own, member);
+    }
+    Named { found, member }
+}
+
+fn member_by(test: bool, one: VoterSlotMember, other: VoterSlotMember) -> VoterSlotMember
+    ensures { λ a. ⌜ a ≡ cond test one other ⌝ }
+{
+    if test {
+        return one;
+    }
+    other
+}
+
+// The current configuration is the one that the request names.
+fn is_expected(t: VoterSlotTable, r: VoterReplacementRequest) -> bool
+    ensures { λ a. ⌜ a ≡ isExpected t r ⌝ }
+{
+    let cluster = t.cluster_instance;
+    let expected_cluster = r.expected_configuration.cluster_id;
+    let t1 = same32(cluster, expected_cluster);
+    let id = r.supplied_configuration_id;
+    let expected_id = r.expected_configuration.configuration_id;
+    let t2 = same32(id, expected_id);
+    let epoch = current_epoch(t);
+    (t1 & t2) & (epoch == r.expected_configuration.configuration_epoch)
+}
+
+// The epoch of the current configuration.
+pub fn current_epoch(t: VoterSlotTable) -> u64
+    ensures { λ a. ⌜ a ≡ currentConfiguration t .epoch ⌝ }
+{
+    if t.has_replacement & (t.replacement.phase < UNIFORM) {
+        return t.replacement.predecessor.epoch;
+    }
+    t.configuration_epoch
+}
+
+// The member is the attested one.
+fn is_attested(member: VoterSlotMember, r: VoterReplacementRequest) -> bool
+    ensures { λ a. ⌜ a ≡ attestedMember r member ⌝ }
+{
+    let attested = r.attestation.old_descriptor_digest;
+    let descriptor = member.descriptor_digest;
+    let same = same32(attested, descriptor);
+    (r.attestation.expected_incarnation == member.identity.incarnation) & same
+}
+
+// The candidate is newer than the member, with another key.
+fn is_newer(member: VoterSlotMember, r: VoterReplacementRequest) -> bool
+    ensures { λ a. ⌜ a ≡ newerThan r member ⌝ }
+{
+    let candidate = r.candidate.key_digest;
+    let key = member.key_digest;
+    let same = same32(candidate, key);
+    (member.admission_generation < r.candidate.admission_generation) & !same
+}
