@@ -3,12 +3,13 @@
 -- Assumes nothing.
 use Prim.Native.Nat.{ℕ, _<_, _≤_}
 use mathlib.Core.Path.{refl, sym, ap, _≡_, _∙_}
-use mathlib.Core.Bool.{Bool, true, false, cond, not, _&&_, _||_}
+use mathlib.Core.Bool.{Bool, true, false, cond, not, false≢true, and-true, _&&_, _||_}
 use mathlib.Core.List.{_∷_, []}
 use native.Mathlib.Nat.{le-refl}
 use native.Mathlib.Omega.{arith}
 use lib.Dec.{eqb, leb, ltb}
 use borrow.Author.Tests.{eqb-true, eqb-false, eq-eqb, ne-eqb, le-leb, lt-ltb, le-ltb}
+use Rattle.identity.specs.Answer.{isAccepted}
 use Rattle.identity.specs.Utf8Laws.{and-left, and-right}
 use Rattle.identity.specs.declared.answer.Answer.{Answer}
 use Rattle.identity.specs.declared.answer.Answer.the-variants.{Accepted, Regression, Unrepresentable}
@@ -24,7 +25,7 @@ use Rattle.records.specs.RecordsLaws.{allBelow-at, allBelow-all}
 use Rattle.records.specs.Representable.{representable}
 use Rattle.records.specs.Successor.{resultSucceeds, slotSucceeds, requestSucceeds, replacementSucceeds, headSucceeds, orRegression, succession, andThen, validateSuccessorOf}
 use Rattle.records.specs.TestLaws.{MadeOf, passes, and-both, then-passes, left-or, cond-true, cond-false, chosen, both-accepted, then-accepted}
-use Rattle.records.specs.Validation.{validity, validate}
+use Rattle.records.specs.Validation.{requireOf, validity, validate}
 use Rattle.records.specs.ValidParts.{valid-parts, valid-joined}
 use Rattle.records.specs.With.{slotWith, inPhase}
 
