@@ -1,5 +1,5 @@
 #!/usr/bin/env python3
-"""Writes the proofs of the thin calls over `&mut VoterSlotTable` that go by a verdict: crates/control/proofs/apply/NAME/Proof.antt.
+"""Writes the proofs of the thin calls over `&mut VoterSlotTable` that go by a verdict: crates/control/proofs/MODULE/NAME/Proof.antt.
 
 Run it from the root of the repository: python3 scripts/thin.py [NAME ..] (all of them, where none is named), then `rt fmt`. Such a call is
 
@@ -8,7 +8,7 @@ Run it from the root of the repository: python3 scripts/thin.py [NAME ..] (all o
     answer_of(judged)
 
 and its proof cites the law that scripts/gen_judged.py writes (proofs/JudgedN.antt, for N makers). What differs from call to call stands in CALLS below: the struct that is the
-second parameter (p in the text), the judge and its verdict, the pair of answer and table, what is made, and for each maker its module, its move, its table and what it requires, with
+second parameter (p in the text), the number of the first maker where it is not 1, the judge and its verdict, the pair of answer and table, what is made, and for each maker its module, its move, its table and what it requires, with
 the term that shows it, in which {move} is the move and {told} that the verdict is this move. The makers stand in the order of their numbers, which `routeOf` gives.
 """
 import sys
@@ -32,6 +32,7 @@ def steps(paths, is_advance, held, step, cut):
 
 CALLS = {
     'advance_in_place': {
+        'module': 'apply',
         'param': 'VoterAdvance',
         'judge': 'judge.judge_advance',
         'verdict': 'judgeOf h p',
@@ -39,29 +40,54 @@ CALLS = {
         'making': 'stepMade h (p .step) (p .cut)',
         'unfolding': 'stepMade',
         'stays': 'routed-none h (p .step) (p .cut)',
-        'uses': ['use Rattle.control.specs.Verdicts.{advanceOf, answerOf, judgeOf, routeOf, stepMade, verdictOf}',
+        'uses': ['use Rattle.control.specs.Control.{caughtUpRecorded, continued, fencedAt, finalized, full, snapshotRecorded, targetIndex}',
+                 'use Rattle.control.specs.Verdicts.{advanceOf, answerOf, judgeOf, routeOf, stepMade, verdictOf}',
                  'use Rattle.control.specs.VerdictLaws.{routed-to, routed-none, room-as, target-as}'],
         'makers': steps(['make.' + n for n in ('snapshot_table', 'catch_up_table', 'continue_table', 'fence_table', 'finalize_table')], '{told}', 'p', 'p .step', 'p .cut'),
     },
+    'begin_in_place': {
+        'module': 'begin',
+        'param': 'VoterBegin',
+        'first': 6,
+        'judge': 'begin.judge_begin',
+        'verdict': 'judgeBegin h (p .request) (p .cut)',
+        'outcome': 'beginOf h p',
+        'making': 'beginMade h p',
+        'unfolding': 'beginMade',
+        'stays': 'begin-kept h p',
+        'uses': ['use Rattle.control.specs.Judgement.{judgeBegin}',
+                 'use Rattle.control.specs.BeginJudge.{beginMade, beginOf}',
+                 'use Rattle.control.specs.BeginVerdictLaws.{begin-kept, begin-room}',
+                 'use Rattle.control.specs.Control.{begun, currentConfiguration, full, namedIndex}',
+                 'use Rattle.control.specs.Verdicts.{answerOf, routeOf, verdictOf}',
+                 'use Rattle.control.specs.VerdictLaws.{isMove, routed-to}'],
+        'makers': [('begin', 'begin.begin_table', 'begins', 'begun h (p .request) (p .cut)',
+                    '(h .revision ≡ full → ⊥) × ((currentConfiguration h .epoch ≡ full → ⊥) × ((h .count ≤ 9) × (namedIndex h (p .request) < h .count)))',
+                    'begin-room h p valid (ap isMove {told})')],
+    },
     'apply_in_place': {
+        'module': 'apply',
         'param': 'VoterCommand',
-        'judge': 'apply.judge_command',
+        'judge': 'command.judge_command',
         'verdict': 'judge h (p .control) (p .cut)',
         'outcome': 'appliedOf h (p .control) (p .cut)',
         'making': 'made h (p .control) (p .cut)',
         'unfolding': 'made',
         'stays': 'command-none h (p .control) (p .cut)',
-        'uses': ['use Rattle.control.specs.Judgement.{judge, judgeBegin, made}',
-                 'use Rattle.control.specs.Control.{begun}',
+        'uses': ['use Rattle.control.specs.Judgement.{judge, made}',
+                 'use Rattle.control.specs.BeginVerdictLaws.{begin-room, beginIn}',
+                 'use Rattle.control.specs.Control.{begun, caughtUpRecorded, continued, currentConfiguration, fencedAt, finalized, full, namedIndex, snapshotRecorded, targetIndex}',
                  'use Rattle.control.specs.Verdicts.{advanceIn, answerOf, appliedOf, routeOf, verdictOf}',
-                 'use Rattle.control.specs.VerdictLaws.{begin-begins, command-none, room-as, routed-to, step-advance, target-as}'],
-        'makers': steps(['apply.' + n for n in ('record_snapshot', 'record_caught_up', 'record_continuation', 'record_fence', 'record_finalize')],
+                 'use Rattle.control.specs.VerdictLaws.{begin-begins, command-none, isMove, room-as, routed-to, step-advance, target-as}'],
+        'makers': steps(['command.' + n for n in ('make_snapshot', 'make_caught_up', 'make_continuation', 'make_fence', 'make_finalize')],
                         '(step-advance h (p .control) (p .cut) {move} refl {told})', '(advanceIn (p .control) (p .cut))', 'p .control .step', 'p .cut')
-        + [('begin', 'apply.record_begin', 'begins', 'begun h (p .control .request) (p .cut)', 'BEGIN-REQUIRES', 'BEGIN-SHOWS')],
+        + [('begin', 'command.make_begin', 'begins', 'begun h (p .control .request) (p .cut)',
+            '(h .revision ≡ full → ⊥) × ((currentConfiguration h .epoch ≡ full → ⊥) × ((h .count ≤ 9) × (namedIndex h (p .control .request) < h .count)))',
+            'begin-room h (beginIn (p .control) (p .cut)) valid (ap isMove (begin-begins h (p .control) (p .cut) {told}))')],
     },
 }
 
-HEAD = '''-- `control::apply::{name}` meets its contract: the law of a thin call that goes by a verdict (`Judged{n}`), at its types and its cores. Written by scripts/thin.py.
+HEAD = '''-- `control::{module}::{name}` meets its contract: the law of a thin call that goes by a verdict (`{law}`), at its types and its cores. Written by scripts/thin.py.
 -- All that is known of the cores is that they meet their contracts.
 -- Assumes nothing.
 use mathlib.Core.Path.{{_≡_, refl, sym, _∙_, ap, ap₂}}
@@ -106,25 +132,24 @@ use Rattle.records.specs.declared.records.VoterSlotTable.{{VoterSlotTable}}
 use Rattle.records.specs.Validation.{{validate}}
 use Rattle.records.proofs.records.VoterSlotTable as Tt
 use Rattle.records.proofs.records.VoterSlotTable.Laws as T′
-use Rattle.control.specs.declared.control.{param}.{{{param}}}
+use Rattle.control.specs.declared.{home}.{param}.{{{param}}}
 use Rattle.control.specs.declared.judge.Judged.{{Judged}}
-use Rattle.control.specs.Control.{{caughtUpRecorded, continued, fencedAt, finalized, full, snapshotRecorded, targetIndex}}
 use Rattle.control.specs.Judgement.{{Move, carried}}
 use Rattle.control.specs.Judgement.Verdict.{{moves}}
 use Rattle.control.specs.Judgement.Move.{{{ctors}}}
 {uses}
-use Rattle.control.proofs.control.{param} as P
-use Rattle.control.proofs.control.{param}.Laws as P′
+use Rattle.control.proofs.{home}.{param} as P
+use Rattle.control.proofs.{home}.{param}.Laws as P′
 use Rattle.control.proofs.judge.Judged as E
 use Rattle.control.proofs.judge.Judged.Laws as E′
 use Rattle.control.proofs.Known.{{held}}
-use Rattle.control.proofs.Judged{n} as law
+use Rattle.control.proofs.{law} as law
 use Rattle.control.proofs.Parts.{{tval, known}}
 {cores}
-use Rattle.control.proofs.apply.{name}.Key.{{name as #thin}}
-use Rattle.control.proofs.apply.{name} as thin
-use Rattle.control.proofs.apply.{name}.Statement as stated
-use Rattle.control.proofs.apply.{name}.Code as code
+use Rattle.control.proofs.{module}.{name}.Key.{{name as #thin}}
+use Rattle.control.proofs.{module}.{name} as thin
+use Rattle.control.proofs.{module}.{name}.Statement as stated
+use Rattle.control.proofs.{module}.{name}.Code as code
 
 abbrev stayed : Stays (thin.ended .signature .params) (thin.ended .kept)
 stayed = (stay-ref (0 ∷ []) tt (plain (λ _. Tt.the-row)), (stay-none (λ _. P.the-row) yes, tt))
@@ -330,7 +355,7 @@ def written(name):
     n = len(makers)
     none = 'Unit {0}'
     for j in range(1, n + 1):
-        none = '(%s) × (y ≡ %d → ⊥)' % (none, j)
+        none = '(%s) × (y ≡ %d → ⊥)' % (none, j + call.get('first', 1) - 1)
     offs = ' '.join('(λ k. off%s .1 (c ∙ k))' % (' .0' * (n - j)) for j in range(1, n + 1))
     arms = []
     for m in makers:
@@ -340,7 +365,7 @@ def written(name):
                     '      (λ r e y c on n e′ w v is a. ends w v is n (right r e {ctor} {told} w a n e′))'.format(shown=out, told=told, **m))
     triples = ' → '.join('Triple 𝓤 (C #{tag}) ({Tag} 𝓤 H A at-mem run)'.format(**m) for m in makers)
     values = dict(
-        call, name=name, n=n, kebab=name.replace('_', '-'), none='(%s)' % none, offs=offs, arms='\n'.join(arms), triples=triples,
+        call, name=name, n=n, law='Judged%d' % n, home='begin' if call['param'] == 'VoterBegin' else 'control', kebab=name.replace('_', '-'), none='(%s)' % none, offs=offs, arms='\n'.join(arms), triples=triples,
         uses='\n'.join(call['uses']), ctors=', '.join(m['ctor'] for m in makers), mets=' '.join('met-' + m['tag'] for m in makers),
         psis=' '.join('(λ n. n ≡ %s)' % m['table'] for m in makers), pres=' '.join('({Tag} 𝓤 H A at-mem run .pre to-{tag})'.format(**m) for m in makers),
         posts=' '.join('({Tag} 𝓤 H A at-mem run .post to-{tag})'.format(**m) for m in makers), names=' '.join('#' + m['tag'] for m in makers),
@@ -356,5 +381,5 @@ def written(name):
 
 
 for name in sys.argv[1:] or CALLS:
-    with open('crates/control/proofs/apply/%s/Proof.antt' % name, 'w', encoding='utf-8') as file:
+    with open('crates/control/proofs/%s/%s/Proof.antt' % (CALLS[name]['module'], name), 'w', encoding='utf-8') as file:
         file.write(written(name))

@@ -2,3 +2,4 @@ pub mod Known
 pub mod Parts
 pub mod Judged5
 pub mod Judged1
+pub mod Judged6

@@ -79,7 +79,7 @@ module _ (t : VoterSlotTable) (p : VoterSlotRecord → Bool) where
             ∙ (ap (λ (b : Bool). cond b (read (slotAt t (placeFrom (i + 1)))) none) (not-beyond (i + 1) (omega arith))
             ∙ sym (ap (λ (b : Bool). cond b (read (slotAt t (placeFrom i))) none) (not-beyond i m)))
 
-  -- behind it
+  -- after it
   pub place-first : placeFrom 0 ≡ firstFrom (λ k. p (slotAt t k)) (t .count) 0
   place-first = ap (λ (n : ℕ). firstFrom (λ k. p (slotAt t k)) n 0) (sub-zero (t .count))
 
@@ -121,7 +121,7 @@ module _ (t : VoterSlotTable) (p : VoterSlotRecord → Bool) where
   pub found-end : (i : ℕ) → i ≡ 0 → isPlace t (placeFrom t p i) ≡ isPlace t (firstFrom (λ k. p (slotAt t k)) (t .count) 0)
   found-end i e = ap (λ (n : ℕ). isPlace t (placeFrom t p n)) e ∙ ap (isPlace t) (place-first t p)
 
--- ---- a place behind the nine
+-- ---- a place after the nine
 
 no-slot : (t : VoterSlotTable) → length (t .slots) ≡ 9 → (k : ℕ) → ltb k maxFixedVoterSlots ≡ false → slotAt t k ≡ noSlotRecord
 no-slot t nine k h = let l = ltb-false k maxFixedVoterSlots h in List·getD-eq-default (t .slots) noSlotRecord (omega (arith, nine))

@@ -225,7 +225,7 @@ unfoldable pub beginCheck : VoterSlotTable → VoterReplacementRequest → Voter
 beginCheck t r cut =
     andThen (openCheck t r cut) (andThen (requestCheck r) (andThen (staleCheck t r) (andThen (candidateCheck t r) (fullCheck t))))
 
--- a receipt of the open request, at the next revision, of the incarnation that its slot has now; "terminal" is the cut of the command
+-- a receipt of the open request, at the next revision, of the incarnation that its slot has now; it ends at the cut of the command
 abbrev pub receiptOf : VoterSlotTable → VoterSlotRecord → ℕ → VoterSlotLogId → VoterReplacementResult
 receiptOf t s kind cut =
     record {

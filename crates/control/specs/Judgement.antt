@@ -65,7 +65,7 @@ judgeRepeated t r =
     (cond (isAccepted (requestCheck r)) kept (refused (requestCheck r)))
     (refused IdempotencyConflict)
 
--- a request that is superseded has no evidence that is not before this cut
+-- where a request is superseded, its latest evidence lies before this cut
 abbrev pub beginTest : VoterSlotTable → VoterSlotLogId → Bool
 beginTest t cut = not (t .«has_replacement») || follows cut (latest (t .replacement .evidence)) false
 
@@ -149,7 +149,7 @@ judgeFence t cut =
     ((eqb (op .phase) caughtUp && (op .evidence .«caught_up» .«is_some» && eqb (op .evidence .«caught_up» .cut .term) (cut .term))) && fenceTest (op .evidence) cut)
     (moves fences) (refused InvalidTransition))
 
--- `finalize` of Control: in Uniform its cut is the latest evidence, and the slot being replaced is there
+-- `finalize` of Control: in Uniform the latest evidence is uniform's cut, and the slot being replaced is there
 unfoldable pub judgeFinalize : VoterSlotTable → VoterSlotLogId → Verdict Move
 judgeFinalize t cut =
     cond (eqb (t .replacement .phase) uniform && follows cut (t .replacement .evidence .uniform .cut) false) (moves finalizes) (refused InvalidTransition)

@@ -1,4 +1,5 @@
 pub mod AdvanceLaws
+pub mod ApplyLaws
 pub mod BeginCheckLaws
 pub mod BeginJudge
 pub mod BeginJudgeLaws

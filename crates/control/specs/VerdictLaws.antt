@@ -282,25 +282,3 @@ module _ (t : VoterSlotTable) (c : VoterSlotControl) (cut : VoterSlotLogId) wher
   entry-valid h =
       let e = head-passed (representable t && representableControl c) (isAccepted (validity t) && validLogId cut) h in
       valid-joined t (and-left (representable t) _ (e .0)) (is-accepted _ (and-left (isAccepted (validity t)) _ (e .1)))
-
-  -- by the kind: what the thin calls of an Advance, and the judge of a Marker, are to the entry point
-  pub entry-advance : c .kind ≡ advanceKind → isAccepted (checkedOf t c cut) ≡ true → advanceOf t (advanceIn c cut) ≡ applyControl t c cut
-  unfolding judge
-  entry-advance k h =
-      sym (advance-made t c cut)
-      ∙ (ap (λ (n : ℕ). carried (made t c cut) t (cond (eqb n beginKind) (judgeBegin t (c .request) cut)
-      (cond (eqb n advanceKind) (judgeAdvance t (c .«request_id») (c .«request_digest») (c .step) cut) (judgeMarker t (c .«request_id») (c .«request_digest»))))) (sym k)
-      ∙ entry-passed h)
-
-  pub entry-marker : (c .kind ≡ beginKind → ⊥) → (c .kind ≡ advanceKind → ⊥) → isAccepted (checkedOf t c cut) ≡ true
-      → paired (answerOf (judgeMarker t (c .«request_id») (c .«request_digest»))) t ≡ applyControl t c cut
-  unfolding judge judgeMarker carried
-  entry-marker n m h =
-      marker-carried (isOpenRequest t (c .«request_id») && eqBytes (t .replacement .attestation .«request_digest») (c .«request_digest») && isCatchingUp (t .replacement .phase))
-      ∙ (ap₂ (λ (x y : Bool). carried (made t c cut) t (cond x (judgeBegin t (c .request) cut)
-      (cond y (judgeAdvance t (c .«request_id») (c .«request_digest») (c .step) cut) (judgeMarker t (c .«request_id») (c .«request_digest»))))) (sym (ne-eqb _ _ n)) (sym (ne-eqb _ _ m))
-      ∙ entry-passed h)
-    where
-      marker-carried : (b : Bool) → paired (answerOf (cond b kept (refused InvalidTransition))) t ≡ carried (made t c cut) t (cond b kept (refused InvalidTransition))
-      marker-carried true = refl
-      marker-carried false = refl

@@ -64,3 +64,9 @@ pub struct VoterAdvance {
     pub step: VoterReplacementStep,
     pub cut: VoterSlotLogId,
 }
+
+// A command with the cut at which it is committed: what its judge, its makers and its calls take.
+pub struct VoterCommand {
+    pub control: VoterSlotControl,
+    pub cut: VoterSlotLogId,
+}

@@ -1,5 +1,6 @@
 pub mod apply;
 pub mod begin;
+pub mod command;
 pub mod control;
 pub mod judge;
 pub mod make;

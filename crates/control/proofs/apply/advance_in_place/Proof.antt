@@ -45,10 +45,10 @@ use Rattle.records.proofs.records.VoterSlotTable as Tt
 use Rattle.records.proofs.records.VoterSlotTable.Laws as T′
 use Rattle.control.specs.declared.control.VoterAdvance.{VoterAdvance}
 use Rattle.control.specs.declared.judge.Judged.{Judged}
-use Rattle.control.specs.Control.{caughtUpRecorded, continued, fencedAt, finalized, full, snapshotRecorded, targetIndex}
 use Rattle.control.specs.Judgement.{Move, carried}
 use Rattle.control.specs.Judgement.Verdict.{moves}
 use Rattle.control.specs.Judgement.Move.{recordsSnapshot, recordsCaughtUp, continues, fences, finalizes}
+use Rattle.control.specs.Control.{caughtUpRecorded, continued, fencedAt, finalized, full, snapshotRecorded, targetIndex}
 use Rattle.control.specs.Verdicts.{advanceOf, answerOf, judgeOf, routeOf, stepMade, verdictOf}
 use Rattle.control.specs.VerdictLaws.{routed-to, routed-none, room-as, target-as}
 use Rattle.control.proofs.control.VoterAdvance as P

@@ -22,7 +22,7 @@ route-requires c κs = search needs
 begin-table-requires : tie.Need-begin-table-requires
 begin-table-requires c κs =
     let s = c .before .before .before .before in
-    let k = sym (c .before .before .before .judge-begin .ensures) ∙ begin-told (verdictOf ((c .before .before .before .judge-begin) .result)) (sym (c .before .route .ensures) ∙ (c .if1) .taken) in
+    let k = sym (c .before .before .before .judge-begin .ensures) ∙ begin-told (verdictOf (c .before .before .before .judge-begin .result)) (sym (c .before .route .ensures) ∙ c .if1 .taken) in
     begin-room (s .args .t) (s .args .b) (s .pre) (ap isMove k)
 
 returns : tie.Need-returns
@@ -31,7 +31,7 @@ returns c =
     let s = c .before .before .before .before .before in
     let t = s .args .t in
     let b = s .args .b in
-    let k = begin-told (verdictOf ((c .before .before .before .before .judge-begin) .result)) (sym (c .before .before .route .ensures) ∙ (c .before .if1) .taken) in
+    let k = begin-told (verdictOf (c .before .before .before .before .judge-begin .result)) (sym (c .before .before .route .ensures) ∙ c .before .if1 .taken) in
     ap₂ paired ((c .before .before .before .answer-of .ensures) ∙ ap answerOf k) (c .begin-table .ensures) ∙ ap (carried (beginMade t b) t) (sym k ∙ (c .before .before .before .before .judge-begin .ensures))
 
 returns-2 : tie.Need-returns-2
@@ -39,7 +39,7 @@ returns-2 c =
     let s = c .before .before .before .before in
     let t = s .args .t in
     let b = s .args .b in
-    ap (λ (a : Answer). paired a t) (c .before .before .answer-of .ensures) ∙ (begin-kept t b (verdictOf ((c .before .before .before .judge-begin) .result)) (λ e. (c .if1) .left ((c .before .route .ensures) ∙ e)) ∙ ap (carried (beginMade t b) t) (c .before .before .before .judge-begin .ensures))
+    ap (λ (a : Answer). paired a t) (c .before .before .answer-of .ensures) ∙ (begin-kept t b (verdictOf (c .before .before .before .judge-begin .result)) (λ e. c .if1 .left ((c .before .route .ensures) ∙ e)) ∙ ap (carried (beginMade t b) t) (c .before .before .before .judge-begin .ensures))
 
 pub begin-spec : {M : Type 1} → statement M
 begin-spec =

@@ -16,14 +16,14 @@ configured t members = record { epoch = t .«configuration_epoch»; members = me
 
 returns : tie.Need-returns
 unfolding currentConfiguration
-returns c = sym (cond-true _ _ _ ((c .before .if1) .taken))
+returns c = sym (cond-true _ _ _ (c .before .if1 .taken))
 
 members-of-requires : tie.Need-members-of-requires
 members-of-requires c κs = search needs
 
 returns-2 : tie.Need-returns-2
 unfolding currentConfiguration
-returns-2 c = ap (configured (c .before .before .before .before .before .args .t)) (c .members-of .ensures) ∙ sym (cond-false _ _ _ ((c .before .before .if1) .left))
+returns-2 c = ap (configured (c .before .before .before .before .before .args .t)) (c .members-of .ensures) ∙ sym (cond-false _ _ _ (c .before .before .if1 .left))
 
 pub current-configuration-spec : {M : Type 1} → statement M
 current-configuration-spec = tie.close (tie.spec returns members-of-requires returns-2)

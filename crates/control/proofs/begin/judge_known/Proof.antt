@@ -30,7 +30,7 @@ returns c =
     let t = s .args .t in
     let a = s .args .r .attestation in
     let nine = held-voter-slot-table t _ (s .good .0) .slots .count in
-    let is-known = (t .«has_replacement» && (c .before .before .before .before .before .before .before .before .same16) .result) || (c .before .before .before .before .before .find-receipt) .result .found in
+    let is-known = (t .«has_replacement» && c .before .before .before .before .before .before .before .before .same16 .result) || c .before .before .before .before .before .find-receipt .result .found in
     (c .either2 .ensures)
     ∙ (ap (λ (v : Verdict Move). cond is-known v (verdictOf (s .args .fresh))) (c .before .before .either .ensures)
     ∙ known-judged t nine (a .«request_id») (a .«request_digest») _ _ _ _ _ _ (c .before .before .before .before .before .before .before .before .same16 .ensures) (c .before .before .before .before .before .before .same32 .ensures) (c .before .before .before .before .before .find-receipt .ensures))

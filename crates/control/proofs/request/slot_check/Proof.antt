@@ -41,8 +41,8 @@ returns c =
     let r = s .args .r in
     let nine = held-voter-slot-table t _ (s .good .0) .slots .count in
     let bytes = held-lost-voter-attestation-v1 (r .attestation) _ (s .good .1 .0 .1 .1 .1 .1 .1 .0) .«old_descriptor_digest» .count in
-    let x = (c .before .before .before .before .before .before .before .before .before .before .before .before .before .before .named-member) .result in
-    let now = x .found && (eqb (t .revision) (r .«expected_revision») && ((c .before .before .before .before .before .before .before .before .before .before .before .before .is-expected) .result && ((c .before .before .before .before .before .before .before .before .before .same32) .result && (c .before .before .before .before .before .before .before .before .is-attested) .result))) in
+    let x = c .before .before .before .before .before .before .before .before .before .before .before .before .before .before .named-member .result in
+    let now = x .found && (eqb (t .revision) (r .«expected_revision») && (c .before .before .before .before .before .before .before .before .before .before .before .before .is-expected .result && (c .before .before .before .before .before .before .before .before .before .same32 .result && c .before .before .before .before .before .before .before .before .is-attested .result))) in
     (c .answer-by3 .ensures)
     ∙ (ap (λ (a : Answer). cond now a StaleIncarnation) ((c .before .answer-by2 .ensures) ∙ ap (λ (a : Answer). cond (leb 3 (t .count)) a NoSurvivingQuorum) (c .before .before .before .answer-by .ensures))
     ∙ slot-judged t r nine bytes x _ _ _ _ (c .before .before .before .before .before .before .before .before .before .before .before .before .before .before .named-member .ensures) (c .before .before .before .before .before .before .before .before .before .before .before .before .is-expected .ensures) (c .before .before .before .before .before .before .before .before .before .same32 .ensures) (c .before .before .before .before .before .before .before .before .is-attested .ensures) (c .before .before .before .before .before .before .before .is-newer .ensures))

@@ -1,0 +1,66 @@
+-- `control::begin::begin_table` meets its contract: the slots, and the request made of them. Assumes nothing.
+use Prim.Native.Nat.{_+_}
+use mathlib.Core.List.{map}
+use mathlib.Core.Bool.{true}
+use mathlib.Core.Path.{_≡_, sym, ap, _∙_}
+use borrow.Author.Needs.{needs}
+use Rattle.records.specs.declared.records.VoterSlotRecord.{VoterSlotRecord}
+use Rattle.records.specs.declared.records.VoterConfiguration.{VoterConfiguration}
+use Rattle.records.specs.With.{tableWith}
+use Rattle.records.specs.Records.{prepared}
+use Rattle.control.specs.BeginJudge.{preparedAt}
+use Rattle.control.specs.Control.{full, begunOperation}
+use Rattle.control.proofs.begin.begin_table.Statement.{statement}
+use Rattle.control.proofs.begin.begin_table.Tie as tie
+
+begun-slots-requires : tie.Need-begun-slots-requires
+begun-slots-requires c κs = search needs
+
+current-configuration-requires : tie.Need-current-configuration-requires
+current-configuration-requires c κs = search needs
+
+members-of-requires : tie.Need-members-of-requires
+members-of-requires c κs = search needs
+
+add-epoch : tie.Need-add-epoch
+add-epoch c =
+    let n : (c .before .before .current-configuration .result .epoch ≡ full → ⊥) = λ e. c .before .before .before .before .before .before .pre .1 .0 (ap (λ (x : VoterConfiguration). x .epoch) (sym (c .before .before .current-configuration .ensures)) ∙ e) in
+    search needs
+
+prepared-at-requires : tie.Need-prepared-at-requires
+prepared-at-requires c κs = search needs
+
+add-revision : tie.Need-add-revision
+add-revision c = search needs
+
+returns : tie.Need-returns
+unfolding begunOperation preparedAt
+returns c =
+    let s = c .before .before .before .before .before .before .before .before in
+    let t = s .args .t in
+    let r = s .args .b .request in
+    let slots = (c .before .before .before .before .before .before .before .begun-slots .ensures) in
+    let current = (c .before .before .before .before .current-configuration .ensures) in
+    let members = (c .before .before .before .members-of .ensures) ∙ ap (map (λ (x : VoterSlotRecord). x .member)) slots in
+    let evidence = (c .before .prepared-at .ensures) in
+    λ i. tableWith t (t .revision + 1) (t .«configuration_epoch») (slots i) true
+    (record {
+      «expected_revision» = r .«expected_revision»;
+      attestation = r .attestation;
+      predecessor = current i;
+      successor = record { epoch = current i .epoch + 1; members = members i; count = t .count };
+      phase = prepared;
+      evidence = evidence i;
+    })
+
+pub begin-table-spec : {M : Type 1} → statement M
+begin-table-spec =
+    tie.close
+    (tie.spec
+    begun-slots-requires
+    current-configuration-requires
+    members-of-requires
+    add-epoch
+    prepared-at-requires
+    add-revision
+    returns)
