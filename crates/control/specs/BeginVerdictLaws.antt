@@ -12,7 +12,7 @@ use Rattle.identity.specs.declared.answer.Answer.the-variants.{Accepted, Idempo
 use Rattle.records.specs.declared.records.VoterSlotLogId.{VoterSlotLogId}
 use Rattle.records.specs.declared.records.VoterSlotTable.{VoterSlotTable}
 use Rattle.records.specs.Equality.{eqBytes}
-use Rattle.records.specs.RepresentableParts.{representable-count}
+use Rattle.records.specs.RepresentableLaws.{representable-count}
 use Rattle.records.specs.ValidParts.{valid-parts}
 use Rattle.records.specs.Validation.{validate}
 use Rattle.records.specs.ValidationLaws.{is-accepted}

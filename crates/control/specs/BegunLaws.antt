@@ -186,7 +186,7 @@ module _ (t : VoterSlotTable) (r : VoterReplacementRequest) (cut : VoterSlotLogI
   -- the member before the candidate
   record Before (s : VoterSlotRecord) (p : VoterSlotMember) : Type 0 where
     number : p .identity .slot ≡ r .candidate .identity .slot
-    behind : p .identity .incarnation ≤ r .attestation .«expected_incarnation»
+    earlier : p .identity .incarnation ≤ r .attestation .«expected_incarnation»
     generation : p .«admission_generation» < r .candidate .«admission_generation»
     retired : retiredMember (claimsOf (begunOperation t r cut)) s p ≡ true
 

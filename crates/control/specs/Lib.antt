@@ -20,6 +20,11 @@ pub mod Line
 pub mod LineLaws
 pub mod Observation
 pub mod ObservationLaws
+pub mod ObserveLaws
+pub mod ObserveSets
+pub mod ObserveSetsLaws
+pub mod ObserveSight
+pub mod ObserveSightLaws
 pub mod OpenLaws
 pub mod PlacesLaws
 pub mod Quorum

@@ -139,16 +139,16 @@ rising-difference (x ∷ a) b h = by (contains x b) (rising-difference a b (risi
 contradiction : true ≡ false → ⊥
 contradiction e = let z : _≡_ {A = ℕ} 0 1 = cc in omega arith
 
-holds-head : (x : ℕ) (l : List ℕ) → contains x (x ∷ l) ≡ true
+pub holds-head : (x : ℕ) (l : List ℕ) → contains x (x ∷ l) ≡ true
 unfolding contains
 holds-head x l = rw (eq-eqb x x refl)
 
-holds-tail : (x y : ℕ) (l : List ℕ) → contains y l ≡ true → contains y (x ∷ l) ≡ true
+pub holds-tail : (x y : ℕ) (l : List ℕ) → contains y l ≡ true → contains y (x ∷ l) ≡ true
 unfolding contains
 holds-tail x y l c = rw (c, or-true (eqb y x))
 
 -- of the head of another list: it is that head, or comes after it
-other-head : (x y : ℕ) (l : List ℕ) → contains x (y ∷ l) ≡ true → isRising (y ∷ l) ≡ true → y ≤ x
+pub other-head : (x y : ℕ) (l : List ℕ) → contains x (y ∷ l) ≡ true → isRising (y ∷ l) ≡ true → y ≤ x
 unfolding contains
 other-head x y l c r = by (eqb x y) refl c
   where
@@ -157,7 +157,7 @@ other-head x y l c r = by (eqb x y) refl c
     by false e k = let q = head-least y l r x k in omega arith
 
 -- each within the other
-abbrev Within : List ℕ → List ℕ → Type 0
+abbrev pub Within : List ℕ → List ℕ → Type 0
 Within a b = (x : ℕ) → contains x a ≡ true → contains x b ≡ true
 
 tail-within : (x y : ℕ) (a b : List ℕ) → x ≡ y → isRising (x ∷ a) ≡ true → Within (x ∷ a) (y ∷ b) → Within a b
@@ -180,7 +180,7 @@ same-set (x ∷ a) (y ∷ b) p q v w =
     let t = same-set a b (rising-tail x a p) (rising-tail y b q) (tail-within x y a b e p v) (tail-within y x b a (sym e) q w) in
     cc
 
-subset-says : (a b : List ℕ) → isSubset a b ≡ true → Within a b
+pub subset-says : (a b : List ℕ) → isSubset a b ≡ true → Within a b
 unfolding contains every
 subset-says [] b h x c = absurd (contradiction (sym c))
 subset-says (y ∷ a) b h x c = by (eqb x y) refl c (subset-says a b (and-right (contains y b) _ h) x)
@@ -189,7 +189,7 @@ subset-says (y ∷ a) b h x c = by (eqb x y) refl c (subset-says a b (and-right 
     by true e k f = ap (λ (z : ℕ). contains z b) (eqb-true x y e) ∙ and-left _ _ h
     by false e k f = f k
 
-subset-of : (a b : List ℕ) → Within a b → isSubset a b ≡ true
+pub subset-of : (a b : List ℕ) → Within a b → isSubset a b ≡ true
 unfolding every
 subset-of [] b w = refl
 subset-of (y ∷ a) b w = rw (w y (holds-head y a)) (subset-of a b (λ x c. w x (holds-tail y x a c)))

@@ -30,7 +30,7 @@ use Rattle.control.specs.Judgement.{Move, Verdict, beginTest, carried, j
 use Rattle.control.specs.Judgement.Verdict.{refused, kept, moves}
 use Rattle.control.specs.Judgement.Move.{begins, recordsSnapshot, recordsCaughtUp, continues, fences, finalizes}
 use Rattle.control.specs.OpenLaws.{opened}
-use Rattle.records.specs.RepresentableParts.{representable-count}
+use Rattle.records.specs.RepresentableLaws.{representable-count}
 use Rattle.control.specs.declared.control.VoterAdvance.{VoterAdvance}
 use Rattle.control.specs.Verdicts.{advanceIn, advanceOf, answerOf, appliedOf, checkedOf, judgeOf, routeOf, stepMade}
 

@@ -2,8 +2,7 @@
 // kind uses.
 //
 // Ported from crates/opc-consensus/src/voter_slots/control.rs (the match of `apply_control`) of
-// openpacketcore-sdk, commit 717de332e7, Apache-2.0 (see NOTICE). Changed: judged and made apart; each
-// maker has one caller and so is inlined there.
+// openpacketcore-sdk, commit 717de332e7, Apache-2.0 (see NOTICE). Changed: judged and made apart.
 ghost use Prim.Native.Nat.{_<_, _≤_};
 ghost use mathlib.Core.Path.{_≡_};
 ghost use Rattle.control.specs.Control.{begun, caughtUpRecorded, continued, currentConfiguration, fencedAt, finalized, full, namedIndex, snapshotRecorded, targetIndex};

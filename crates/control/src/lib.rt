@@ -4,6 +4,8 @@ pub mod command;
 pub mod control;
 pub mod judge;
 pub mod make;
+pub mod observe;
 pub mod representable;
 pub mod request;
 pub mod retired;
+pub mod sets;

@@ -4,7 +4,7 @@ use Rattle.control.specs.Control.{representableControl}
 use Rattle.records.specs.ValidationLaws.{failed, held}
 use Rattle.records.specs.Validation.{validity}
 use Rattle.records.specs.TestLaws.{cond-true, cond-false}
-use Rattle.records.specs.RepresentableParts.{representable-count}
+use Rattle.records.specs.RepresentableLaws.{representable-count}
 use Rattle.records.specs.Representable.{representable}
 use Rattle.records.specs.Evidence.{validLogId}
 use Rattle.identity.specs.Utf8Laws.{and-left}

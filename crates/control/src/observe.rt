@@ -1,0 +1,612 @@
+// Observed memberships.
+//
+// Ported from `observe_membership` of crates/opc-consensus/src/voter_slots/control.rs of
+// openpacketcore-sdk, commit 717de332e7, Apache-2.0 (see NOTICE). Changed: what is seen is judged before
+// anything is made, and the tests of a changed table stand here as tests of the evidence. Nothing is
+// validated first: ids may repeat there, and stand in any order.
+ghost use Prim.Native.Nat.{_+_, _<_, _≤_};
+ghost use mathlib.Core.Path.{_≡_};
+ghost use mathlib.Core.Bool.{cond, false, true};
+ghost use lib.Dec.{eqb};
+ghost use lib.ListN.{length};
+ghost use Rattle.identity.specs.Answer.{isAccepted};
+ghost use Rattle.identity.specs.declared.answer.Answer.the-variants.{Accepted, InvalidTransition, RevisionExhausted};
+ghost use Rattle.identity.specs.declared.identity.VoterSlotIdentityResult.the-variants.{Ok};
+ghost use Rattle.records.specs.Validation.{validate, validity};
+ghost use Rattle.control.specs.Control.{full, targetIndex, targetSlot};
+ghost use Rattle.control.specs.Judgement.{added, carried, jointTest, learnerTest, uniformTest};
+ghost use Rattle.control.specs.Judgement.Addition.{addsJoint, addsLearner, addsUniform};
+ghost use Rattle.control.specs.Judgement.Verdict.{refused};
+ghost use Rattle.control.specs.Observation.{isObsolete, memberIndex, observeMembership, see, seePhase, splitSets, total};
+ghost use Rattle.control.specs.ObserveSight.{Room, Supplied, answerOfObserved, confirmed, fewMembers, isChange, judgeClosed, judgeKnown, judgeMembers, judgeSeen, judgeSets, lingersAs, routeOfObserved, seenBy, seenOf, seenOld, sightOf, testsOf, verdictOfObserved, weighed};
+use crate::apply::Controlled;
+use crate::sets::NO_ID;
+use crate::sets::add_up;
+use crate::sets::are_held;
+use crate::sets::are_two_sets;
+use crate::sets::contains;
+use crate::sets::first_outside;
+use crate::sets::ids_of;
+use crate::sets::ids_of_slots;
+use crate::sets::is_one_more;
+use crate::sets::is_one_set;
+use crate::sets::is_same;
+use crate::sets::is_subset;
+use crate::sets::least_new;
+use crate::sets::rises;
+use crate::sets::sets_rise;
+use identity::answer::Answer;
+use identity::answer::accepted;
+use identity::identity::VoterSlotIdentity;
+use identity::identity::VoterSlotIdentityResult;
+use records::evidence::is_valid_beside;
+use records::evidence::log_id_follows;
+use records::records::CATCHING_UP;
+use records::records::FENCED;
+use records::records::JOINT;
+use records::records::LEARNER_ADDED;
+use records::records::OptionalLogId;
+use records::records::SNAPSHOT_INSTALLED;
+use records::records::UNIFORM;
+use records::records::VOTING;
+use records::records::VoterConfiguration;
+use records::records::VoterSlotLogId;
+use records::records::VoterSlotTable;
+use records::representable::is_representable;
+use records::successor::slot_index;
+use records::validation::target_phase;
+use records::validation::validate_representable;
+
+// What sets and nodes are to the open request.
+pub enum Seen {
+    Strange,
+    NothingNew,
+    NewLearner,
+    NewJoint,
+    NewUniform,
+}
+
+// Refused; accepted and unchanged; or the change that is to be made.
+pub enum Observed {
+    Refuse(Answer),
+    Keep,
+    AddLearner,
+    AddJoint,
+    AddUniform,
+}
+
+// A verdict with the cut at which the observation is committed: what the makers and the thin call take.
+pub struct VoterObservation {
+    pub judged: Observed,
+    pub cut: VoterSlotLogId,
+}
+
+// The tests of the sets and the nodes.
+pub struct SetTests {
+    pub no_candidate: bool,
+    pub is_old: bool,
+    pub fits_old: bool,
+    pub has_candidate: bool,
+    pub is_joint: bool,
+    pub is_new: bool,
+}
+
+// ---- what is seen
+
+fn pick_seen(test: bool, one: Seen, other: Seen) -> Seen
+    ensures { λ r. ⌜ sightOf r ≡ cond test (sightOf one) (sightOf other) ⌝ }
+{
+    if test {
+        return one;
+    }
+    other
+}
+
+// The predecessor's set of voters, with or without the candidate's node.
+fn see_old(phase: u8, fits: bool, candidate: bool) -> Seen
+    ensures { λ r. ⌜ sightOf r ≡ seenOld phase fits candidate ⌝ }
+{
+    let later = pick_seen(
+        phase == SNAPSHOT_INSTALLED,
+        Seen::NewLearner,
+        Seen::NothingNew,
+    );
+    let with = pick_seen(phase < SNAPSHOT_INSTALLED, Seen::Strange, later);
+    let without = pick_seen(LEARNER_ADDED <= phase, Seen::Strange, Seen::NothingNew);
+    let either = pick_seen(candidate, with, without);
+    pick_seen(fits, either, Seen::Strange)
+}
+
+// What is new in the phase before a phase, and is there in that phase.
+fn see_phase(phase: u8, from: u8, at: u8, new: Seen) -> Seen
+    requires { ⌜ from + 1 ≡ at ⌝ }
+    ensures { λ r. ⌜ sightOf r ≡ seePhase phase at (sightOf new) ⌝ }
+{
+    let there = pick_seen(phase == at, Seen::NothingNew, Seen::Strange);
+    pick_seen(phase == from, new, there)
+}
+
+// `membership` and `obsolete_learner`, by their tests.
+fn see_by(phase: u8, tests: SetTests) -> Seen
+    ensures { λ r. ⌜ sightOf r ≡ seenBy phase tests ⌝ }
+{
+    let old = see_old(phase, tests.fits_old, tests.has_candidate);
+    let joint = see_phase(phase, FENCED, JOINT, Seen::NewJoint);
+    let uniform = see_phase(phase, JOINT, UNIFORM, Seen::NewUniform);
+    let third = pick_seen(tests.is_new, uniform, Seen::Strange);
+    let second = pick_seen(tests.is_joint, joint, third);
+    let first = pick_seen(tests.is_old, old, second);
+    pick_seen(tests.no_candidate, Seen::Strange, first)
+}
+
+// The tests: `old` and `new` are the ids of the members of the predecessor and of the successor.
+fn test_sets(
+    old: &[u64],
+    new: &[u64],
+    sets: &[u64],
+    counts: &[usize],
+    nodes: &[u64],
+    phase: u8,
+    known: bool,
+    lingers: bool,
+) -> SetTests
+    requires { ⌜ total (now counts) ≤ length (now sets) ⌝ }
+    ensures { λ r. ⌜ r ≡ testsOf phase (now (old .entry)) (now (new .entry)) (now (sets .entry)) (now (counts .entry)) (now (nodes .entry)) known lingers ⌝ }
+{
+    let candidate = least_new(old, new);
+    let has_candidate = contains(nodes, candidate);
+    let has_old = is_subset(old, nodes);
+    let has_new = is_subset(new, nodes);
+    let only_new = is_subset(nodes, new);
+    let one_old = is_one_set(sets, counts, old);
+    let one_new = is_one_set(sets, counts, new);
+    let two = are_two_sets(sets, counts, old, new);
+    let one_more = is_one_more(nodes.len(), sets.len());
+    SetTests {
+        no_candidate: candidate == NO_ID,
+        is_old: one_old,
+        fits_old: (((phase < JOINT) & has_old) & one_more) & lingers,
+        has_candidate,
+        is_joint: two & (known & (has_old & has_new)),
+        is_new: one_new & (only_new & has_new),
+    }
+}
+
+// ---- a superseded candidate, which may stay until the engine removes it
+
+// The place of the member of that slot, or the count.
+fn member_index(configuration: VoterConfiguration, slot: u16) -> usize
+    requires { ⌜ configuration .count ≤ 9 ⌝ }
+    ensures { λ r. ⌜ r ≡ memberIndex configuration slot ⌝ }
+{
+    let members = configuration.members;
+    let count = configuration.count;
+    let mut i = 0;
+    while i < count {
+        if members[i].identity.slot == slot {
+            return i;
+        }
+        i += 1;
+    }
+    i
+}
+
+fn is_obsolete(t: VoterSlotTable, identity: VoterSlotIdentity) -> bool
+    requires { ⌜ t .replacement .predecessor .count ≤ 9 ⌝ }
+    ensures { λ r. ⌜ r ≡ isObsolete (t .replacement) (Ok identity) ⌝ }
+{
+    let predecessor = t.replacement.predecessor;
+    let members = predecessor.members;
+    let slot = t.replacement.attestation.slot;
+    let at = member_index(predecessor, slot);
+    if predecessor.count <= at {
+        return false;
+    }
+    let retired = members[at].identity.incarnation;
+    (((t.replacement.phase <= SNAPSHOT_INSTALLED) & (identity.slot == slot))
+        & (retired < identity.incarnation))
+        & (identity.incarnation <= t.replacement.attestation.expected_incarnation)
+}
+
+// A node of neither configuration, or none.
+fn may_linger(t: VoterSlotTable, node: u64) -> bool
+    requires { ⌜ t .replacement .predecessor .count ≤ 9 ⌝ }
+    ensures { λ r. ⌜ r ≡ lingersAs (t .replacement) node ⌝ }
+{
+    if node == NO_ID {
+        return true;
+    }
+    let read = VoterSlotIdentity::from_node_id(node);
+    match read {
+        VoterSlotIdentityResult::Err(_) => false,
+        VoterSlotIdentityResult::Ok(identity) => is_obsolete(t, identity),
+    }
+}
+
+// ---- what an open request is seen to be
+
+// `old` and `new` are the ids of the members of the predecessor and of the successor.
+fn see_ids(
+    t: VoterSlotTable,
+    old: &[u64],
+    new: &[u64],
+    sets: &[u64],
+    counts: &[usize],
+    nodes: &[u64],
+) -> Seen
+    requires { ⌜ (total (now counts) ≤ length (now sets)) × (t .replacement .predecessor .count ≤ 9) ⌝ }
+    ensures { λ r. ⌜ sightOf r ≡ seenOf (t .replacement) (now (old .entry)) (now (new .entry)) (now (sets .entry)) (now (counts .entry)) (now (nodes .entry)) ⌝ }
+{
+    let phase = t.replacement.phase;
+    let outside = first_outside(nodes, old, new);
+    let lingers = may_linger(t, outside);
+    let tests = test_sets(
+        old,
+        new,
+        sets,
+        counts,
+        nodes,
+        phase,
+        outside == NO_ID,
+        lingers,
+    );
+    see_by(phase, tests)
+}
+
+pub fn see(t: VoterSlotTable, sets: &[u64], counts: &[usize], nodes: &[u64]) -> Seen
+    requires { ⌜ Supplied (now sets) (now counts) (now nodes) × ((t .replacement .predecessor .count ≤ 9) × (t .replacement .successor .count ≤ 9)) ⌝ }
+    ensures { λ r. ⌜ sightOf r ≡ see (t .replacement) (splitSets (now (sets .entry)) (now (counts .entry))) (now (nodes .entry)) ⌝ }
+{
+    let predecessor = t.replacement.predecessor;
+    let successor = t.replacement.successor;
+    let before = ids_of(predecessor);
+    let after = ids_of(successor);
+    let m = predecessor.count;
+    let n = successor.count;
+    let olds = &before[..];
+    let news = &after[..];
+    see_ids(t, &olds[..m], &news[..n], sets, counts, nodes)
+}
+
+// ---- the verdict
+
+// The picks of a judgement: each is one test of the definition, and what it leads to.
+fn accept_if(test: bool, accepted: Observed) -> Observed
+    ensures { λ r. ⌜ verdictOfObserved r ≡ cond test (verdictOfObserved accepted) (refused InvalidTransition) ⌝ }
+{
+    if test {
+        return accepted;
+    }
+    Observed::Refuse(Answer::InvalidTransition)
+}
+
+fn refuse_full(revision: u64, otherwise: Observed) -> Observed
+    ensures { λ r. ⌜ verdictOfObserved r ≡ cond (eqb revision full) (refused RevisionExhausted) (verdictOfObserved otherwise) ⌝ }
+{
+    if revision == u64::MAX {
+        return Observed::Refuse(Answer::RevisionExhausted);
+    }
+    otherwise
+}
+
+// Whether the cut comes next in the evidence.
+fn is_learner_cut(t: VoterSlotTable, cut: VoterSlotLogId) -> bool
+    ensures { λ r. ⌜ r ≡ learnerTest (t .replacement .evidence) cut ⌝ }
+{
+    let snapshot = t.replacement.evidence.snapshot.cut;
+    let continuation = t.replacement.evidence.continuation;
+    let own = continuation.cut;
+    let other = OptionalLogId { is_some: true, cut };
+    let later = log_id_follows(cut, snapshot, false);
+    let beside = is_valid_beside(own, other, false);
+    later & (!continuation.is_some | beside)
+}
+
+fn is_joint_cut(t: VoterSlotTable, cut: VoterSlotLogId) -> bool
+    ensures { λ r. ⌜ r ≡ jointTest (t .replacement .evidence) cut ⌝ }
+{
+    let fence = t.replacement.evidence.fence.cut;
+    log_id_follows(cut, fence, false)
+}
+
+fn is_uniform_cut(t: VoterSlotTable, cut: VoterSlotLogId) -> bool
+    ensures { λ r. ⌜ r ≡ uniformTest (t .replacement .evidence) cut ⌝ }
+{
+    let joint = t.replacement.evidence.joint.cut;
+    log_id_follows(cut, joint, false)
+}
+
+// What is seen of a table that is known to be valid, whose slot being replaced is in this phase.
+fn judge_known(t: VoterSlotTable, phase: u8, seen: Seen, cut: VoterSlotLogId) -> Observed
+    requires { ⌜ targetSlot t .phase ≡ phase ⌝ }
+    ensures { λ r. ⌜ verdictOfObserved r ≡ judgeKnown t (sightOf seen) cut ⌝ }
+{
+    match seen {
+        Seen::Strange => Observed::Refuse(Answer::InvalidTransition),
+        Seen::NothingNew => {
+            let right = target_phase(t.replacement.phase);
+            accept_if(phase == right, Observed::Keep)
+        }
+        Seen::NewLearner => accept_if(is_learner_cut(t, cut), Observed::AddLearner),
+        Seen::NewJoint => accept_if(is_joint_cut(t, cut), Observed::AddJoint),
+        Seen::NewUniform => accept_if(is_uniform_cut(t, cut), Observed::AddUniform),
+    }
+}
+
+fn judge_seen(t: VoterSlotTable, seen: Seen, cut: VoterSlotLogId) -> Observed
+    requires { ⌜ t .count ≤ 9 ⌝ }
+    ensures { λ r. ⌜ verdictOfObserved r ≡ judgeSeen t (sightOf seen) cut ⌝ }
+{
+    let slot = t.replacement.attestation.slot;
+    let at = slot_index(t, slot);
+    if t.count <= at {
+        return Observed::Refuse(Answer::InvalidTransition);
+    }
+    let phase = t.slots[at].phase;
+    judge_known(t, phase, seen, cut)
+}
+
+// No request is open: `members` are the ids of the slots.
+fn judge_members(members: &[u64], sets: &[u64], counts: &[usize], nodes: &[u64]) -> Observed
+    ensures { λ r. ⌜ verdictOfObserved r ≡ judgeMembers (now (members .entry)) (now (sets .entry)) (now (counts .entry)) (now (nodes .entry)) ⌝ }
+{
+    let one = is_one_set(sets, counts, members);
+    let same = is_same(nodes, members);
+    accept_if(one & same, Observed::Keep)
+}
+
+fn judge_closed(t: VoterSlotTable, sets: &[u64], counts: &[usize], nodes: &[u64]) -> Observed
+    requires { ⌜ Supplied (now sets) (now counts) (now nodes) × ((t .count ≤ 9) × (t .«has_replacement» ≡ false)) ⌝ }
+    ensures { λ r. ⌜ verdictOfObserved r ≡ judgeClosed t (splitSets (now (sets .entry)) (now (counts .entry))) (now (nodes .entry)) ⌝ }
+{
+    let ids = ids_of_slots(t);
+    let count = t.count;
+    let all = &ids[..];
+    judge_members(&all[..count], sets, counts, nodes)
+}
+
+// Past 30 and 31 of what is supplied.
+fn judge_sets(
+    t: VoterSlotTable,
+    sets: &[u64],
+    counts: &[usize],
+    nodes: &[u64],
+    cut: VoterSlotLogId,
+) -> Observed
+    requires { ⌜ Supplied (now sets) (now counts) (now nodes) × (fewMembers t ≡ true) ⌝ }
+    ensures { λ r. ⌜ verdictOfObserved r ≡ judgeSets t (splitSets (now (sets .entry)) (now (counts .entry))) (now (nodes .entry)) cut ⌝ }
+{
+    if !t.has_replacement {
+        let closed = judge_closed(t, sets, counts, nodes);
+        return refuse_full(t.revision, closed);
+    }
+    let seen = see(t, sets, counts, nodes);
+    let open = judge_seen(t, seen, cut);
+    refuse_full(t.revision, open)
+}
+
+// No count that the code goes by is above nine.
+fn has_few_members(t: VoterSlotTable) -> bool
+    ensures { λ r. ⌜ r ≡ fewMembers t ⌝ }
+{
+    let old = t.replacement.predecessor.count;
+    let new = t.replacement.successor.count;
+    (t.count <= 9) & (!t.has_replacement | ((old <= 9) & (new <= 9)))
+}
+
+// An observation of a table that is known to be valid, or that only a change of would show not to be.
+pub fn weigh(
+    t: VoterSlotTable,
+    sets: &[u64],
+    counts: &[usize],
+    nodes: &[u64],
+    cut: VoterSlotLogId,
+) -> Observed
+    ensures { λ r. ⌜ verdictOfObserved r ≡ weighed t (now (sets .entry)) (now (counts .entry)) (now (nodes .entry)) cut ⌝ }
+{
+    let few = has_few_members(t);
+    let counted = add_up(counts, sets.len());
+    let held = are_held(sets);
+    let nodes_held = are_held(nodes);
+    if !(few & ((counted & held) & nodes_held)) {
+        return Observed::Refuse(Answer::Unrepresentable);
+    }
+    let rising = sets_rise(sets, counts);
+    let nodes_rise = rises(nodes);
+    if !(rising & nodes_rise) {
+        return Observed::Refuse(Answer::NotRising);
+    }
+    judge_sets(t, sets, counts, nodes, cut)
+}
+
+// The whole validity is asked for only where something is new.
+fn confirm(t: VoterSlotTable, judged: Observed) -> Observed
+    requires { ⌜ t .count ≤ 9 ⌝ }
+    ensures { λ r. ⌜ verdictOfObserved r ≡ confirmed (isAccepted (validity t)) (verdictOfObserved judged) ⌝ }
+{
+    if route(judged) == 0 {
+        return judged;
+    }
+    let valid = accepted(validate_representable(t));
+    accept_if(valid, judged)
+}
+
+pub fn answer_of(judged: Observed) -> Answer
+    ensures { λ r. ⌜ r ≡ answerOfObserved (verdictOfObserved judged) ⌝ }
+{
+    match judged {
+        Observed::Refuse(answer) => answer,
+        Observed::Keep => Answer::Accepted,
+        Observed::AddLearner => Answer::Accepted,
+        Observed::AddJoint => Answer::Accepted,
+        Observed::AddUniform => Answer::Accepted,
+    }
+}
+
+// Which table is to be made; 0 for none.
+pub fn route(judged: Observed) -> u64
+    ensures { λ r. ⌜ r ≡ routeOfObserved (verdictOfObserved judged) ⌝ }
+{
+    match judged {
+        Observed::Refuse(_) => 0,
+        Observed::Keep => 0,
+        Observed::AddLearner => 1,
+        Observed::AddJoint => 2,
+        Observed::AddUniform => 3,
+    }
+}
+
+// ---- the next table
+
+// The membership with the learner.
+pub fn learner_table(t: VoterSlotTable, o: VoterObservation) -> VoterSlotTable
+    requires { ⌜ (t .revision ≡ full → ⊥) × ((t .count ≤ 9) × (targetIndex t < t .count)) ⌝ }
+    ensures { λ r. ⌜ r ≡ added t (o .cut) addsLearner ⌝ }
+{
+    let mut u = t;
+    let slot = t.replacement.attestation.slot;
+    let at = slot_index(t, slot);
+    u.replacement.evidence.learner.is_some = true;
+    u.replacement.evidence.learner.cut.term = o.cut.term;
+    u.replacement.evidence.learner.cut.index = o.cut.index;
+    u.replacement.phase = LEARNER_ADDED;
+    u.slots[at].phase = CATCHING_UP;
+    u.has_replacement = true;
+    u.revision = t.revision + 1;
+    u
+}
+
+// The joint membership.
+pub fn joint_table(t: VoterSlotTable, o: VoterObservation) -> VoterSlotTable
+    requires { ⌜ (t .revision ≡ full → ⊥) × ((t .count ≤ 9) × (targetIndex t < t .count)) ⌝ }
+    ensures { λ r. ⌜ r ≡ added t (o .cut) addsJoint ⌝ }
+{
+    let mut u = t;
+    let slot = t.replacement.attestation.slot;
+    let at = slot_index(t, slot);
+    u.replacement.evidence.joint.is_some = true;
+    u.replacement.evidence.joint.cut.term = o.cut.term;
+    u.replacement.evidence.joint.cut.index = o.cut.index;
+    u.replacement.phase = JOINT;
+    u.slots[at].phase = VOTING;
+    u.has_replacement = true;
+    u.revision = t.revision + 1;
+    u
+}
+
+// The successor's membership.
+pub fn uniform_table(t: VoterSlotTable, o: VoterObservation) -> VoterSlotTable
+    requires { ⌜ (t .revision ≡ full → ⊥) × ((t .count ≤ 9) × (targetIndex t < t .count)) ⌝ }
+    ensures { λ r. ⌜ r ≡ added t (o .cut) addsUniform ⌝ }
+{
+    let mut u = t;
+    let slot = t.replacement.attestation.slot;
+    let at = slot_index(t, slot);
+    u.replacement.evidence.uniform.is_some = true;
+    u.replacement.evidence.uniform.cut.term = o.cut.term;
+    u.replacement.evidence.uniform.cut.index = o.cut.index;
+    u.replacement.phase = UNIFORM;
+    u.slots[at].phase = VOTING;
+    u.configuration_epoch = t.replacement.successor.epoch;
+    u.has_replacement = true;
+    u.revision = t.revision + 1;
+    u
+}
+
+// ---- the calls
+
+// A verdict carried out, by value.
+fn carry_out(t: VoterSlotTable, o: VoterObservation) -> Controlled
+    requires { ⌜ (isChange (verdictOfObserved (o .judged)) ≡ true → Room t) ⌝ }
+    ensures { λ r. ⌜ (r .answer, r .table) ≡ carried (added t (o .cut)) t (verdictOfObserved (o .judged)) ⌝ }
+{
+    let judged = o.judged;
+    match judged {
+        Observed::Refuse(answer) => Controlled { answer, table: t },
+        Observed::Keep => Controlled {
+            answer: Answer::Accepted,
+            table: t,
+        },
+        Observed::AddLearner => Controlled {
+            answer: Answer::Accepted,
+            table: learner_table(t, o),
+        },
+        Observed::AddJoint => Controlled {
+            answer: Answer::Accepted,
+            table: joint_table(t, o),
+        },
+        Observed::AddUniform => Controlled {
+            answer: Answer::Accepted,
+            table: uniform_table(t, o),
+        },
+    }
+}
+
+// An observation of a table that is known to be valid, by value.
+pub fn observe_valid(
+    t: VoterSlotTable,
+    sets: &[u64],
+    counts: &[usize],
+    nodes: &[u64],
+    cut: VoterSlotLogId,
+) -> Controlled
+    requires { ⌜ validate t ≡ Accepted ⌝ }
+    ensures { λ r. ⌜ (r .answer, r .table) ≡ observeMembership t (now (sets .entry)) (now (counts .entry)) (now (nodes .entry)) cut ⌝ }
+{
+    let judged = weigh(t, sets, counts, nodes, cut);
+    let o = VoterObservation { judged, cut };
+    carry_out(t, o)
+}
+
+// `VoterSlotTable::observe_membership`.
+pub fn observe_membership(
+    t: VoterSlotTable,
+    sets: &[u64],
+    counts: &[usize],
+    nodes: &[u64],
+    cut: VoterSlotLogId,
+) -> Controlled
+    ensures { λ r. ⌜ (r .answer, r .table) ≡ observeMembership t (now (sets .entry)) (now (counts .entry)) (now (nodes .entry)) cut ⌝ }
+{
+    if !is_representable(t) {
+        return Controlled {
+            answer: Answer::Unrepresentable,
+            table: t,
+        };
+    }
+    let judged = weigh(t, sets, counts, nodes, cut);
+    let checked = confirm(t, judged);
+    let o = VoterObservation {
+        judged: checked,
+        cut,
+    };
+    carry_out(t, o)
+}
+
+// A verdict carried out on the table that is lent, of which it was judged.
+pub fn observe_in_place(t: &mut VoterSlotTable, o: VoterObservation) -> Answer
+    requires { ⌜ (isChange (verdictOfObserved (o .judged)) ≡ true → Room (now t)) ⌝ }
+    ensures { λ v. ⌜ (v, now (t .exit)) ≡ carried (added (now (t .entry)) (o .cut)) (now (t .entry)) (verdictOfObserved (o .judged)) ⌝ }
+{
+    let judged = judged_of(*t, o);
+    match route(judged) {
+        1 => {
+            *t = learner_table(*t, o);
+        }
+        2 => {
+            *t = joint_table(*t, o);
+        }
+        3 => {
+            *t = uniform_table(*t, o);
+        }
+        _ => {}
+    }
+    answer_of(judged)
+}
+
+fn judged_of(t: VoterSlotTable, o: VoterObservation) -> Observed
+    ensures { λ r. ⌜ verdictOfObserved r ≡ verdictOfObserved (o .judged) ⌝ }
+{
+    let judged = o.judged;
+    judged
+}
