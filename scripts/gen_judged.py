@@ -1,4 +1,4 @@
-# python3 scripts/gen_judged.py N K CRATE [FIRST] > crates/CRATE/proofs/JudgedN.antt: the law of
+# python3 scripts/gen_judged.py N K CRATE [FIRST] > crates/CRATE/proofs/JudgedN.antt (scripts/thin.py runs it for each): the law of
 #   let v = judged(*t, ..); match route(v) { 1 => { *t = made1(*t, ..); } .. N => { *t = madeN(*t, ..); } _ => {} } answer_of(v)
 # where the numbers start at FIRST, which is 1 where none is given, with K plain parameters after the table; judged and the makers are handed all of them; route is handed the verdict, and gives a u64; answer_of is handed the verdict
 import sys
@@ -34,7 +34,7 @@ def frees(off,roomy):
     return s+"\n      "+" ".join(f"move ! ({off+pos(i)} ∷ {off+1+pos(i)} ∷ []) $ free1 ! $" for i in range(nl))+" free0 ! $"
 none_of="Unit {0}"
 for j in J: none_of=f"({none_of}) × (y ≡ {key(j)} → ⊥)"
-out=f"""-- The law of a thin call that goes by a number: `let v = judged(*t, ..); match route(v) {{ {first} => {{ *t = made1(*t, ..); }} .. _ => {{}} }} answer_of(v)`, with {N} table{'s' if N!=1 else ''} to be made and {k} further plain parameter{'s' if k!=1 else ''}.
+out=f"""-- The law of a thin call that goes by a number: `let v = judged(*t, ..); match route(v) {{ {first} => {{ *t = made1(*t, ..); }} .. _ => {{}} }} answer_of(v)`, with {N} table{'s' if N!=1 else ''} to be made and {k} further plain parameter{'s' if k!=1 else ''}. Written by scripts/gen_judged.py.
 -- It holds for any table, any answer, any parameters and any cores: the types, the machine values and the contracts are variables.
 -- Assumes `Given`.
 use mathlib.Core.Path.{{_≡_, refl, ap, sym, subst}}

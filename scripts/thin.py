@@ -1,7 +1,7 @@
 #!/usr/bin/env python3
 """Writes the proofs of the thin calls over `&mut VoterSlotTable` that go by a verdict: crates/control/proofs/MODULE/NAME/Proof.antt.
 
-Run it from the root of the repository: python3 scripts/thin.py [NAME ..] (all of them, where none is named), then `rt fmt`. Such a call is
+Run it from the root of the repository: python3 scripts/thin.py [NAME ..] (all of them, where none is named). Such a call is
 
     let judged = JUDGE(*t, c);
     match route(judged) { 1 => { *t = MAKER(*t, c); } .. _ => {} }
@@ -11,6 +11,7 @@ and its proof cites the law that scripts/gen_judged.py writes (proofs/JudgedN.an
 second parameter (p in the text), the number of the first maker where it is not 1, the judge and its verdict, the pair of answer and table, what is made, and for each maker its module, its move, its table and what it requires, with
 the term that shows it, in which {move} is the move and {told} that the verdict is this move. The makers stand in the order of their numbers, which `routeOf` gives.
 """
+import subprocess
 import sys
 
 ROOM = 'h .revision ≡ full → ⊥'
@@ -380,6 +381,13 @@ def written(name):
     return text + TAIL.format(**values)
 
 
+# The laws, by how many tables there are to be made, with the number of the first.
+LAWS = {1: 6, 3: 1, 5: 1, 6: 1}
+
+for tables, first in LAWS.items():
+    with open('crates/control/proofs/Judged%d.antt' % tables, 'w', encoding='utf-8') as file:
+        subprocess.run([sys.executable, 'scripts/gen_judged.py', str(tables), '1', 'control', str(first)], stdout=file, check=True)
 for name in sys.argv[1:] or CALLS:
     with open('crates/control/proofs/%s/%s/Proof.antt' % (CALLS[name]['module'], name), 'w', encoding='utf-8') as file:
         file.write(written(name))
+subprocess.run(['rt', 'fmt'], check=True)

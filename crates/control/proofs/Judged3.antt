@@ -1,4 +1,4 @@
--- The law of a thin call that goes by a number: `let v = judged(*t, ..); match route(v) { 1 => { *t = made1(*t, ..); } .. _ => {} } answer_of(v)`, with 3 tables to be made and 1 further plain parameter.
+-- The law of a thin call that goes by a number: `let v = judged(*t, ..); match route(v) { 1 => { *t = made1(*t, ..); } .. _ => {} } answer_of(v)`, with 3 tables to be made and 1 further plain parameter. Written by scripts/gen_judged.py.
 -- It holds for any table, any answer, any parameters and any cores: the types, the machine values and the contracts are variables.
 -- Assumes `Given`.
 use mathlib.Core.Path.{_≡_, refl, ap, sym, subst}
@@ -67,7 +67,7 @@ module _ {M : Type 1} (𝓤 : URA M) (H : Heap 𝓤) (A : Atoms 𝓤) (W : Given
     (s-makes : Makes 𝓤 H A S (Is S)) (b-typed : (w : B .Denot) (u : Val) → Is B w (u ∷ []) → Typed τB u)
     (κ : Lft) (q : Share) (b o : ℕ) (γ : GName) (h : R .Denot) (w₂ : Val) (ok₂ : Typed τ₂ w₂) (φ : S .Denot → Type 0) (χ : S .Denot → ℕ → Type 0) (ω : S .Denot → B .Denot → Type 0) (ψ₁ ψ₂ ψ₃ : R .Denot → Type 0)
     (Pre Pre₁ Pre₂ Pre₃ X₁ Y₁ X₂ Y₂ Z : SProp 𝓤) (Q Q₁ Q₂ Q₃ Post : Val → SProp 𝓤) (Pre′ Pre″ : S .Denot → Val → SProp 𝓤) (Q′ Q″ : S .Denot → Val → Val → SProp 𝓤) where
-  -- Pre and Q are the judge's at what it is called at, Pre′ and Q′ the router's, Pre″ and Q″ those of what answers, the others the makers'. X₁ is what the judge asks beside the table, Y₁ what it gives back beside the answer; a maker has Y₁ and X₂, and gives back Y₂. Z is kept
+  -- Pre and Q are the judge's at what it is called at, Pre′ and Q′ the router's, Pre″ and Q″ those of what answers, the others the makers'. X₁ is what the judge asks besides the table, Y₁ what it returns besides the answer; a maker has Y₁ and X₂, and returns Y₂. Z is kept
   pub thin : (lfts : ℕ) (C : Calls 𝓤 H) (Λ : Loops 𝓤 H) → FmC 𝓤 H (W .laws) C → (f d z g₁ g₂ g₃ : Name)
       → ent 𝓤 Pre (C f (N .tval h ∷ w₂ ∷ []) Q) → ent 𝓤 (sep 𝓤 (sem 𝓤 H A (R .own h (N .tval h ∷ []))) X₁) Pre
       → ((v : Val) → ent 𝓤 (Q v) (H .⇛ (ex 𝓤 (λ (r : S .Denot). sep 𝓤 (sep 𝓤 Y₁ (sem 𝓤 H A (S .own r (v ∷ [])))) (fact 𝓤 (φ r))))))

@@ -1,4 +1,4 @@
--- The law of a thin call that goes by a number: `let v = judged(*t, ..); match route(v) { 1 => { *t = made1(*t, ..); } .. _ => {} } answer_of(v)`, with 6 tables to be made and 1 further plain parameter.
+-- The law of a thin call that goes by a number: `let v = judged(*t, ..); match route(v) { 1 => { *t = made1(*t, ..); } .. _ => {} } answer_of(v)`, with 6 tables to be made and 1 further plain parameter. Written by scripts/gen_judged.py.
 -- It holds for any table, any answer, any parameters and any cores: the types, the machine values and the contracts are variables.
 -- Assumes `Given`.
 use mathlib.Core.Path.{_≡_, refl, ap, sym, subst}
