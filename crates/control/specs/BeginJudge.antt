@@ -22,7 +22,7 @@ use Rattle.control.specs.declared.request.Named.{Named}
 use Rattle.control.specs.declared.request.Receipt.{Receipt}
 use Rattle.control.specs.declared.begin.VoterBegin.{VoterBegin}
 use Rattle.control.specs.Control.{begun, receiptIndex, receiptOf}
-use Rattle.control.specs.Judgement.{Move, Verdict, carried, judgeBegin}
+use Rattle.control.specs.Judgement.{Move, carried, judgeBegin}
 use Rattle.control.specs.Judgement.Move.{begins, recordsSnapshot, recordsCaughtUp, continues, fences, finalizes}
 
 -- ---- the first place of which a test holds

@@ -6,12 +6,10 @@
 // supplies the digest as recomputed and the id of the current configuration. Loops pass all nine
 // places, from the last to the first, and a place found later takes the place of one found before.
 ghost use mathlib.Core.Path.{_≡_};
-ghost use mathlib.Core.Bool.{cond, not, _&&_};
-ghost use lib.Dec.{eqb, ltb};
-ghost use Rattle.records.specs.Equality.{eqBytes};
+ghost use mathlib.Core.Bool.{cond};
 ghost use Rattle.records.specs.Successor.{andThen};
 ghost use Rattle.records.specs.Validation.{validAttestation};
-ghost use Rattle.control.specs.Control.{requestCheck, validRequest, isOpenRequest, isExpected, staleCheck, candidateCheck, currentConfiguration};
+ghost use Rattle.control.specs.Control.{candidateCheck, currentConfiguration, isExpected, requestCheck, staleCheck, validRequest};
 ghost use Rattle.control.specs.BeginJudge.{attestedMember, hasDigest, hasReceipt, namedOf, newerThan, receiptState};
 use crate::control::VoterReplacementRequest;
 use identity::answer::Answer;
