@@ -1,6 +1,7 @@
 // Answers questions about single calls, from standard input to standard output, one line for each.
 // oracle/FORMAT.md has the format; `oracle cases` answers the same questions by the original.
 mod bytes;
+mod calls;
 mod line;
 mod question;
 mod reply;

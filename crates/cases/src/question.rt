@@ -19,6 +19,9 @@ pub enum Question {
     Validity,
     Writing,
     Successor,
+    Retired,
+    Command,
+    Observation,
     Unknown,
 }
 
@@ -28,12 +31,14 @@ pub fn question_of(first: u8, second: u8) -> Question {
         b'U' => when(second == b'8', Question::Utf8),
         b'N' => named_n(second),
         b'S' => named_s(second),
-        b'C' => when(second == b'C', Question::Control),
+        b'C' => named_c(second),
         b'W' => named_w(second),
         b'I' => named_i(second),
         b'E' => when(second == b'P', Question::Epoch),
         b'T' => when(second == b'R', Question::TableBytes),
         b'A' => when(second == b'R', Question::AttestationBytes),
+        b'R' => when(second == b'T', Question::Retired),
+        b'O' => when(second == b'V', Question::Observation),
         b'V' => when(second == b'T', Question::Validity),
         _ => Question::Unknown,
     }
@@ -58,6 +63,14 @@ fn named_s(second: u8) -> Question {
         b'N' => Question::StrictName,
         b'L' => Question::Slot,
         b'C' => Question::Successor,
+        _ => Question::Unknown,
+    }
+}
+
+fn named_c(second: u8) -> Question {
+    match second {
+        b'C' => Question::Control,
+        b'M' => Question::Command,
         _ => Question::Unknown,
     }
 }
@@ -98,6 +111,9 @@ pub fn put_mark(line: Line, question: Question) -> Line {
         Question::Validity => line.text(b"VT"),
         Question::Writing => line.text(b"WR"),
         Question::Successor => line.text(b"SC"),
+        Question::Retired => line.text(b"RT"),
+        Question::Command => line.text(b"CM"),
+        Question::Observation => line.text(b"OV"),
         Question::Unknown => line.text(b"??"),
     }
 }

@@ -2,6 +2,8 @@
 use crate::bytes::read_attestation;
 use crate::bytes::read_table;
 use crate::bytes::write_table;
+use crate::calls::called;
+use crate::calls::retired;
 use crate::line::Line;
 use crate::question::Question;
 use identity::answer::Answer;
@@ -41,6 +43,9 @@ pub fn reply_to(question: Question, body: &[u8]) -> Reply {
         Question::Validity => validity(body),
         Question::Writing => write_table(body),
         Question::Successor => successor(body),
+        Question::Retired => retired(body),
+        Question::Command => called(body, false),
+        Question::Observation => called(body, true),
         _ => reply_to_numbers(question, body),
     }
 }

@@ -1,5 +1,7 @@
-// Table values in the raw form of oracle/FORMAT.md, for the programs that test and time the port.
+// Table values in the raw form of oracle/FORMAT.md, and the records of calls, for the programs that test
+// and time the port.
 pub mod crc;
 pub mod number;
+pub mod record;
 pub mod table;
 pub mod write;

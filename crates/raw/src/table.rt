@@ -1,6 +1,7 @@
 // Table values in the bodies of questions: the raw form of oracle/FORMAT.md, 8,062 bytes that are
 // carried as pieces, and the table that they stand for. Every field has its place, so that a table
-// may be invalid in every way. A byte outside the 8,062 counts as 0.
+// may be invalid in every way. A byte outside the bytes given counts as 0. What the records of calls
+// have too (`record`) is read from a body of at most 70,000 bytes.
 ghost use Prim.Native.Nat.{_+_, _≤_};
 use crate::number::be16;
 use crate::number::be64;
@@ -132,12 +133,12 @@ pub fn flags_are_bools(raw: &[u8; 8062]) -> bool {
     is_flag(raw, HAS_REPLACEMENT) & (slot_flags_are_bools(raw) & evidence_flags_are_bools(raw))
 }
 
-fn is_flag(raw: &[u8; 8062], at: usize) -> bool {
+fn is_flag(raw: &[u8], at: usize) -> bool {
     byte(raw, at) <= 1
 }
 
 // The has_last_result of each of the nine slots, which has 91 bytes before it in its record.
-fn slot_flags_are_bools(raw: &[u8; 8062]) -> bool {
+fn slot_flags_are_bools(raw: &[u8]) -> bool {
     let mut all = true;
     let mut at = SLOTS + 91;
     while at < COUNT {
@@ -148,7 +149,7 @@ fn slot_flags_are_bools(raw: &[u8; 8062]) -> bool {
 }
 
 // has_snapshot, and the flag of each of the six cuts that may be absent, 17 bytes apart.
-fn evidence_flags_are_bools(raw: &[u8; 8062]) -> bool {
+fn evidence_flags_are_bools(raw: &[u8]) -> bool {
     is_flag(raw, EVIDENCE + 16)
         & (is_flag(raw, EVIDENCE + 323)
             & (is_flag(raw, EVIDENCE + 340)
@@ -175,7 +176,7 @@ pub fn table_of(raw: &[u8; 8062]) -> VoterSlotTable {
     }
 }
 
-fn slots_of(raw: &[u8; 8062]) -> [VoterSlotRecord; 9] {
+fn slots_of(raw: &[u8]) -> [VoterSlotRecord; 9] {
     let blank = blank_voter_slot_record();
     let mut slots = [blank; 9];
     let mut i = 0;
@@ -191,7 +192,7 @@ fn slots_of(raw: &[u8; 8062]) -> [VoterSlotRecord; 9] {
 // the offsets, stand above each function.
 
 // member 82, retired_through 8, phase 1, has_last_result 1, last_result 89: 181 bytes.
-fn slot_at(raw: &[u8; 8062], at: usize) -> VoterSlotRecord
+fn slot_at(raw: &[u8], at: usize) -> VoterSlotRecord
     requires { ⌜ at + 181 ≤ 8062 ⌝ }
 {
     let member = member_at(raw, at);
@@ -206,8 +207,8 @@ fn slot_at(raw: &[u8; 8062], at: usize) -> VoterSlotRecord
 }
 
 // slot 2, incarnation 8, key_digest 32, descriptor_digest 32, admission_generation 8: 82 bytes.
-fn member_at(raw: &[u8; 8062], at: usize) -> VoterSlotMember
-    requires { ⌜ at + 82 ≤ 8062 ⌝ }
+pub fn member_at(raw: &[u8], at: usize) -> VoterSlotMember
+    requires { ⌜ at + 82 ≤ 70000 ⌝ }
 {
     let identity = VoterSlotIdentity {
         slot: be16(raw, at) as u16,
@@ -225,7 +226,7 @@ fn member_at(raw: &[u8; 8062], at: usize) -> VoterSlotMember
 
 // request_id 16, request_digest 32, incarnation 8, revision 8, configuration_epoch 8, kind 1,
 // terminal 16: 89 bytes.
-fn result_at(raw: &[u8; 8062], at: usize) -> VoterReplacementResult
+fn result_at(raw: &[u8], at: usize) -> VoterReplacementResult
     requires { ⌜ at + 89 ≤ 8062 ⌝ }
 {
     let request_id = bytes16_at(raw, at);
@@ -244,7 +245,7 @@ fn result_at(raw: &[u8; 8062], at: usize) -> VoterReplacementResult
 
 // expected_revision 8, attestation 4,423, predecessor 747, successor 747, phase 1, evidence 425:
 // 6,351 bytes.
-fn replacement_at(raw: &[u8; 8062], at: usize) -> VoterReplacementRecord
+fn replacement_at(raw: &[u8], at: usize) -> VoterReplacementRecord
     requires { ⌜ at + 6351 ≤ 8062 ⌝ }
 {
     let attestation = attestation_at(raw, at + 8);
@@ -264,7 +265,7 @@ fn replacement_at(raw: &[u8; 8062], at: usize) -> VoterReplacementRecord
 // request_id 16, request_digest 32, cluster_instance 32, slot 2, expected_incarnation 8,
 // old_descriptor_digest 32, candidate_key_digest 32, admission_generation 8, two names of 2,050,
 // signing_key_digest 32, reason 1, policy_digest 32, four times of 8, signature 64: 4,423 bytes.
-fn attestation_at(raw: &[u8; 8062], at: usize) -> LostVoterAttestationV1
+fn attestation_at(raw: &[u8], at: usize) -> LostVoterAttestationV1
     requires { ⌜ at + 4423 ≤ 8062 ⌝ }
 {
     let numbers = attestation_numbers_at(raw, at);
@@ -313,7 +314,7 @@ struct AttestationNumbers {
     expires_ms: u64,
 }
 
-fn attestation_numbers_at(raw: &[u8; 8062], at: usize) -> AttestationNumbers
+fn attestation_numbers_at(raw: &[u8], at: usize) -> AttestationNumbers
     requires { ⌜ at + 4423 ≤ 8062 ⌝ }
 {
     AttestationNumbers {
@@ -329,7 +330,7 @@ fn attestation_numbers_at(raw: &[u8; 8062], at: usize) -> AttestationNumbers
 }
 
 // epoch 8, nine members 738, count 1: 747 bytes.
-fn configuration_at(raw: &[u8; 8062], at: usize) -> VoterConfiguration
+fn configuration_at(raw: &[u8], at: usize) -> VoterConfiguration
     requires { ⌜ at + 747 ≤ 8062 ⌝ }
 {
     let members = members_at(raw, at + 8);
@@ -341,7 +342,7 @@ fn configuration_at(raw: &[u8; 8062], at: usize) -> VoterConfiguration
 }
 
 // Nine members, from at on.
-fn members_at(raw: &[u8; 8062], at: usize) -> [VoterSlotMember; 9]
+fn members_at(raw: &[u8], at: usize) -> [VoterSlotMember; 9]
     requires { ⌜ at + 738 ≤ 8062 ⌝ }
 {
     let blank = blank_voter_slot_member();
@@ -356,7 +357,7 @@ fn members_at(raw: &[u8; 8062], at: usize) -> [VoterSlotMember; 9]
 }
 
 // prepare 16, has_snapshot 1, snapshot 306, six cuts of 17 that may be absent: 425 bytes.
-fn evidence_at(raw: &[u8; 8062], at: usize) -> VoterReplacementEvidence
+fn evidence_at(raw: &[u8], at: usize) -> VoterReplacementEvidence
     requires { ⌜ at + 425 ≤ 8062 ⌝ }
 {
     let prepare = log_id_at(raw, at);
@@ -381,7 +382,7 @@ fn evidence_at(raw: &[u8; 8062], at: usize) -> VoterReplacementEvidence
 }
 
 // cut 16, id 258, digest 32: 306 bytes.
-fn snapshot_at(raw: &[u8; 8062], at: usize) -> VoterSnapshotEvidence
+fn snapshot_at(raw: &[u8], at: usize) -> VoterSnapshotEvidence
     requires { ⌜ at + 306 ≤ 8062 ⌝ }
 {
     let cut = log_id_at(raw, at);
@@ -395,7 +396,7 @@ fn snapshot_at(raw: &[u8; 8062], at: usize) -> VoterSnapshotEvidence
 }
 
 // A length of two bytes, which may be more than the field holds, and the field: 258 bytes.
-fn snapshot_id_at(raw: &[u8; 8062], at: usize) -> SnapshotId
+fn snapshot_id_at(raw: &[u8], at: usize) -> SnapshotId
     requires { ⌜ at + 258 ≤ 8062 ⌝ }
 {
     let mut bytes = [0u8; 256];
@@ -407,7 +408,7 @@ fn snapshot_id_at(raw: &[u8; 8062], at: usize) -> SnapshotId
 }
 
 // The same for a name: 2,050 bytes.
-fn spiffe_id_at(raw: &[u8; 8062], at: usize) -> SpiffeId
+fn spiffe_id_at(raw: &[u8], at: usize) -> SpiffeId
     requires { ⌜ at + 2050 ≤ 8062 ⌝ }
 {
     let mut bytes = [0u8; 2048];
@@ -419,7 +420,7 @@ fn spiffe_id_at(raw: &[u8; 8062], at: usize) -> SpiffeId
 }
 
 // flag 1, cut 16.
-fn optional_log_id_at(raw: &[u8; 8062], at: usize) -> OptionalLogId
+fn optional_log_id_at(raw: &[u8], at: usize) -> OptionalLogId
     requires { ⌜ at + 17 ≤ 8062 ⌝ }
 {
     let cut = log_id_at(raw, at + 1);
@@ -430,8 +431,8 @@ fn optional_log_id_at(raw: &[u8; 8062], at: usize) -> OptionalLogId
 }
 
 // term 8, index 8.
-fn log_id_at(raw: &[u8; 8062], at: usize) -> VoterSlotLogId
-    requires { ⌜ at + 16 ≤ 8062 ⌝ }
+pub fn log_id_at(raw: &[u8], at: usize) -> VoterSlotLogId
+    requires { ⌜ at + 16 ≤ 70000 ⌝ }
 {
     VoterSlotLogId {
         term: be64(raw, at),
@@ -440,23 +441,23 @@ fn log_id_at(raw: &[u8; 8062], at: usize) -> VoterSlotLogId
 }
 
 // A flag that is neither 0 nor 1 was refused before.
-fn flag_at(raw: &[u8; 8062], at: usize) -> bool {
+fn flag_at(raw: &[u8], at: usize) -> bool {
     byte(raw, at) == 1
 }
 
-fn bytes16_at(raw: &[u8; 8062], at: usize) -> [u8; 16] {
+pub fn bytes16_at(raw: &[u8], at: usize) -> [u8; 16] {
     let mut bytes = [0u8; 16];
     copy(&mut bytes, 0, 16, raw, at);
     bytes
 }
 
-fn bytes32_at(raw: &[u8; 8062], at: usize) -> [u8; 32] {
+pub fn bytes32_at(raw: &[u8], at: usize) -> [u8; 32] {
     let mut bytes = [0u8; 32];
     copy(&mut bytes, 0, 32, raw, at);
     bytes
 }
 
-fn bytes64_at(raw: &[u8; 8062], at: usize) -> [u8; 64] {
+fn bytes64_at(raw: &[u8], at: usize) -> [u8; 64] {
     let mut bytes = [0u8; 64];
     copy(&mut bytes, 0, 64, raw, at);
     bytes

@@ -197,10 +197,10 @@ fn tasks(count: u16) -> Vec<Task> {
     tasks
 }
 
-type Command = (&'static str, String, VoterSlotTable, Body);
+pub type Command = (&'static str, String, VoterSlotTable, Body);
 
 /// Every command and observation that takes a request further, and the repeats.
-fn commands(count: u16) -> Vec<Command> {
+pub fn commands(count: u16) -> Vec<Command> {
     let idle = idle(count);
     let at = |phase: VoterReplacementPhase| (format!("open, {phase:?}"), open(count, phase));
     let steps = replacement(&idle, 1, 10);
@@ -256,8 +256,20 @@ fn commands(count: u16) -> Vec<Command> {
         advance(1, cut(2, 30), snapshot(cut(2, 10))),
     ));
     let (state, added) = at(LearnerAdded);
-    commands.push(("Marker", state, added, marker(1, cut(2, 30))));
+    commands.push((
+        "Marker",
+        state.clone(),
+        added.clone(),
+        marker(1, cut(2, 30)),
+    ));
     let all: Vec<u64> = (1..=u64::from(count)).collect();
+    let union = [&all[..], &[identity(2, 2).node_id().get()]].concat();
+    commands.push((
+        "observation repeated",
+        state,
+        added,
+        observation(cut(2, 30), &[&all], &union),
+    ));
     commands.push((
         "observation idle",
         "idle".to_owned(),
@@ -457,7 +469,7 @@ fn made(places: &mut [Vec<u8>; 2]) -> u128 {
 }
 
 /// One call on each of the tables.
-fn commanded(call: &Call, mut tables: Vec<VoterSlotTable>) -> u128 {
+pub fn commanded(call: &Call, mut tables: Vec<VoterSlotTable>) -> u128 {
     match call {
         Call::Control {
             control,

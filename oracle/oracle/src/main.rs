@@ -3,6 +3,7 @@
 
 mod answer;
 mod bench;
+mod bench_control;
 mod call;
 mod cases;
 mod compare;
@@ -44,6 +45,7 @@ const USAGE: &str = "usage:
   oracle samples FOLDER
   oracle ordered > OrderBytes.antt
   oracle bench
+  oracle bench-control SUPPORT LIBRARY...
 kinds:";
 
 fn main() -> ExitCode {
@@ -86,6 +88,10 @@ fn run(words: &[&str]) -> Result<ExitCode, String> {
         ["ordered"] => print(ordered::text().as_bytes()),
         ["bench"] => bench::run(|line| print(format!("{line}\n").as_bytes()).map(drop))
             .map(|()| ExitCode::SUCCESS),
+        ["bench-control", support, ports @ ..] => bench_control::run(support, ports, |line| {
+            print(format!("{line}\n").as_bytes()).map(drop)
+        })
+        .map(|()| ExitCode::SUCCESS),
         _ => Err(format!("{USAGE}{}", kinds())),
     }
 }

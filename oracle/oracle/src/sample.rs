@@ -98,7 +98,8 @@ pub fn claims(table: &VoterSlotTable, slot: u16, request: u8) -> LostVoterAttest
         old_descriptor_digest: member.descriptor_digest,
         candidate_key_digest: [50 + request; 32],
         admission_generation: member.admission_generation + 1,
-        ..attestation_of("spiffe://candidate".to_owned())
+        controller_spiffe_id: name(40),
+        ..attestation_of(name(40))
     }
 }
 
@@ -166,7 +167,7 @@ pub fn replacement(table: &VoterSlotTable, request: u8, from: u64) -> [Body; 8] 
     ]
 }
 
-/// A table with request 1 open on slot 2 in this phase; it began at (2, 10).
+/// A table with request 1 open on slot 2 in this phase; it began at (2, 10). Its names have 40 bytes.
 pub fn open(count: u16, phase: VoterReplacementPhase) -> VoterSlotTable {
     let mut table = idle(count);
     for body in &replacement(&table.clone(), 1, 10)[..=phase as usize] {
@@ -177,11 +178,7 @@ pub fn open(count: u16, phase: VoterReplacementPhase) -> VoterSlotTable {
 
 /// A table as most are: three slots, a request open, names of 40 bytes.
 pub fn typical() -> VoterSlotTable {
-    let mut table = open(3, VoterReplacementPhase::CaughtUp);
-    if let Some(operation) = &mut table.replacement {
-        set_names(operation, 40);
-    }
-    table
+    open(3, VoterReplacementPhase::CaughtUp)
 }
 
 /// The table of the most bytes.
@@ -214,9 +211,14 @@ pub fn full(count: u16, name: usize, snapshot_id: usize) -> VoterSlotTable {
 }
 
 fn set_names(operation: &mut VoterReplacementRecord, length: usize) {
-    let name = format!("{:x<length$}", "spiffe://");
+    let name = name(length);
     operation.attestation.candidate_spiffe_id = name.clone();
     operation.attestation.controller_spiffe_id = name;
+}
+
+/// A name of so many bytes.
+fn name(length: usize) -> String {
+    format!("{:x<length$}", "spiffe://")
 }
 
 fn next_incarnation(member: &mut VoterSlotMember) {

@@ -6,13 +6,14 @@ use std::path::Path;
 use crate::{cases, edges, fixed, generate, replay};
 
 /// Files of questions: name, seed, count, kind.
-const QUESTIONS: [(&str, u64, usize, &str); 6] = [
+const QUESTIONS: [(&str, u64, usize, &str); 7] = [
     ("text", 1, 4000, "text"),
     ("validity", 5, 600, "validity"),
     ("bytes", 2, 1000, "bytes"),
     ("writing", 6, 600, "writing"),
-    ("values", 3, 500, "values"),
+    ("retired", 3, 300, "retired"),
     ("calls", 4, 700, "calls"),
+    ("cuts", 7, 400, "cuts"),
 ];
 
 /// Logs: seeds 1 to `LOGS`, of so many records each.

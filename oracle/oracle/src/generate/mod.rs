@@ -1,6 +1,7 @@
 //! `oracle generate`: inputs made from a seed, the same on every machine. The original runs along,
 //! so that most lines of history go all the way through a replacement.
 
+mod cuts;
 mod damage;
 mod departures;
 mod limits;
@@ -22,7 +23,7 @@ use questions::Source;
 use random::Random;
 
 /// The kinds of input, as the command names them, and what they hold.
-pub const KINDS: [(&str, &str); 8] = [
+pub const KINDS: [(&str, &str); 10] = [
     (
         "text",
         "questions of layer one: U8 NM SI SN CC WS SL IN NX EP ND ID",
@@ -37,7 +38,12 @@ pub const KINDS: [(&str, &str); 8] = [
         "values",
         "validity, writer, successor check, retired test: VT WR SC RT",
     ),
+    ("retired", "the retired test on raw tables: RT"),
     ("calls", "commands and observations on raw tables: CM OV"),
+    (
+        "cuts",
+        "commands and observations on valid tables with small cuts: CM OV",
+    ),
     ("questions", "all questions"),
     ("log", "one replay log of COUNT records"),
 ];
@@ -51,7 +57,9 @@ pub fn generate(seed: u64, count: usize, kind: &str) -> Option<Vec<u8>> {
         "bytes" => Some(table_questions(&mut random, count, &HIGHER_MARKS[..2])),
         "writing" => Some(table_questions(&mut random, count, &[*b"WR"])),
         "values" => Some(table_questions(&mut random, count, &HIGHER_MARKS[2..6])),
+        "retired" => Some(table_questions(&mut random, count, &[*b"RT"])),
         "calls" => Some(table_questions(&mut random, count, &HIGHER_MARKS[6..])),
+        "cuts" => Some(cuts_questions(&mut random, count)),
         "questions" => Some(all_questions(&mut random, count)),
         "log" => Some(logs::log(&mut random, count)),
         _ => None,
@@ -72,6 +80,14 @@ fn table_questions(random: &mut Random, count: usize, marks: &[Mark]) -> Vec<u8>
     for _ in 0..count {
         let mark = random.pick(marks);
         source.put(random, mark, &mut out);
+    }
+    out
+}
+
+fn cuts_questions(random: &mut Random, count: usize) -> Vec<u8> {
+    let mut out = Vec::new();
+    for _ in 0..count {
+        cuts::put(random, &mut out);
     }
     out
 }

@@ -7,7 +7,7 @@ use super::random::Random;
 use super::tables::held_incarnation;
 use super::walk::Walk;
 use super::{damage, departures, limits, observations, reshape};
-use crate::format::{put_question, Mark};
+use crate::format::{put_question, Mark, MAX_BODY};
 use crate::record::{put_record, Body};
 use crate::text::attestation_of;
 use crate::{raw, wire};
@@ -41,7 +41,7 @@ impl Source {
         }
         self.asked += 1;
         let record = self.walk.next(random);
-        let body = match &mark {
+        let mut body = match &mark {
             b"TR" => table_bytes(random, &self.walk.table),
             b"AR" => self.attestation_bytes(random),
             b"VT" => self.any_raw(random),
@@ -51,6 +51,8 @@ impl Source {
             b"CM" => self.command(random, &record),
             _ => self.observation(random),
         };
+        // A longer one would be cut short, and the rest of the file with it.
+        body.truncate(MAX_BODY);
         put_question(out, mark, &body);
         self.earlier.push(self.walk.table.clone());
         self.walk.play(&record);

@@ -41,6 +41,31 @@ fn questions_reach_every_answer() {
     assert_eq!(numbers(&cases::answers(&file)), BTreeSet::from(expected));
 }
 
+/// Each step and observation on valid tables is accepted and refused, so its comparisons of cuts
+/// come out both ways.
+#[test]
+fn cuts_are_accepted_and_refused() {
+    let file = generate(1, 20_000, "cuts").unwrap_or_default();
+    let mut answers = BTreeSet::new();
+    for item in format::items(&file) {
+        let format::Item::Whole(mark, body) = item else {
+            panic!("a whole question");
+        };
+        // The record's mark, and of an Advance the kind of its step.
+        let kind = (body[..2] == *b"AD").then(|| body[4 + 64]);
+        let answer = cases::answer(mark, body);
+        let number = answer.split(' ').next().map(str::to_owned);
+        answers.insert((body[..2].to_vec(), kind, number));
+    }
+    let steps = (0..5).map(|step| (b"AD", Some(step)));
+    for (mark, kind) in steps.chain([(b"BG", None), (b"OB", None)]) {
+        for number in ["0", "24", "25"] {
+            let wanted = (mark.to_vec(), kind, Some(number.to_owned()));
+            assert!(answers.contains(&wanted), "{wanted:?}");
+        }
+    }
+}
+
 #[test]
 fn logs_reach_every_answer_of_a_replay() {
     let mut reached = BTreeSet::new();
