@@ -76,9 +76,9 @@ CALLS = {
         'unfolding': 'made',
         'stays': 'command-none h (p .control) (p .cut)',
         'uses': ['use Rattle.control.specs.Judgement.{judge, made}',
-                 'use Rattle.control.specs.BeginVerdictLaws.{begin-room, beginIn}',
+                 'use Rattle.control.specs.BeginVerdictLaws.{begin-room}',
                  'use Rattle.control.specs.Control.{begun, caughtUpRecorded, continued, currentConfiguration, fencedAt, finalized, full, namedIndex, snapshotRecorded, targetIndex}',
-                 'use Rattle.control.specs.Verdicts.{advanceIn, answerOf, appliedOf, routeOf, verdictOf}',
+                 'use Rattle.control.specs.Verdicts.{advanceIn, answerOf, appliedOf, beginIn, routeOf, verdictOf}',
                  'use Rattle.control.specs.VerdictLaws.{begin-begins, command-none, isMove, room-as, routed-to, step-advance, target-as}'],
         'makers': steps(['command.' + n for n in ('make_snapshot', 'make_caught_up', 'make_continuation', 'make_fence', 'make_finalize')],
                         '(step-advance h (p .control) (p .cut) {move} refl {told})', '(advanceIn (p .control) (p .cut))', 'p .control .step', 'p .cut')

@@ -1,11 +1,10 @@
--- What the verdict on a Begin tells: what its maker asks for, the answer and the table by the number of the verdict, and the entry point.
+-- What the verdict on a Begin tells: what its maker asks for, and the answer and the table by the number of the verdict.
 -- Laws for proofs of code; what is right is said in Control and Judgement.
 -- Assumes nothing.
-use Prim.Native.Nat.{ℕ, _<_, _≤_}
-use mathlib.Core.Path.{refl, sym, ap, _≡_, _∙_}
+use Prim.Native.Nat.{_<_, _≤_}
+use mathlib.Core.Path.{refl, _≡_}
 use mathlib.Core.Bool.{Bool, true, false, cond, false≢true}
 use native.Mathlib.Omega.{arith}
-use lib.Dec.{eqb}
 use Rattle.identity.specs.Answer.{isAccepted}
 use Rattle.identity.specs.declared.answer.Answer.the-variants.{Accepted, IdempotencyConflict, InvalidTransition}
 use Rattle.records.specs.declared.records.VoterSlotLogId.{VoterSlotLogId}
@@ -18,12 +17,12 @@ use Rattle.records.specs.ValidationLaws.{is-accepted}
 use Rattle.control.specs.declared.begin.VoterBegin.{VoterBegin}
 use Rattle.control.specs.declared.control.VoterReplacementRequest.{VoterReplacementRequest}
 use Rattle.control.specs.declared.control.VoterSlotControl.{VoterSlotControl}
-use Rattle.control.specs.Control.{advanceKind, applyControl, beginCheck, beginKind, currentConfiguration, full, isKnown, knownDigest, namedIndex, requestCheck}
-use Rattle.control.specs.Judgement.{Move, Verdict, beginTest, carried, judge, judgeAdvance, judgeBegin, judgeMarker, judgeRepeated, made}
+use Rattle.control.specs.Control.{beginCheck, currentConfiguration, full, isKnown, knownDigest, namedIndex, requestCheck}
+use Rattle.control.specs.Judgement.{Move, Verdict, beginTest, carried, judgeBegin, judgeRepeated, made}
 use Rattle.control.specs.Judgement.Verdict.{refused, kept, moves}
 use Rattle.control.specs.Judgement.Move.{begins, recordsSnapshot, recordsCaughtUp, continues, fences, finalizes}
-use Rattle.control.specs.Verdicts.{answerOf, checkedOf, routeOf}
-use Rattle.control.specs.VerdictLaws.{entry-passed, isMove, paired, routed-to}
+use Rattle.control.specs.Verdicts.{answerOf, beginIn, paired, routeOf}
+use Rattle.control.specs.VerdictLaws.{isMove, routed-to}
 use Rattle.control.specs.BeginCheckLaws.{starts}
 use Rattle.control.specs.BeginJudge.{beginMade, beginOf}
 
@@ -71,10 +70,6 @@ module _ (t : VoterSlotTable) (b : VoterBegin) where
   begin-kept (moves fences) n = refl
   begin-kept (moves finalizes) n = refl
 
--- the Begin that a command holds
-abbrev pub beginIn : VoterSlotControl → VoterSlotLogId → VoterBegin
-beginIn c cut = record { request = c .request; cut = cut }
-
 -- what a Begin of a command makes is that
 pub begin-made : (t : VoterSlotTable) (c : VoterSlotControl) (cut : VoterSlotLogId)
     → carried (made t c cut) t (judgeBegin t (c .request) cut) ≡ beginOf t (beginIn c cut)
@@ -98,13 +93,3 @@ begin-made t c cut =
     go false s q true true = refl
     go false s q true false = refl
     go false s q false d = refl
-
--- the entry point, where the command is a Begin
-pub entry-begin : (t : VoterSlotTable) (c : VoterSlotControl) (cut : VoterSlotLogId) → c .kind ≡ beginKind → isAccepted (checkedOf t c cut) ≡ true
-    → beginOf t (beginIn c cut) ≡ applyControl t c cut
-unfolding judge
-entry-begin t c cut k h =
-    sym (begin-made t c cut)
-    ∙ (ap (λ (n : ℕ). carried (made t c cut) t (cond (eqb n beginKind) (judgeBegin t (c .request) cut)
-    (cond (eqb n advanceKind) (judgeAdvance t (c .«request_id») (c .«request_digest») (c .step) cut) (judgeMarker t (c .«request_id») (c .«request_digest»))))) (sym k)
-    ∙ entry-passed t c cut h)

@@ -32,7 +32,7 @@ use Rattle.control.specs.Judgement.Move.{begins, recordsSnapshot, record
 use Rattle.control.specs.OpenLaws.{opened}
 use Rattle.records.specs.RepresentableLaws.{representable-count}
 use Rattle.control.specs.declared.control.VoterAdvance.{VoterAdvance}
-use Rattle.control.specs.Verdicts.{advanceIn, advanceOf, answerOf, appliedOf, checkedOf, judgeOf, routeOf, stepMade}
+use Rattle.control.specs.Verdicts.{advanceIn, advanceOf, answerOf, appliedOf, checkedOf, judgeOf, paired, routeOf, stepMade}
 
 -- ---- what is made
 
@@ -199,9 +199,6 @@ module _ (t : VoterSlotTable) (c : VoterAdvance) (v : Verdict Move) (is : judgeO
   target-as h valid = (count-fits t valid, has-target t _ _ (c .step) (c .cut) (ap isMove is ∙ h) valid)
 
 -- ---- what the number of a verdict tells
-
-abbrev pub paired : Answer → VoterSlotTable → Answer × VoterSlotTable
-paired a t = (a, t)
 
 -- the move of a number
 abbrev moveAt : ℕ → Move

@@ -12,6 +12,7 @@ use Rattle.identity.specs.declared.answer.Answer.{Answer}
 use Rattle.identity.specs.declared.answer.Answer.the-variants.{Accepted, InvalidTransition, Unrepresentable}
 use Rattle.records.specs.declared.records.VoterSlotLogId.{VoterSlotLogId}
 use Rattle.records.specs.declared.records.VoterSlotTable.{VoterSlotTable}
+use Rattle.control.specs.declared.begin.VoterBegin.{VoterBegin}
 use Rattle.control.specs.declared.control.VoterAdvance.{VoterAdvance}
 use Rattle.control.specs.declared.control.VoterReplacementStep.{VoterReplacementStep}
 use Rattle.control.specs.declared.judge.Judged.{Judged}
@@ -59,6 +60,14 @@ stepMade t s cut recordsCaughtUp = caughtUpRecorded t (s .«caught_up»)
 stepMade t s cut continues = continued t cut
 stepMade t s cut fences = fencedAt t cut
 stepMade t s cut finalizes = finalized t cut
+
+-- an answer and a table
+abbrev pub paired : Answer → VoterSlotTable → Answer × VoterSlotTable
+paired a t = (a, t)
+
+-- the Begin that a command holds
+abbrev pub beginIn : VoterSlotControl → VoterSlotLogId → VoterBegin
+beginIn c cut = record { request = c .request; cut = cut }
 
 -- the Advance that a command holds
 abbrev pub advanceIn : VoterSlotControl → VoterSlotLogId → VoterAdvance

@@ -10,8 +10,7 @@ ghost use Rattle.identity.specs.declared.answer.Answer.the-variants.{Accepted};
 ghost use Rattle.records.specs.Validation.{validate};
 ghost use Rattle.control.specs.Control.{applyControl};
 ghost use Rattle.control.specs.Judgement.{judgeMarker};
-ghost use Rattle.control.specs.Verdicts.{advanceOf, answerOf, appliedOf, checkedOf};
-ghost use Rattle.control.specs.VerdictLaws.{paired};
+ghost use Rattle.control.specs.Verdicts.{advanceOf, answerOf, appliedOf, checkedOf, paired};
 use crate::begin::begin;
 use crate::command::advance_of;
 use crate::command::begin_of;
@@ -85,7 +84,9 @@ fn checked(t: VoterSlotTable, c: VoterSlotControl, cut: VoterSlotLogId) -> Answe
     Answer::Accepted
 }
 
-// A command on a table that is known to be valid, by value.
+// A command on a table that is known to be valid, by value. The caller has tested that the cut has no
+// zero and that the command is representable (`checkedOf` accepted); then the answer is
+// `applyControl`'s (`entry-passed` of VerdictLaws; by the two tests, `valid-applied` of ApplyLaws).
 pub fn apply_to_valid(t: VoterSlotTable, c: VoterCommand) -> Controlled
     requires { ⌜ validate t ≡ Accepted ⌝ }
     ensures { λ r. ⌜ (r .answer, r .table) ≡ appliedOf t (c .control) (c .cut) ⌝ }
@@ -109,7 +110,7 @@ fn mark(t: VoterSlotTable, c: VoterCommand) -> Controlled
     }
 }
 
-// An Advance, by value.
+// An Advance, by value. The caller has made the tests that `apply_to_valid` names (`valid-advance`).
 pub fn advance(t: VoterSlotTable, c: VoterAdvance) -> Controlled
     requires { ⌜ validate t ≡ Accepted ⌝ }
     ensures { λ r. ⌜ (r .answer, r .table) ≡ advanceOf t c ⌝ }
@@ -148,7 +149,7 @@ pub fn advance(t: VoterSlotTable, c: VoterAdvance) -> Controlled
     }
 }
 
-// A command on a table that is lent. The calls by kind are faster: this one takes 5 KB.
+// `apply_to_valid` on a table that is lent: the same tests. It takes 5 KB: calls by kind are faster.
 pub fn apply_in_place(t: &mut VoterSlotTable, c: VoterCommand) -> Answer
     requires { ⌜ validate (now t) ≡ Accepted ⌝ }
     ensures { λ a. ⌜ (a, now (t .exit)) ≡ appliedOf (now (t .entry)) (c .control) (c .cut) ⌝ }
@@ -178,7 +179,7 @@ pub fn apply_in_place(t: &mut VoterSlotTable, c: VoterCommand) -> Answer
     answer_of(judged)
 }
 
-// An Advance on a table that is lent.
+// `advance` on a table that is lent: the caller has made the same tests.
 pub fn advance_in_place(t: &mut VoterSlotTable, c: VoterAdvance) -> Answer
     requires { ⌜ validate (now t) ≡ Accepted ⌝ }
     ensures { λ v. ⌜ (v, now (t .exit)) ≡ advanceOf (now (t .entry)) c ⌝ }

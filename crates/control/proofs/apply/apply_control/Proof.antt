@@ -4,8 +4,8 @@ use mathlib.Core.Bool.{true}
 use Rattle.identity.specs.Answer.{isAccepted}
 use Rattle.identity.specs.AnswerLaws.{passed, refused}
 use Rattle.identity.specs.declared.answer.Answer.{Answer}
-use Rattle.control.specs.Verdicts.{checkedOf}
-use Rattle.control.specs.VerdictLaws.{entry-passed, entry-refused, entry-valid, paired}
+use Rattle.control.specs.Verdicts.{checkedOf, paired}
+use Rattle.control.specs.VerdictLaws.{entry-passed, entry-refused, entry-valid}
 use borrow.Author.Needs.{needs}
 use Rattle.control.proofs.apply.apply_control.Statement.{statement}
 use Rattle.control.proofs.apply.apply_control.Tie as tie

@@ -49,9 +49,9 @@ use Rattle.control.specs.Judgement.{Move, carried}
 use Rattle.control.specs.Judgement.Verdict.{moves}
 use Rattle.control.specs.Judgement.Move.{recordsSnapshot, recordsCaughtUp, continues, fences, finalizes, begins}
 use Rattle.control.specs.Judgement.{judge, made}
-use Rattle.control.specs.BeginVerdictLaws.{begin-room, beginIn}
+use Rattle.control.specs.BeginVerdictLaws.{begin-room}
 use Rattle.control.specs.Control.{begun, caughtUpRecorded, continued, currentConfiguration, fencedAt, finalized, full, namedIndex, snapshotRecorded, targetIndex}
-use Rattle.control.specs.Verdicts.{advanceIn, answerOf, appliedOf, routeOf, verdictOf}
+use Rattle.control.specs.Verdicts.{advanceIn, answerOf, appliedOf, beginIn, routeOf, verdictOf}
 use Rattle.control.specs.VerdictLaws.{begin-begins, command-none, isMove, room-as, routed-to, step-advance, target-as}
 use Rattle.control.proofs.control.VoterCommand as P
 use Rattle.control.proofs.control.VoterCommand.Laws as P′

@@ -1,8 +1,7 @@
 -- `control::apply::mark` meets its contract: the answer of the verdict, and the table as it was. Assumes nothing.
 use mathlib.Core.Path.{ap, _∙_}
 use Rattle.identity.specs.declared.answer.Answer.{Answer}
-use Rattle.control.specs.Verdicts.{answerOf}
-use Rattle.control.specs.VerdictLaws.{paired}
+use Rattle.control.specs.Verdicts.{answerOf, paired}
 use borrow.Author.Needs.{needs}
 use Rattle.control.proofs.apply.mark.Statement.{statement}
 use Rattle.control.proofs.apply.mark.Tie as tie

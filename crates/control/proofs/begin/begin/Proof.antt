@@ -2,11 +2,11 @@
 use mathlib.Core.Path.{sym, ap, ap₂, _∙_}
 use borrow.Author.Needs.{needs}
 use Rattle.identity.specs.declared.answer.Answer.{Answer}
-use Rattle.control.specs.Verdicts.{answerOf, verdictOf}
+use Rattle.control.specs.Verdicts.{answerOf, paired, verdictOf}
 use Rattle.control.specs.Judgement.{carried}
 use Rattle.control.specs.BeginJudge.{beginMade}
 use Rattle.control.specs.BeginVerdictLaws.{begin-kept, begin-room, begin-told}
-use Rattle.control.specs.VerdictLaws.{isMove, paired}
+use Rattle.control.specs.VerdictLaws.{isMove}
 use Rattle.control.proofs.begin.begin.Statement.{statement}
 use Rattle.control.proofs.begin.begin.Tie as tie
 
