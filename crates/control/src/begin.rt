@@ -21,6 +21,7 @@ ghost use Rattle.control.specs.Verdicts.{verdictOf};
 use crate::apply::Controlled;
 use crate::control::VoterReplacementRequest;
 use crate::judge::Judged;
+use crate::judge::ROUTE_BEGIN;
 use crate::judge::answer_of;
 use crate::judge::change_if;
 use crate::judge::either;
@@ -333,21 +334,22 @@ fn prepared_at(cut: VoterSlotLogId) -> VoterReplacementEvidence
     }
 }
 
-// A Begin, by value.
+// A Begin, by value. The caller has tested that the cut has no zero and that the command is
+// representable (`checkedOf` accepted); then the answer is `applyControl`'s (`valid-begin`).
 pub fn begin(t: VoterSlotTable, b: VoterBegin) -> Controlled
     requires { ⌜ validate t ≡ Accepted ⌝ }
     ensures { λ r. ⌜ (r .answer, r .table) ≡ beginOf t b ⌝ }
 {
     let judged = judge_begin(t, b);
     let answer = answer_of(judged);
-    if route(judged) == 6 {
+    if route(judged) == ROUTE_BEGIN {
         let table = begin_table(t, b);
         return Controlled { answer, table };
     }
     Controlled { answer, table: t }
 }
 
-// A Begin on a table that is lent.
+// `begin` on a table that is lent: the caller has made the same tests.
 pub fn begin_in_place(t: &mut VoterSlotTable, b: VoterBegin) -> Answer
     requires { ⌜ validate (now t) ≡ Accepted ⌝ }
     ensures { λ v. ⌜ (v, now (t .exit)) ≡ beginOf (now (t .entry)) b ⌝ }

@@ -108,6 +108,9 @@ pub fn answer_of(judged: Judged) -> Answer
     }
 }
 
+// The number of the table that a Begin makes.
+pub const ROUTE_BEGIN: u64 = 6;
+
 // Which table is to be made, 0 for none: a thin call goes by this number.
 pub fn route(judged: Judged) -> u64
     ensures { λ r. ⌜ r ≡ routeOf (verdictOf judged) ⌝ }
@@ -120,7 +123,7 @@ pub fn route(judged: Judged) -> u64
         Judged::Continue => 3,
         Judged::Fence => 4,
         Judged::Finalize => 5,
-        Judged::Begin => 6,
+        Judged::Begin => ROUTE_BEGIN,
     }
 }
 

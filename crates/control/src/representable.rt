@@ -21,6 +21,7 @@ use crate::control::VoterReplacementRequest;
 use crate::control::VoterReplacementStep;
 use crate::control::VoterSlotControl;
 use identity::identity::ConsensusIdentity;
+use identity::identity::is_configuration_epoch;
 use records::records::VoterSnapshotEvidence;
 use records::representable::is_representable_attestation;
 use records::representable::is_representable_member;
@@ -61,14 +62,16 @@ fn is_blank_name(c: VoterSlotControl) -> bool
     request_id & request_digest
 }
 
-fn is_representable_request(request: VoterReplacementRequest) -> bool
+// The representability check of a Begin's request, public for the replay program, as that of a step is.
+pub fn is_representable_request(request: VoterReplacementRequest) -> bool
     ensures { λ r. ⌜ r ≡ representableRequest request ⌝ }
 {
     let request_candidate = request.candidate;
     let candidate = is_representable_member(request_candidate);
     let request_attestation = request.attestation;
     let attestation = is_representable_attestation(request_attestation);
-    (1 <= request.expected_configuration.configuration_epoch) & (candidate & attestation)
+    let epoch = is_configuration_epoch(request.expected_configuration.configuration_epoch);
+    epoch & (candidate & attestation)
 }
 
 // Field by field, with no blank made: as in `zero` of records.
@@ -108,7 +111,7 @@ fn is_step_part(is_advance: bool, step: VoterReplacementStep) -> bool
 
 // A kind of the five; the snapshot is RecordSnapshot's, the mark RecordCaughtUp's. Any numbers are a
 // mark.
-fn is_representable_step(step: VoterReplacementStep) -> bool
+pub fn is_representable_step(step: VoterReplacementStep) -> bool
     ensures { λ r. ⌜ r ≡ representableStep step ⌝ }
 {
     let step_snapshot = step.snapshot;

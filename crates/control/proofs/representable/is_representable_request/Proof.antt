@@ -9,10 +9,18 @@ is-representable-member-requires c κs = search needs
 is-representable-attestation-requires : tie.Need-is-representable-attestation-requires
 is-representable-attestation-requires c κs = search needs
 
+is-configuration-epoch-requires : tie.Need-is-configuration-epoch-requires
+is-configuration-epoch-requires c κs = search needs
+
 returns : tie.Need-returns
-returns c = simp (c .before .before .before .is-representable-member .ensures, c .before .is-representable-attestation .ensures)
+returns c =
+    simp (
+      c .before .before .before .is-representable-member .ensures,
+      c .before .is-representable-attestation .ensures,
+      c .is-configuration-epoch .ensures,
+    )
 
 pub is-representable-request-spec : {M : Type 1} → statement M
 is-representable-request-spec =
     tie.close
-    (tie.spec is-representable-member-requires is-representable-attestation-requires returns)
+    (tie.spec is-representable-member-requires is-representable-attestation-requires is-configuration-epoch-requires returns)
