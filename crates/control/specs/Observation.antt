@@ -1,5 +1,8 @@
--- Observations: `observe_membership` of control.rs with what it calls, in its order, and document 01, end of section "Commands". Nothing is validated first, so it speaks of
--- invalid tables too. A set of ids is what a BTreeSet is: the ids in strictly rising order, each once, whatever the order and the repeats of the members.
+-- Observations: `observe_membership` of control.rs with what it calls, in its order, and document
+-- 01, end of section "Commands". (The target slot is looked for first here and last in the Rust; both
+-- give 25.) Nothing is validated first, so it speaks of invalid tables too. A set of ids is what a
+-- BTreeSet is: the ids in strictly rising order, each once, whatever the order and the repeats of the
+-- members.
 -- Assumes nothing.
 use Prim.Native.Nat.{ℕ, zero, suc, _+_, _^_}
 use mathlib.Core.Bool.{Bool, true, false, cond, _&&_, _||_}

@@ -139,7 +139,8 @@ judgeSets t sets nodes cut =
     cond (eqb (t .revision) full) (refused RevisionExhausted)
     (cond (t .«has_replacement») (judgeSeen t (see (t .replacement) sets nodes) cut) (judgeClosed t sets nodes))
 
--- 30 and 31 of what is supplied, and then the verdict; a table that no Rust type can hold has more places in use than nine, or is refused before
+-- 30 and 31 of what is supplied, and then the verdict. 30 too where a count that the code goes by is
+-- above nine; no table that passes the representability check has one.
 unfoldable pub weighed : VoterSlotTable → (ids counts nodes : List ℕ) → VoterSlotLogId → Verdict Addition
 weighed t ids counts nodes cut =
     cond (fewMembers t && representableSets ids counts nodes)

@@ -1,5 +1,5 @@
 -- Who counts and what a quorum is, in a table; and the claim about the quorums of every line of history, which `quorums` of QuorumLaws proves.
--- It answers the fear that README.md names: "If a retired node counted again, two majorities could confirm different sessions, .."
+-- It answers the fear that README.md names: "If a retired voter ever counted again, two majorities could confirm different sessions."
 --
 -- What it says, of any valid start, any calls and any number of them:
 --   * A retired node counts in a table only while it is the one being replaced there, and no longer from Uniform on; so at most one does (`replaced`, `settled`).

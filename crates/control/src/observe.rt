@@ -126,7 +126,7 @@ fn see_phase(phase: u8, from: u8, at: u8, new: Seen) -> Seen
     pick_seen(phase == from, new, there)
 }
 
-// `membership` and `obsolete_learner`, by their tests.
+// What sets and nodes are to the open request, by the tests.
 fn see_by(phase: u8, tests: SetTests) -> Seen
     ensures { λ r. ⌜ sightOf r ≡ seenBy phase tests ⌝ }
 {
@@ -253,7 +253,7 @@ fn see_ids(
     see_by(phase, tests)
 }
 
-pub fn see(t: VoterSlotTable, sets: &[u64], counts: &[usize], nodes: &[u64]) -> Seen
+fn see(t: VoterSlotTable, sets: &[u64], counts: &[usize], nodes: &[u64]) -> Seen
     requires { ⌜ Supplied (now sets) (now counts) (now nodes) × ((t .replacement .predecessor .count ≤ 9) × (t .replacement .successor .count ≤ 9)) ⌝ }
     ensures { λ r. ⌜ sightOf r ≡ see (t .replacement) (splitSets (now (sets .entry)) (now (counts .entry))) (now (nodes .entry)) ⌝ }
 {
@@ -394,7 +394,7 @@ fn has_few_members(t: VoterSlotTable) -> bool
     (t.count <= 9) & (!t.has_replacement | ((old <= 9) & (new <= 9)))
 }
 
-// An observation of a table that is known to be valid, or that only a change of would show not to be.
+// The verdict. On a table not known to be valid a change still needs `confirm`.
 pub fn weigh(
     t: VoterSlotTable,
     sets: &[u64],
