@@ -62,7 +62,7 @@ fn is_blank_name(c: VoterSlotControl) -> bool
     request_id & request_digest
 }
 
-// The representability check of a Begin's request, public for the replay program, as that of a step is.
+// The representability check of a request. Public for the replay program, as that of a step is.
 pub fn is_representable_request(request: VoterReplacementRequest) -> bool
     ensures { λ r. ⌜ r ≡ representableRequest request ⌝ }
 {
@@ -130,6 +130,7 @@ fn is_snapshot_part(is_used: bool, snapshot: VoterSnapshotEvidence) -> bool
     is_blank_voter_snapshot_evidence(snapshot)
 }
 
+// All parts are zero, the kind too, as in `zero` of records.
 fn is_blank_step(step: VoterReplacementStep) -> bool
     ensures { λ r. ⌜ r ≡ isBlankStep step ⌝ }
 {
