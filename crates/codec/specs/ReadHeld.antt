@@ -52,15 +52,15 @@ padded-held P blank l n k e h a b = record {
 
 -- ---- the ways to make a format
 
-bytes-held : (l : List ℕ) → Bytes l → AllOf Byte l
+pub bytes-held : (l : List ℕ) → Bytes l → AllOf Byte l
 unfolding Bytes
 bytes-held l z = all-from Byte 0 l (λ i h. z i)
 
-raw-held : (n : ℕ) (l : List ℕ) → raw n .Good l → HeldBytes n l
+pub raw-held : (n : ℕ) (l : List ℕ) → raw n .Good l → HeldBytes n l
 unfolding raw
 raw-held n l g = record { count = g .0; each = bytes-held l (g .1) }
 
-uint-held : (k x : ℕ) → uint k .Good x → x < 256 ^ k
+pub uint-held : (k x : ℕ) → uint k .Good x → x < 256 ^ k
 unfolding uint held
 uint-held k x g = g
 
@@ -100,7 +100,7 @@ count-most n g = count-small n (require-is (validCount n) (g .1))
 count-held : (n : ℕ) → slotCount .Good n → n < 2 ^ 64
 count-held n g = let h = count-most n g in omega arith
 
-choice-held : (low high x : ℕ) → choice low high .Good x → x < 2 ^ 8
+pub choice-held : (low high x : ℕ) → choice low high .Good x → x < 2 ^ 8
 unfolding choice check
 choice-held low high x g = uint-held 1 x (g .0)
 
@@ -108,7 +108,7 @@ identity-held : (i : VoterSlotIdentity) → identity .Good i → HeldVoterSlotId
 unfolding identity via dep
 identity-held i g = record { slot = slotId-held (i .slot) (g .0 .0); incarnation = incarnation-held (i .incarnation) (g .0 .1) }
 
-logId-held : (c : VoterSlotLogId) → logId .Good c → HeldVoterSlotLogId c
+pub logId-held : (c : VoterSlotLogId) → logId .Good c → HeldVoterSlotLogId c
 unfolding logId via dep
 logId-held c g = record { term = uint-held 8 (c .term) (g .0 .0); index = uint-held 8 (c .index) (g .0 .1) }
 
@@ -149,12 +149,12 @@ snapshotId-held s g = record {
 
 -- ---- members and configurations
 
-record HeldBinding (b : Binding) : Type 0 where
+pub record HeldBinding (b : Binding) : Type 0 where
   pub «key_digest» : HeldBytes 32 (b .«key_digest»)
   pub «descriptor_digest» : HeldBytes 32 (b .«descriptor_digest»)
   pub «admission_generation» : b .«admission_generation» < 2 ^ 64
 
-binding-held : (b : Binding) → binding .Good b → HeldBinding b
+pub binding-held : (b : Binding) → binding .Good b → HeldBinding b
 unfolding binding via dep
 binding-held b g = record {
   «key_digest» = raw-held 32 (b .«key_digest») (g .0 .0 .0);
@@ -163,7 +163,7 @@ binding-held b g = record {
 }
 
 -- a member is its identity and its binding
-bound-held : (m : VoterSlotMember) → HeldVoterSlotIdentity (m .identity) → HeldBinding (bindingOf m) → HeldVoterSlotMember m
+pub bound-held : (m : VoterSlotMember) → HeldVoterSlotIdentity (m .identity) → HeldBinding (bindingOf m) → HeldVoterSlotMember m
 bound-held m i b = record { identity = i; «key_digest» = b .«key_digest»; «descriptor_digest» = b .«descriptor_digest»; «admission_generation» = b .«admission_generation» }
 
 member-held : (m : VoterSlotMember) → member .Good m → HeldVoterSlotMember m
