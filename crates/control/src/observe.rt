@@ -8,11 +8,14 @@ ghost use Prim.Native.Nat.{_+_, _<_, _≤_};
 ghost use mathlib.Core.Path.{_≡_};
 ghost use mathlib.Core.Bool.{cond, false, true};
 ghost use lib.Dec.{eqb};
-ghost use lib.ListN.{length};
+ghost use lib.ListN.{length, set};
 ghost use Rattle.identity.specs.Answer.{isAccepted};
 ghost use Rattle.identity.specs.declared.answer.Answer.the-variants.{Accepted, InvalidTransition, RevisionExhausted};
 ghost use Rattle.identity.specs.declared.identity.VoterSlotIdentityResult.the-variants.{Ok};
+ghost use Rattle.records.specs.Records.{slotAt};
+ghost use Rattle.records.specs.Successor.{slotIndex};
 ghost use Rattle.records.specs.Validation.{validate, validity};
+ghost use Rattle.records.specs.With.{inPhase, tableWith};
 ghost use Rattle.control.specs.Control.{full, targetIndex, targetSlot};
 ghost use Rattle.control.specs.Judgement.{added, carried, jointTest, learnerTest, uniformTest};
 ghost use Rattle.control.specs.Judgement.Addition.{addsJoint, addsLearner, addsUniform};
@@ -53,7 +56,6 @@ use records::records::VoterConfiguration;
 use records::records::VoterSlotLogId;
 use records::records::VoterSlotTable;
 use records::representable::is_representable;
-use records::successor::slot_index;
 use records::validation::target_phase;
 use records::validation::validate_representable;
 
@@ -316,6 +318,59 @@ fn is_uniform_cut(t: VoterSlotTable, cut: VoterSlotLogId) -> bool
     log_id_follows(cut, joint, false)
 }
 
+// ---- the slot being replaced
+//
+// All nine places are passed, and the place is compared in each turn: such a loop is written out by the
+// compiler, with a constant index in each turn. An index that is no constant has the table copied.
+
+// `slot_index`, with the places passed from the last to the first.
+fn slot_place(t: VoterSlotTable, slot: u16) -> usize
+    requires { ⌜ t .count ≤ 9 ⌝ }
+    ensures { λ r. ⌜ r ≡ slotIndex t slot ⌝ }
+{
+    let mut at: usize = 9;
+    let mut i: usize = 9;
+    while 0 < i {
+        i -= 1;
+        if (t.count <= i) | (t.slots[i].member.identity.slot == slot) {
+            at = i;
+        }
+    }
+    at
+}
+
+fn phase_at(t: VoterSlotTable, at: usize) -> u8
+    requires { ⌜ at < 9 ⌝ }
+    ensures { λ r. ⌜ r ≡ slotAt t at .phase ⌝ }
+{
+    let mut phase = 0;
+    let mut i: usize = 0;
+    while i < 9 {
+        if i == at {
+            phase = t.slots[i].phase;
+        }
+        i += 1;
+    }
+    phase
+}
+
+fn with_phase(t: VoterSlotTable, at: usize, phase: u8) -> VoterSlotTable
+    requires { ⌜ at < 9 ⌝ }
+    ensures { λ r. ⌜ r ≡ tableWith t (t .revision) (t .«configuration_epoch») (set (t .slots) at (inPhase (slotAt t at) phase)) (t .«has_replacement») (t .replacement) ⌝ }
+{
+    let mut u = t;
+    let mut i: usize = 0;
+    while i < 9 {
+        if i == at {
+            u.slots[i].phase = phase;
+        }
+        i += 1;
+    }
+    u
+}
+
+// ---- the judgement of what is seen
+
 // What is seen of a table that is known to be valid, whose slot being replaced is in this phase.
 fn judge_known(t: VoterSlotTable, phase: u8, seen: Seen, cut: VoterSlotLogId) -> Observed
     requires { ⌜ targetSlot t .phase ≡ phase ⌝ }
@@ -338,11 +393,11 @@ fn judge_seen(t: VoterSlotTable, seen: Seen, cut: VoterSlotLogId) -> Observed
     ensures { λ r. ⌜ verdictOfObserved r ≡ judgeSeen t (sightOf seen) cut ⌝ }
 {
     let slot = t.replacement.attestation.slot;
-    let at = slot_index(t, slot);
+    let at = slot_place(t, slot);
     if t.count <= at {
         return Observed::Refuse(Answer::InvalidTransition);
     }
-    let phase = t.slots[at].phase;
+    let phase = phase_at(t, at);
     judge_known(t, phase, seen, cut)
 }
 
@@ -465,15 +520,14 @@ pub fn learner_table(t: VoterSlotTable, o: VoterObservation) -> VoterSlotTable
 {
     let mut u = t;
     let slot = t.replacement.attestation.slot;
-    let at = slot_index(t, slot);
+    let at = slot_place(t, slot);
     u.replacement.evidence.learner.is_some = true;
     u.replacement.evidence.learner.cut.term = o.cut.term;
     u.replacement.evidence.learner.cut.index = o.cut.index;
     u.replacement.phase = LEARNER_ADDED;
-    u.slots[at].phase = CATCHING_UP;
     u.has_replacement = true;
     u.revision = t.revision + 1;
-    u
+    with_phase(u, at, CATCHING_UP)
 }
 
 // The joint membership.
@@ -483,15 +537,14 @@ pub fn joint_table(t: VoterSlotTable, o: VoterObservation) -> VoterSlotTable
 {
     let mut u = t;
     let slot = t.replacement.attestation.slot;
-    let at = slot_index(t, slot);
+    let at = slot_place(t, slot);
     u.replacement.evidence.joint.is_some = true;
     u.replacement.evidence.joint.cut.term = o.cut.term;
     u.replacement.evidence.joint.cut.index = o.cut.index;
     u.replacement.phase = JOINT;
-    u.slots[at].phase = VOTING;
     u.has_replacement = true;
     u.revision = t.revision + 1;
-    u
+    with_phase(u, at, VOTING)
 }
 
 // The successor's membership.
@@ -501,16 +554,15 @@ pub fn uniform_table(t: VoterSlotTable, o: VoterObservation) -> VoterSlotTable
 {
     let mut u = t;
     let slot = t.replacement.attestation.slot;
-    let at = slot_index(t, slot);
+    let at = slot_place(t, slot);
     u.replacement.evidence.uniform.is_some = true;
     u.replacement.evidence.uniform.cut.term = o.cut.term;
     u.replacement.evidence.uniform.cut.index = o.cut.index;
     u.replacement.phase = UNIFORM;
-    u.slots[at].phase = VOTING;
     u.configuration_epoch = t.replacement.successor.epoch;
     u.has_replacement = true;
     u.revision = t.revision + 1;
-    u
+    with_phase(u, at, VOTING)
 }
 
 // ---- the calls
