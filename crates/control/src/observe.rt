@@ -21,7 +21,7 @@ ghost use Rattle.control.specs.Judgement.{added, carried, jointTest, lea
 ghost use Rattle.control.specs.Judgement.Addition.{addsJoint, addsLearner, addsUniform};
 ghost use Rattle.control.specs.Judgement.Verdict.{refused};
 ghost use Rattle.control.specs.Observation.{isObsolete, memberIndex, observeMembership, see, seePhase, splitSets, total};
-ghost use Rattle.control.specs.ObserveSight.{Room, Supplied, answerOfObserved, confirmed, fewMembers, isChange, judgeClosed, judgeKnown, judgeMembers, judgeSeen, judgeSets, lingersAs, routeOfObserved, seenBy, seenOf, seenOld, sightOf, testsOf, verdictOfObserved, weighed};
+ghost use Rattle.control.specs.ObserveSight.{Room, Supplied, answerOfObserved, confirmed, entryWeighed, fewMembers, isChange, judgeClosed, judgeKnown, judgeMembers, judgeSeen, judgeSets, lingersAs, routeOfObserved, seenBy, seenOf, seenOld, sightOf, testsOf, verdictOfObserved, weighed};
 use crate::apply::Controlled;
 use crate::sets::NO_ID;
 use crate::sets::add_up;
@@ -75,12 +75,6 @@ pub enum Observed {
     AddLearner,
     AddJoint,
     AddUniform,
-}
-
-// A verdict with the cut at which the observation is committed: what the makers and the thin call take.
-pub struct VoterObservation {
-    pub judged: Observed,
-    pub cut: VoterSlotLogId,
 }
 
 // The tests of the sets and the nodes.
@@ -514,16 +508,16 @@ pub fn route(judged: Observed) -> u64
 // ---- the next table
 
 // The membership with the learner.
-pub fn learner_table(t: VoterSlotTable, o: VoterObservation) -> VoterSlotTable
+pub fn learner_table(t: VoterSlotTable, cut: VoterSlotLogId) -> VoterSlotTable
     requires { ⌜ (t .revision ≡ full → ⊥) × ((t .count ≤ 9) × (targetIndex t < t .count)) ⌝ }
-    ensures { λ r. ⌜ r ≡ added t (o .cut) addsLearner ⌝ }
+    ensures { λ r. ⌜ r ≡ added t cut addsLearner ⌝ }
 {
     let mut u = t;
     let slot = t.replacement.attestation.slot;
     let at = slot_place(t, slot);
     u.replacement.evidence.learner.is_some = true;
-    u.replacement.evidence.learner.cut.term = o.cut.term;
-    u.replacement.evidence.learner.cut.index = o.cut.index;
+    u.replacement.evidence.learner.cut.term = cut.term;
+    u.replacement.evidence.learner.cut.index = cut.index;
     u.replacement.phase = LEARNER_ADDED;
     u.has_replacement = true;
     u.revision = t.revision + 1;
@@ -531,16 +525,16 @@ pub fn learner_table(t: VoterSlotTable, o: VoterObservation) -> VoterSlotTable
 }
 
 // The joint membership.
-pub fn joint_table(t: VoterSlotTable, o: VoterObservation) -> VoterSlotTable
+pub fn joint_table(t: VoterSlotTable, cut: VoterSlotLogId) -> VoterSlotTable
     requires { ⌜ (t .revision ≡ full → ⊥) × ((t .count ≤ 9) × (targetIndex t < t .count)) ⌝ }
-    ensures { λ r. ⌜ r ≡ added t (o .cut) addsJoint ⌝ }
+    ensures { λ r. ⌜ r ≡ added t cut addsJoint ⌝ }
 {
     let mut u = t;
     let slot = t.replacement.attestation.slot;
     let at = slot_place(t, slot);
     u.replacement.evidence.joint.is_some = true;
-    u.replacement.evidence.joint.cut.term = o.cut.term;
-    u.replacement.evidence.joint.cut.index = o.cut.index;
+    u.replacement.evidence.joint.cut.term = cut.term;
+    u.replacement.evidence.joint.cut.index = cut.index;
     u.replacement.phase = JOINT;
     u.has_replacement = true;
     u.revision = t.revision + 1;
@@ -548,16 +542,16 @@ pub fn joint_table(t: VoterSlotTable, o: VoterObservation) -> VoterSlotTable
 }
 
 // The successor's membership.
-pub fn uniform_table(t: VoterSlotTable, o: VoterObservation) -> VoterSlotTable
+pub fn uniform_table(t: VoterSlotTable, cut: VoterSlotLogId) -> VoterSlotTable
     requires { ⌜ (t .revision ≡ full → ⊥) × ((t .count ≤ 9) × (targetIndex t < t .count)) ⌝ }
-    ensures { λ r. ⌜ r ≡ added t (o .cut) addsUniform ⌝ }
+    ensures { λ r. ⌜ r ≡ added t cut addsUniform ⌝ }
 {
     let mut u = t;
     let slot = t.replacement.attestation.slot;
     let at = slot_place(t, slot);
     u.replacement.evidence.uniform.is_some = true;
-    u.replacement.evidence.uniform.cut.term = o.cut.term;
-    u.replacement.evidence.uniform.cut.index = o.cut.index;
+    u.replacement.evidence.uniform.cut.term = cut.term;
+    u.replacement.evidence.uniform.cut.index = cut.index;
     u.replacement.phase = UNIFORM;
     u.configuration_epoch = t.replacement.successor.epoch;
     u.has_replacement = true;
@@ -568,11 +562,10 @@ pub fn uniform_table(t: VoterSlotTable, o: VoterObservation) -> VoterSlotTable
 // ---- the calls
 
 // A verdict carried out, by value.
-fn carry_out(t: VoterSlotTable, o: VoterObservation) -> Controlled
-    requires { ⌜ (isChange (verdictOfObserved (o .judged)) ≡ true → Room t) ⌝ }
-    ensures { λ r. ⌜ (r .answer, r .table) ≡ carried (added t (o .cut)) t (verdictOfObserved (o .judged)) ⌝ }
+fn carry_out(t: VoterSlotTable, judged: Observed, cut: VoterSlotLogId) -> Controlled
+    requires { ⌜ (isChange (verdictOfObserved judged) ≡ true → Room t) ⌝ }
+    ensures { λ r. ⌜ (r .answer, r .table) ≡ carried (added t cut) t (verdictOfObserved judged) ⌝ }
 {
-    let judged = o.judged;
     match judged {
         Observed::Refuse(answer) => Controlled { answer, table: t },
         Observed::Keep => Controlled {
@@ -581,15 +574,15 @@ fn carry_out(t: VoterSlotTable, o: VoterObservation) -> Controlled
         },
         Observed::AddLearner => Controlled {
             answer: Answer::Accepted,
-            table: learner_table(t, o),
+            table: learner_table(t, cut),
         },
         Observed::AddJoint => Controlled {
             answer: Answer::Accepted,
-            table: joint_table(t, o),
+            table: joint_table(t, cut),
         },
         Observed::AddUniform => Controlled {
             answer: Answer::Accepted,
-            table: uniform_table(t, o),
+            table: uniform_table(t, cut),
         },
     }
 }
@@ -606,8 +599,7 @@ pub fn observe_valid(
     ensures { λ r. ⌜ (r .answer, r .table) ≡ observeMembership t (now (sets .entry)) (now (counts .entry)) (now (nodes .entry)) cut ⌝ }
 {
     let judged = weigh(t, sets, counts, nodes, cut);
-    let o = VoterObservation { judged, cut };
-    carry_out(t, o)
+    carry_out(t, judged, cut)
 }
 
 // `VoterSlotTable::observe_membership`.
@@ -620,45 +612,76 @@ pub fn observe_membership(
 ) -> Controlled
     ensures { λ r. ⌜ (r .answer, r .table) ≡ observeMembership t (now (sets .entry)) (now (counts .entry)) (now (nodes .entry)) cut ⌝ }
 {
-    if !is_representable(t) {
-        return Controlled {
-            answer: Answer::Unrepresentable,
-            table: t,
-        };
-    }
-    let judged = weigh(t, sets, counts, nodes, cut);
-    let checked = confirm(t, judged);
-    let o = VoterObservation {
-        judged: checked,
-        cut,
-    };
-    carry_out(t, o)
+    let judged = weigh_entry(t, sets, counts, nodes, cut);
+    carry_out(t, judged, cut)
 }
 
-// A verdict carried out on the table that is lent, of which it was judged.
-pub fn observe_in_place(t: &mut VoterSlotTable, o: VoterObservation) -> Answer
-    requires { ⌜ (isChange (verdictOfObserved (o .judged)) ≡ true → Room (now t)) ⌝ }
-    ensures { λ v. ⌜ (v, now (t .exit)) ≡ carried (added (now (t .entry)) (o .cut)) (now (t .entry)) (verdictOfObserved (o .judged)) ⌝ }
+// The verdict of the entry point: 30 of the table, and its validity where something is new.
+pub fn weigh_entry(
+    t: VoterSlotTable,
+    sets: &[u64],
+    counts: &[usize],
+    nodes: &[u64],
+    cut: VoterSlotLogId,
+) -> Observed
+    ensures { λ r. ⌜ verdictOfObserved r ≡ entryWeighed t (now (sets .entry)) (now (counts .entry)) (now (nodes .entry)) cut ⌝ }
 {
-    let judged = judged_of(*t, o);
+    if !is_representable(t) {
+        return Observed::Refuse(Answer::Unrepresentable);
+    }
+    let judged = weigh(t, sets, counts, nodes, cut);
+    confirm(t, judged)
+}
+
+// `observe_membership` on a table that is lent: any table, any sets, any nodes and any cut.
+pub fn observe_membership_in_place(
+    t: &mut VoterSlotTable,
+    sets: &[u64],
+    counts: &[usize],
+    nodes: &[u64],
+    cut: VoterSlotLogId,
+) -> Answer
+    ensures { λ b. ⌜ (b, now (t .exit)) ≡ observeMembership (now (t .entry)) (now (sets .entry)) (now (counts .entry)) (now (nodes .entry)) cut ⌝ }
+{
+    let judged = weigh_entry(*t, sets, counts, nodes, cut);
     match route(judged) {
         1 => {
-            *t = learner_table(*t, o);
+            *t = learner_table(*t, cut);
         }
         2 => {
-            *t = joint_table(*t, o);
+            *t = joint_table(*t, cut);
         }
         3 => {
-            *t = uniform_table(*t, o);
+            *t = uniform_table(*t, cut);
         }
         _ => {}
     }
     answer_of(judged)
 }
 
-fn judged_of(t: VoterSlotTable, o: VoterObservation) -> Observed
-    ensures { λ r. ⌜ verdictOfObserved r ≡ verdictOfObserved (o .judged) ⌝ }
+// An observation of a table that is lent and known to be valid.
+pub fn observe_in_place(
+    t: &mut VoterSlotTable,
+    sets: &[u64],
+    counts: &[usize],
+    nodes: &[u64],
+    cut: VoterSlotLogId,
+) -> Answer
+    requires { ⌜ validate (now t) ≡ Accepted ⌝ }
+    ensures { λ v. ⌜ (v, now (t .exit)) ≡ observeMembership (now (t .entry)) (now (sets .entry)) (now (counts .entry)) (now (nodes .entry)) cut ⌝ }
 {
-    let judged = o.judged;
-    judged
+    let judged = weigh(*t, sets, counts, nodes, cut);
+    match route(judged) {
+        1 => {
+            *t = learner_table(*t, cut);
+        }
+        2 => {
+            *t = joint_table(*t, cut);
+        }
+        3 => {
+            *t = uniform_table(*t, cut);
+        }
+        _ => {}
+    }
+    answer_of(judged)
 }

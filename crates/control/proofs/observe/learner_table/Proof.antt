@@ -35,7 +35,7 @@ unfolding added
 returns c =
     let a = c .before .before .before .before .before .before .before .args in
     c .with-phase .ensures
-    ∙ ap (λ (k : ℕ). tableWith (a .t) (a .t .revision + 1) (a .t .«configuration_epoch») (set (a .t .slots) k (inPhase (slotAt (a .t) k) catchingUp)) true (learnerSeen (a .t .replacement) (a .o .cut))) (c .before .before .before .before .before .before .slot-place .ensures)
+    ∙ ap (λ (k : ℕ). tableWith (a .t) (a .t .revision + 1) (a .t .«configuration_epoch») (set (a .t .slots) k (inPhase (slotAt (a .t) k) catchingUp)) true (learnerSeen (a .t .replacement) (a .cut))) (c .before .before .before .before .before .before .slot-place .ensures)
 
 pub learner-table-spec : {M : Type 1} → statement M
 learner-table-spec =
