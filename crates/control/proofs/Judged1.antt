@@ -1,4 +1,4 @@
--- The law of a thin call that goes by a number: `let v = judged(*t, ..); match route(v) { 6 => { *t = made1(*t, ..); } .. _ => {} } answer_of(v)`, with 1 table to be made and 1 further plain parameter. Written by scripts/gen_judged.py.
+-- The law of a thin call that goes by a number: `let v = judged(*t, ..); match route(v) { 6 => { *t = made1(*t, ..); } .. _ => {} } answer_of(v)`, with 1 table to be made and 1 further parameter. Written by scripts/gen_judged.py.
 -- It holds for any table, any answer, any parameters and any cores: the types, the machine values and the contracts are variables.
 -- Assumes `Given`.
 use mathlib.Core.Path.{_≡_, refl, ap, sym, subst}
@@ -13,7 +13,7 @@ use base.Fml.{GName, Lft, Share, fat, flft, fobs, fbor}
 use prog.Wp.{Heap, Calls, Loops, WpFn}
 use ghost.Atoms.{Atoms, sem}
 use contract.Monad.{fact}
-use types.Kit.{Given, ‵, raw, _⊛_, some, later, _$_, _∵_, !, qed, by, move, drop, use1, use2, use3, split, pick, rewrite, await, atRet}
+use types.Kit.{Given, ‵, raw, _⊛_, some, later, _$_, _∵_, !, qed, by, move, drop, use1, use2, split, pick, rewrite, await, atRet}
 use types.Run.{look, init, store, forget, stop, hop, from, load, of-opd, assigns, assigns-last, and-then, no-more, land, returns, first, switches, skips, exec, enter, alloc1, alloc0, params1, pass1, pass0, free1, free0}
 use types.SemTy.{Body}
 use sound.WpLaws.{FmC}
@@ -58,50 +58,50 @@ thinFn lfts τB τA τN τ₂ τT f d z g₁ = record {
 module _ {M : Type 1} (𝓤 : URA M) (H : Heap 𝓤) (A : Atoms 𝓤) (W : Given 𝓤 H A) (R S B : RattleType) (τB τA τN τ₂ τT : Ty) (N : Known 𝓤 H A R S τA τT)
     (s-makes : Makes 𝓤 H A S (Is S)) (b-typed : (w : B .Denot) (u : Val) → Is B w (u ∷ []) → Typed τB u)
     (κ : Lft) (q : Share) (b o : ℕ) (γ : GName) (h : R .Denot) (w₂ : Val) (ok₂ : Typed τ₂ w₂) (φ : S .Denot → Type 0) (χ : S .Denot → ℕ → Type 0) (ω : S .Denot → B .Denot → Type 0) (ψ₁ : R .Denot → Type 0)
-    (Pre Pre₁ X₁ Y₁ X₂ Y₂ Z : SProp 𝓤) (Q Q₁ Post : Val → SProp 𝓤) (Pre′ Pre″ : S .Denot → Val → SProp 𝓤) (Q′ Q″ : S .Denot → Val → Val → SProp 𝓤) where
-  -- Pre and Q are the judge's at what it is called at, Pre′ and Q′ the router's, Pre″ and Q″ those of what answers, the others the makers'. X₁ is what the judge asks besides the table, Y₁ what it returns besides the answer; a maker has Y₁ and X₂, and returns Y₂. Z is kept
+    (Pre Pre₁ X Y Z : SProp 𝓤) (Q Q₁ Post : Val → SProp 𝓤) (Pre′ Pre″ : S .Denot → Val → SProp 𝓤) (Q′ Q″ : S .Denot → Val → Val → SProp 𝓤) where
+  -- Pre and Q are the judge's at what it is called at, Pre′ and Q′ the router's, Pre″ and Q″ those of what answers, the others the makers'. X is what the judge asks besides the table, Y what it returns besides the answer; Z is kept
   pub thin : (lfts : ℕ) (C : Calls 𝓤 H) (Λ : Loops 𝓤 H) → FmC 𝓤 H (W .laws) C → (f d z g₁ : Name)
-      → ent 𝓤 Pre (C f (N .tval h ∷ w₂ ∷ []) Q) → ent 𝓤 (sep 𝓤 (sem 𝓤 H A (R .own h (N .tval h ∷ []))) X₁) Pre
-      → ((v : Val) → ent 𝓤 (Q v) (H .⇛ (ex 𝓤 (λ (r : S .Denot). sep 𝓤 (sep 𝓤 Y₁ (sem 𝓤 H A (S .own r (v ∷ [])))) (fact 𝓤 (φ r))))))
+      → ent 𝓤 Pre (C f (N .tval h ∷ w₂ ∷ []) Q) → ent 𝓤 (sep 𝓤 (sem 𝓤 H A (R .own h (N .tval h ∷ []))) X) Pre
+      → ((v : Val) → ent 𝓤 (Q v) (H .⇛ (ex 𝓤 (λ (r : S .Denot). sep 𝓤 (sep 𝓤 Y (sem 𝓤 H A (S .own r (v ∷ [])))) (fact 𝓤 (φ r))))))
       → ((r : S .Denot) (v : Val) → ent 𝓤 (Pre′ r v) (C d (v ∷ []) (Q′ r v))) → ((r : S .Denot) (v : Val) → Is S r (v ∷ []) → ent 𝓤 (sem 𝓤 H A (S .own r (v ∷ []))) (Pre′ r v))
       → ((r : S .Denot) (v u : Val) → ent 𝓤 (Q′ r v u) (H .⇛ (ex 𝓤 (λ (y : ℕ). sep 𝓤 (sem 𝓤 H A (u64 .own y (u ∷ []))) (fact 𝓤 (χ r y))))))
       → ((r : S .Denot) (v : Val) → ent 𝓤 (Pre″ r v) (C z (v ∷ []) (Q″ r v))) → ((r : S .Denot) (v : Val) → Is S r (v ∷ []) → ent 𝓤 (sem 𝓤 H A (S .own r (v ∷ []))) (Pre″ r v))
       → ((r : S .Denot) (v u : Val) → ent 𝓤 (Q″ r v u) (H .⇛ (ex 𝓤 (λ (w : B .Denot). sep 𝓤 (sem 𝓤 H A (B .own w (u ∷ []))) (fact 𝓤 (ω r w))))))
-      → ent 𝓤 Pre₁ (C g₁ (N .tval h ∷ w₂ ∷ []) Q₁) → ((r : S .Denot) → φ r → (y : ℕ) → χ r y → y ≡ 6 → ent 𝓤 (sep 𝓤 (sem 𝓤 H A (R .own h (N .tval h ∷ []))) (sep 𝓤 Y₁ X₂)) Pre₁)
-      → ((v : Val) → ent 𝓤 (Q₁ v) (H .⇛ (ex 𝓤 (λ (n : R .Denot). sep 𝓤 (sep 𝓤 Y₂ (sem 𝓤 H A (R .own n (v ∷ [])))) (fact 𝓤 (ψ₁ n))))))
-      → ((r : S .Denot) → φ r → (y : ℕ) → χ r y → y ≡ 6 → (n : R .Denot) → ψ₁ n → (w : B .Denot) (v : Val) → Is B w (v ∷ []) → ω r w → ent 𝓤 (held 𝓤 A R κ q b o γ n (sep 𝓤 Y₂ Z)) (Post v))
-      → ((r : S .Denot) → φ r → (y : ℕ) → χ r y → (Unit {0}) × (y ≡ 6 → ⊥) → (w : B .Denot) (v : Val) → Is B w (v ∷ []) → ω r w → ent 𝓤 (held 𝓤 A R κ q b o γ h (sep 𝓤 Y₁ (sep 𝓤 X₂ Z))) (Post v))
-      → ent 𝓤 (held 𝓤 A R κ q b o γ h (sep 𝓤 X₁ (sep 𝓤 X₂ Z))) (WpFn 𝓤 H C Λ (thinFn lfts τB τA τN τ₂ τT f d z g₁) (vptr b o ∷ w₂ ∷ []) Post)
+      → ent 𝓤 Pre₁ (C g₁ (N .tval h ∷ w₂ ∷ []) Q₁) → ((r : S .Denot) → φ r → (y : ℕ) → χ r y → y ≡ 6 → ent 𝓤 (sem 𝓤 H A (R .own h (N .tval h ∷ []))) Pre₁)
+      → ((v : Val) → ent 𝓤 (Q₁ v) (H .⇛ (ex 𝓤 (λ (n : R .Denot). sep 𝓤 (sem 𝓤 H A (R .own n (v ∷ []))) (fact 𝓤 (ψ₁ n))))))
+      → ((r : S .Denot) → φ r → (y : ℕ) → χ r y → y ≡ 6 → (n : R .Denot) → ψ₁ n → (w : B .Denot) (v : Val) → Is B w (v ∷ []) → ω r w → ent 𝓤 (held 𝓤 A R κ q b o γ n (sep 𝓤 Y Z)) (Post v))
+      → ((r : S .Denot) → φ r → (y : ℕ) → χ r y → (Unit {0}) × (y ≡ 6 → ⊥) → (w : B .Denot) (v : Val) → Is B w (v ∷ []) → ω r w → ent 𝓤 (held 𝓤 A R κ q b o γ h (sep 𝓤 Y Z)) (Post v))
+      → ent 𝓤 (held 𝓤 A R κ q b o γ h (sep 𝓤 X Z)) (WpFn 𝓤 H C Λ (thinFn lfts τB τA τN τ₂ τT f d z g₁) (vptr b o ∷ w₂ ∷ []) Post)
   thin lfts C Λ fm f d z g₁ met goes comes met′ goes′ comes′ met″ goes″ comes″ met₁ goes₁ comes₁ exits₁ stays =
-      qed W (‵ (fobs γ (R .coded .code h)) ∷ ‵ (fbor κ (Body (mem R) b o γ)) ∷ ‵ (flft κ q) ∷ raw X₁ ∷ raw X₂ ∷ raw Z ∷ []) ∵
+      qed W (‵ (fobs γ (R .coded .code h)) ∷ ‵ (fbor κ (Body (mem R) b o γ)) ∷ ‵ (flft κ q) ∷ raw X ∷ raw Z ∷ []) ∵
       enter ! C Λ (thinFn lfts τB τA τN τ₂ τT f d z g₁) (vptr b o ∷ w₂ ∷ []) _ $
       alloc1 ! (λ l₀. alloc1 ! (λ l₁. alloc1 ! (λ l₂. alloc1 ! (λ l₃. alloc1 ! (λ l₄. alloc1 ! (λ l₅. alloc1 ! (λ l₆. alloc1 ! (λ l₇. alloc0 ! $ params1 ! $ pass1 ! (init ! 12 refl (tt, tt)) $ pass1 ! (init ! 10 refl ok₂) $ pass0 ! $
       -- the borrow is opened, and the table copied
       move ! (16 ∷ 17 ∷ 18 ∷ []) $ opens ! tt R {h = h} b o (λ vs. spelt ! R (Is R) (shows 𝓤 H A R) (λ y. N .tval y ∷ []) (N .tells) fullShare h vs b o $
       use1 W (‵ (fat fullShare τT b o (N .tval h))) (N .out b o (N .tval h)) $ move ! (1 ∷ []) $ peeks ! R (Is R) (shows 𝓤 H A R) h (N .tval h ∷ []) (λ is-h. move ! (1 ∷ 0 ∷ []) $
-      -- [the table's cell; what it owns; the open borrow; obs; auth; the locals from the last to the first, two entries each; X₁; X₂; Z]
+      -- [the table's cell; what it owns; the open borrow; obs; auth; the locals from the last to the first, two entries each; X; Z]
       assigns ! (of-opd ! (load ! (from ! (hop ! (look ! 17 refl) (stop !))) (look ! 0 refl))) (from ! (stop !)) (init ! 11 refl (N .typed h (N .tval h) is-h)) $
       -- the judge
       move ! (1 ∷ 21 ∷ []) $ use2 W (raw Pre) goes $
       calls-from ! fm (raw Pre) (N .tval h ∷ w₂ ∷ []) Q met (and-then ! (load ! (from ! (stop !)) (look ! 11 refl)) (and-then ! (load ! (from ! (stop !)) (look ! 15 refl)) (no-more !))) (λ v.
-      use1 W (later (some (λ (r : S .Denot). (raw Y₁ ⊛ ‵ (S .own r (v ∷ []))) ⊛ raw (fact 𝓤 (φ r))))) (comes v) $ await ! tt $ pick ! (λ r. split ! $ move ! (1 ∷ []) $ heard ! (φ r) (λ e. split ! $ move ! (1 ∷ []) $ peeks ! S (Is S) (shows 𝓤 H A S) r (v ∷ []) (λ is.
-      -- [what the answer owns; Y₁; the table's cell; the open borrow; obs; auth; the locals; X₂; Z]
+      use1 W (later (some (λ (r : S .Denot). (raw Y ⊛ ‵ (S .own r (v ∷ []))) ⊛ raw (fact 𝓤 (φ r))))) (comes v) $ await ! tt $ pick ! (λ r. split ! $ move ! (1 ∷ []) $ heard ! (φ r) (λ e. split ! $ move ! (1 ∷ []) $ peeks ! S (Is S) (shows 𝓤 H A S) r (v ∷ []) (λ is.
+      -- [what the answer owns; Y; the table's cell; the open borrow; obs; auth; the locals; Z]
       land ! (from ! (stop !)) (init ! 14 refl (N .a-typed r v is)) $
       -- the router
       use1 W (raw (Pre′ r v)) (goes′ r v is) $ calls-from ! fm (raw (Pre′ r v)) (v ∷ []) (Q′ r v) (met′ r v) (and-then ! (load ! (from ! (stop !)) (look ! 14 refl)) (no-more !)) (λ u′.
       use1 W (later (some (λ (y : ℕ). ‵ (u64 .own y (u′ ∷ [])) ⊛ raw (fact 𝓤 (χ r y))))) (comes′ r v u′) $ await ! tt $ pick ! (λ y. split ! $ move ! (1 ∷ []) $ heard ! (χ r y) (λ c. peeks ! u64 (Is u64) (shows 𝓤 H A u64) y (u′ ∷ []) (λ is-y.
-      -- [what the number owns; Y₁; the table's cell; the open borrow; obs; auth; the locals; X₂; Z]
+      -- [what the number owns; Y; the table's cell; the open borrow; obs; auth; the locals; Z]
       land ! (from ! (stop !)) (init ! 10 refl (num-typed y u′ is-y)) $ rewrite ! 10 (λ (w : Val). ‵ (fat fullShare (tyInt w64) l₅ 0 w)) (ap only (is-y .0)) refl $
       drop ! $
-      -- [Y₁; the table's cell; the open borrow; obs; auth; the locals; X₂; Z]
+      -- [Y; the table's cell; the open borrow; obs; auth; the locals; Z]
       first ! $ switches ! (load ! (from ! (stop !)) (look ! 9 refl)) (
         (λ on.
             owned ! R (Is R) (N .makes) h (N .tval h ∷ []) is-h $
             assigns ! (of-opd ! (load ! (from ! (hop ! (look ! 18 refl) (stop !))) (look ! 2 refl))) (from ! (stop !)) (init ! 6 refl (N .typed h (N .tval h) is-h)) $
-            move ! (0 ∷ 1 ∷ 22 ∷ []) $ use3 W (raw Pre₁) (goes₁ r e y c on) $
-            calls-from ! fm (raw Pre₁) (N .tval h ∷ w₂ ∷ []) Q₁ met₁ (and-then ! (load ! (from ! (stop !)) (look ! 5 refl)) (and-then ! (load ! (from ! (stop !)) (look ! 15 refl)) (no-more !))) (λ u.
-            use1 W (later (some (λ (n : R .Denot). (raw Y₂ ⊛ ‵ (R .own n (u ∷ []))) ⊛ raw (fact 𝓤 (ψ₁ n))))) (comes₁ u) $ await ! tt $ pick ! (λ n. split ! $ move ! (1 ∷ []) $ heard ! (ψ₁ n) (λ e′. split ! $ move ! (1 ∷ []) $ peeks ! R (Is R) (shows 𝓤 H A R) n (u ∷ []) (λ is-n.
-            -- [what the table made owns; Y₂; the table's cell; the open borrow; obs; auth; the locals; Z]
+            use1 W (raw Pre₁) (goes₁ r e y c on) $
+            calls-from ! fm (raw Pre₁) (N .tval h ∷ w₂ ∷ []) Q₁ met₁ (and-then ! (load ! (from ! (stop !)) (look ! 6 refl)) (and-then ! (load ! (from ! (stop !)) (look ! 16 refl)) (no-more !))) (λ u.
+            use1 W (later (some (λ (n : R .Denot). ‵ (R .own n (u ∷ [])) ⊛ raw (fact 𝓤 (ψ₁ n))))) (comes₁ u) $ await ! tt $ pick ! (λ n. split ! $ move ! (1 ∷ []) $ heard ! (ψ₁ n) (λ e′. peeks ! R (Is R) (shows 𝓤 H A R) n (u ∷ []) (λ is-n.
+            -- [what the table made owns; Y; the table's cell; the open borrow; obs; auth; the locals; Z]
             land ! (from ! (stop !)) (init ! 8 refl (N .typed n u is-n)) $
             assigns-last ! (of-opd ! (load ! (from ! (stop !)) (look ! 8 refl))) (from ! (hop ! (look ! 18 refl) (stop !))) (store ! 2 refl (N .typed n u is-n)) $
             exec ! C Λ ((τB, l₀) ∷ (tyRef (named 0) mut τN, l₁) ∷ (τ₂, l₂) ∷ (τA, l₃) ∷ (τT, l₄) ∷ (tyInt w64, l₅) ∷ (τT, l₆) ∷ (τT, l₇) ∷ []) (last z) (atRet ((τB, l₀) ∷ (tyRef (named 0) mut τN, l₁) ∷ (τ₂, l₂) ∷ (τA, l₃) ∷ (τT, l₄) ∷ (tyInt w64, l₅) ∷ (τT, l₆) ∷ (τT, l₇) ∷ []) Post) $

@@ -1,4 +1,4 @@
--- The law of a thin call that goes by a number: `let v = judged(*t, ..); match route(v) { 1 => { *t = made1(*t, ..); } .. _ => {} } answer_of(v)`, with 6 tables to be made and 1 further plain parameter. Written by scripts/gen_judged.py.
+-- The law of a thin call that goes by a number: `let v = judged(*t, ..); match route(v) { 1 => { *t = made1(*t, ..); } .. _ => {} } answer_of(v)`, with 6 tables to be made and 1 further parameter. Written by scripts/gen_judged.py.
 -- It holds for any table, any answer, any parameters and any cores: the types, the machine values and the contracts are variables.
 -- Assumes `Given`.
 use mathlib.Core.Path.{_≡_, refl, ap, sym, subst}
@@ -13,7 +13,7 @@ use base.Fml.{GName, Lft, Share, fat, flft, fobs, fbor}
 use prog.Wp.{Heap, Calls, Loops, WpFn}
 use ghost.Atoms.{Atoms, sem}
 use contract.Monad.{fact}
-use types.Kit.{Given, ‵, raw, _⊛_, some, later, _$_, _∵_, !, qed, by, move, drop, use1, use2, use3, split, pick, rewrite, await, atRet}
+use types.Kit.{Given, ‵, raw, _⊛_, some, later, _$_, _∵_, !, qed, by, move, drop, use1, use2, split, pick, rewrite, await, atRet}
 use types.Run.{look, init, store, forget, stop, hop, from, load, of-opd, assigns, assigns-last, and-then, no-more, land, returns, first, switches, skips, exec, enter, alloc1, alloc0, params1, pass1, pass0, free1, free0}
 use types.SemTy.{Body}
 use sound.WpLaws.{FmC}
@@ -78,65 +78,65 @@ thinFn lfts τB τA τN τ₂ τT f d z g₁ g₂ g₃ g₄ g₅ g₆ = record {
 module _ {M : Type 1} (𝓤 : URA M) (H : Heap 𝓤) (A : Atoms 𝓤) (W : Given 𝓤 H A) (R S B : RattleType) (τB τA τN τ₂ τT : Ty) (N : Known 𝓤 H A R S τA τT)
     (s-makes : Makes 𝓤 H A S (Is S)) (b-typed : (w : B .Denot) (u : Val) → Is B w (u ∷ []) → Typed τB u)
     (κ : Lft) (q : Share) (b o : ℕ) (γ : GName) (h : R .Denot) (w₂ : Val) (ok₂ : Typed τ₂ w₂) (φ : S .Denot → Type 0) (χ : S .Denot → ℕ → Type 0) (ω : S .Denot → B .Denot → Type 0) (ψ₁ ψ₂ ψ₃ ψ₄ ψ₅ ψ₆ : R .Denot → Type 0)
-    (Pre Pre₁ Pre₂ Pre₃ Pre₄ Pre₅ Pre₆ X₁ Y₁ X₂ Y₂ Z : SProp 𝓤) (Q Q₁ Q₂ Q₃ Q₄ Q₅ Q₆ Post : Val → SProp 𝓤) (Pre′ Pre″ : S .Denot → Val → SProp 𝓤) (Q′ Q″ : S .Denot → Val → Val → SProp 𝓤) where
-  -- Pre and Q are the judge's at what it is called at, Pre′ and Q′ the router's, Pre″ and Q″ those of what answers, the others the makers'. X₁ is what the judge asks besides the table, Y₁ what it returns besides the answer; a maker has Y₁ and X₂, and returns Y₂. Z is kept
+    (Pre Pre₁ Pre₂ Pre₃ Pre₄ Pre₅ Pre₆ X Y Z : SProp 𝓤) (Q Q₁ Q₂ Q₃ Q₄ Q₅ Q₆ Post : Val → SProp 𝓤) (Pre′ Pre″ : S .Denot → Val → SProp 𝓤) (Q′ Q″ : S .Denot → Val → Val → SProp 𝓤) where
+  -- Pre and Q are the judge's at what it is called at, Pre′ and Q′ the router's, Pre″ and Q″ those of what answers, the others the makers'. X is what the judge asks besides the table, Y what it returns besides the answer; Z is kept
   pub thin : (lfts : ℕ) (C : Calls 𝓤 H) (Λ : Loops 𝓤 H) → FmC 𝓤 H (W .laws) C → (f d z g₁ g₂ g₃ g₄ g₅ g₆ : Name)
-      → ent 𝓤 Pre (C f (N .tval h ∷ w₂ ∷ []) Q) → ent 𝓤 (sep 𝓤 (sem 𝓤 H A (R .own h (N .tval h ∷ []))) X₁) Pre
-      → ((v : Val) → ent 𝓤 (Q v) (H .⇛ (ex 𝓤 (λ (r : S .Denot). sep 𝓤 (sep 𝓤 Y₁ (sem 𝓤 H A (S .own r (v ∷ [])))) (fact 𝓤 (φ r))))))
+      → ent 𝓤 Pre (C f (N .tval h ∷ w₂ ∷ []) Q) → ent 𝓤 (sep 𝓤 (sem 𝓤 H A (R .own h (N .tval h ∷ []))) X) Pre
+      → ((v : Val) → ent 𝓤 (Q v) (H .⇛ (ex 𝓤 (λ (r : S .Denot). sep 𝓤 (sep 𝓤 Y (sem 𝓤 H A (S .own r (v ∷ [])))) (fact 𝓤 (φ r))))))
       → ((r : S .Denot) (v : Val) → ent 𝓤 (Pre′ r v) (C d (v ∷ []) (Q′ r v))) → ((r : S .Denot) (v : Val) → Is S r (v ∷ []) → ent 𝓤 (sem 𝓤 H A (S .own r (v ∷ []))) (Pre′ r v))
       → ((r : S .Denot) (v u : Val) → ent 𝓤 (Q′ r v u) (H .⇛ (ex 𝓤 (λ (y : ℕ). sep 𝓤 (sem 𝓤 H A (u64 .own y (u ∷ []))) (fact 𝓤 (χ r y))))))
       → ((r : S .Denot) (v : Val) → ent 𝓤 (Pre″ r v) (C z (v ∷ []) (Q″ r v))) → ((r : S .Denot) (v : Val) → Is S r (v ∷ []) → ent 𝓤 (sem 𝓤 H A (S .own r (v ∷ []))) (Pre″ r v))
       → ((r : S .Denot) (v u : Val) → ent 𝓤 (Q″ r v u) (H .⇛ (ex 𝓤 (λ (w : B .Denot). sep 𝓤 (sem 𝓤 H A (B .own w (u ∷ []))) (fact 𝓤 (ω r w))))))
-      → ent 𝓤 Pre₁ (C g₁ (N .tval h ∷ w₂ ∷ []) Q₁) → ((r : S .Denot) → φ r → (y : ℕ) → χ r y → y ≡ 1 → ent 𝓤 (sep 𝓤 (sem 𝓤 H A (R .own h (N .tval h ∷ []))) (sep 𝓤 Y₁ X₂)) Pre₁)
-      → ((v : Val) → ent 𝓤 (Q₁ v) (H .⇛ (ex 𝓤 (λ (n : R .Denot). sep 𝓤 (sep 𝓤 Y₂ (sem 𝓤 H A (R .own n (v ∷ [])))) (fact 𝓤 (ψ₁ n))))))
-      → ((r : S .Denot) → φ r → (y : ℕ) → χ r y → y ≡ 1 → (n : R .Denot) → ψ₁ n → (w : B .Denot) (v : Val) → Is B w (v ∷ []) → ω r w → ent 𝓤 (held 𝓤 A R κ q b o γ n (sep 𝓤 Y₂ Z)) (Post v))
-      → ent 𝓤 Pre₂ (C g₂ (N .tval h ∷ w₂ ∷ []) Q₂) → ((r : S .Denot) → φ r → (y : ℕ) → χ r y → y ≡ 2 → ent 𝓤 (sep 𝓤 (sem 𝓤 H A (R .own h (N .tval h ∷ []))) (sep 𝓤 Y₁ X₂)) Pre₂)
-      → ((v : Val) → ent 𝓤 (Q₂ v) (H .⇛ (ex 𝓤 (λ (n : R .Denot). sep 𝓤 (sep 𝓤 Y₂ (sem 𝓤 H A (R .own n (v ∷ [])))) (fact 𝓤 (ψ₂ n))))))
-      → ((r : S .Denot) → φ r → (y : ℕ) → χ r y → y ≡ 2 → (n : R .Denot) → ψ₂ n → (w : B .Denot) (v : Val) → Is B w (v ∷ []) → ω r w → ent 𝓤 (held 𝓤 A R κ q b o γ n (sep 𝓤 Y₂ Z)) (Post v))
-      → ent 𝓤 Pre₃ (C g₃ (N .tval h ∷ w₂ ∷ []) Q₃) → ((r : S .Denot) → φ r → (y : ℕ) → χ r y → y ≡ 3 → ent 𝓤 (sep 𝓤 (sem 𝓤 H A (R .own h (N .tval h ∷ []))) (sep 𝓤 Y₁ X₂)) Pre₃)
-      → ((v : Val) → ent 𝓤 (Q₃ v) (H .⇛ (ex 𝓤 (λ (n : R .Denot). sep 𝓤 (sep 𝓤 Y₂ (sem 𝓤 H A (R .own n (v ∷ [])))) (fact 𝓤 (ψ₃ n))))))
-      → ((r : S .Denot) → φ r → (y : ℕ) → χ r y → y ≡ 3 → (n : R .Denot) → ψ₃ n → (w : B .Denot) (v : Val) → Is B w (v ∷ []) → ω r w → ent 𝓤 (held 𝓤 A R κ q b o γ n (sep 𝓤 Y₂ Z)) (Post v))
-      → ent 𝓤 Pre₄ (C g₄ (N .tval h ∷ w₂ ∷ []) Q₄) → ((r : S .Denot) → φ r → (y : ℕ) → χ r y → y ≡ 4 → ent 𝓤 (sep 𝓤 (sem 𝓤 H A (R .own h (N .tval h ∷ []))) (sep 𝓤 Y₁ X₂)) Pre₄)
-      → ((v : Val) → ent 𝓤 (Q₄ v) (H .⇛ (ex 𝓤 (λ (n : R .Denot). sep 𝓤 (sep 𝓤 Y₂ (sem 𝓤 H A (R .own n (v ∷ [])))) (fact 𝓤 (ψ₄ n))))))
-      → ((r : S .Denot) → φ r → (y : ℕ) → χ r y → y ≡ 4 → (n : R .Denot) → ψ₄ n → (w : B .Denot) (v : Val) → Is B w (v ∷ []) → ω r w → ent 𝓤 (held 𝓤 A R κ q b o γ n (sep 𝓤 Y₂ Z)) (Post v))
-      → ent 𝓤 Pre₅ (C g₅ (N .tval h ∷ w₂ ∷ []) Q₅) → ((r : S .Denot) → φ r → (y : ℕ) → χ r y → y ≡ 5 → ent 𝓤 (sep 𝓤 (sem 𝓤 H A (R .own h (N .tval h ∷ []))) (sep 𝓤 Y₁ X₂)) Pre₅)
-      → ((v : Val) → ent 𝓤 (Q₅ v) (H .⇛ (ex 𝓤 (λ (n : R .Denot). sep 𝓤 (sep 𝓤 Y₂ (sem 𝓤 H A (R .own n (v ∷ [])))) (fact 𝓤 (ψ₅ n))))))
-      → ((r : S .Denot) → φ r → (y : ℕ) → χ r y → y ≡ 5 → (n : R .Denot) → ψ₅ n → (w : B .Denot) (v : Val) → Is B w (v ∷ []) → ω r w → ent 𝓤 (held 𝓤 A R κ q b o γ n (sep 𝓤 Y₂ Z)) (Post v))
-      → ent 𝓤 Pre₆ (C g₆ (N .tval h ∷ w₂ ∷ []) Q₆) → ((r : S .Denot) → φ r → (y : ℕ) → χ r y → y ≡ 6 → ent 𝓤 (sep 𝓤 (sem 𝓤 H A (R .own h (N .tval h ∷ []))) (sep 𝓤 Y₁ X₂)) Pre₆)
-      → ((v : Val) → ent 𝓤 (Q₆ v) (H .⇛ (ex 𝓤 (λ (n : R .Denot). sep 𝓤 (sep 𝓤 Y₂ (sem 𝓤 H A (R .own n (v ∷ [])))) (fact 𝓤 (ψ₆ n))))))
-      → ((r : S .Denot) → φ r → (y : ℕ) → χ r y → y ≡ 6 → (n : R .Denot) → ψ₆ n → (w : B .Denot) (v : Val) → Is B w (v ∷ []) → ω r w → ent 𝓤 (held 𝓤 A R κ q b o γ n (sep 𝓤 Y₂ Z)) (Post v))
-      → ((r : S .Denot) → φ r → (y : ℕ) → χ r y → ((((((Unit {0}) × (y ≡ 1 → ⊥)) × (y ≡ 2 → ⊥)) × (y ≡ 3 → ⊥)) × (y ≡ 4 → ⊥)) × (y ≡ 5 → ⊥)) × (y ≡ 6 → ⊥) → (w : B .Denot) (v : Val) → Is B w (v ∷ []) → ω r w → ent 𝓤 (held 𝓤 A R κ q b o γ h (sep 𝓤 Y₁ (sep 𝓤 X₂ Z))) (Post v))
-      → ent 𝓤 (held 𝓤 A R κ q b o γ h (sep 𝓤 X₁ (sep 𝓤 X₂ Z))) (WpFn 𝓤 H C Λ (thinFn lfts τB τA τN τ₂ τT f d z g₁ g₂ g₃ g₄ g₅ g₆) (vptr b o ∷ w₂ ∷ []) Post)
+      → ent 𝓤 Pre₁ (C g₁ (N .tval h ∷ w₂ ∷ []) Q₁) → ((r : S .Denot) → φ r → (y : ℕ) → χ r y → y ≡ 1 → ent 𝓤 (sem 𝓤 H A (R .own h (N .tval h ∷ []))) Pre₁)
+      → ((v : Val) → ent 𝓤 (Q₁ v) (H .⇛ (ex 𝓤 (λ (n : R .Denot). sep 𝓤 (sem 𝓤 H A (R .own n (v ∷ []))) (fact 𝓤 (ψ₁ n))))))
+      → ((r : S .Denot) → φ r → (y : ℕ) → χ r y → y ≡ 1 → (n : R .Denot) → ψ₁ n → (w : B .Denot) (v : Val) → Is B w (v ∷ []) → ω r w → ent 𝓤 (held 𝓤 A R κ q b o γ n (sep 𝓤 Y Z)) (Post v))
+      → ent 𝓤 Pre₂ (C g₂ (N .tval h ∷ w₂ ∷ []) Q₂) → ((r : S .Denot) → φ r → (y : ℕ) → χ r y → y ≡ 2 → ent 𝓤 (sem 𝓤 H A (R .own h (N .tval h ∷ []))) Pre₂)
+      → ((v : Val) → ent 𝓤 (Q₂ v) (H .⇛ (ex 𝓤 (λ (n : R .Denot). sep 𝓤 (sem 𝓤 H A (R .own n (v ∷ []))) (fact 𝓤 (ψ₂ n))))))
+      → ((r : S .Denot) → φ r → (y : ℕ) → χ r y → y ≡ 2 → (n : R .Denot) → ψ₂ n → (w : B .Denot) (v : Val) → Is B w (v ∷ []) → ω r w → ent 𝓤 (held 𝓤 A R κ q b o γ n (sep 𝓤 Y Z)) (Post v))
+      → ent 𝓤 Pre₃ (C g₃ (N .tval h ∷ w₂ ∷ []) Q₃) → ((r : S .Denot) → φ r → (y : ℕ) → χ r y → y ≡ 3 → ent 𝓤 (sem 𝓤 H A (R .own h (N .tval h ∷ []))) Pre₃)
+      → ((v : Val) → ent 𝓤 (Q₃ v) (H .⇛ (ex 𝓤 (λ (n : R .Denot). sep 𝓤 (sem 𝓤 H A (R .own n (v ∷ []))) (fact 𝓤 (ψ₃ n))))))
+      → ((r : S .Denot) → φ r → (y : ℕ) → χ r y → y ≡ 3 → (n : R .Denot) → ψ₃ n → (w : B .Denot) (v : Val) → Is B w (v ∷ []) → ω r w → ent 𝓤 (held 𝓤 A R κ q b o γ n (sep 𝓤 Y Z)) (Post v))
+      → ent 𝓤 Pre₄ (C g₄ (N .tval h ∷ w₂ ∷ []) Q₄) → ((r : S .Denot) → φ r → (y : ℕ) → χ r y → y ≡ 4 → ent 𝓤 (sem 𝓤 H A (R .own h (N .tval h ∷ []))) Pre₄)
+      → ((v : Val) → ent 𝓤 (Q₄ v) (H .⇛ (ex 𝓤 (λ (n : R .Denot). sep 𝓤 (sem 𝓤 H A (R .own n (v ∷ []))) (fact 𝓤 (ψ₄ n))))))
+      → ((r : S .Denot) → φ r → (y : ℕ) → χ r y → y ≡ 4 → (n : R .Denot) → ψ₄ n → (w : B .Denot) (v : Val) → Is B w (v ∷ []) → ω r w → ent 𝓤 (held 𝓤 A R κ q b o γ n (sep 𝓤 Y Z)) (Post v))
+      → ent 𝓤 Pre₅ (C g₅ (N .tval h ∷ w₂ ∷ []) Q₅) → ((r : S .Denot) → φ r → (y : ℕ) → χ r y → y ≡ 5 → ent 𝓤 (sem 𝓤 H A (R .own h (N .tval h ∷ []))) Pre₅)
+      → ((v : Val) → ent 𝓤 (Q₅ v) (H .⇛ (ex 𝓤 (λ (n : R .Denot). sep 𝓤 (sem 𝓤 H A (R .own n (v ∷ []))) (fact 𝓤 (ψ₅ n))))))
+      → ((r : S .Denot) → φ r → (y : ℕ) → χ r y → y ≡ 5 → (n : R .Denot) → ψ₅ n → (w : B .Denot) (v : Val) → Is B w (v ∷ []) → ω r w → ent 𝓤 (held 𝓤 A R κ q b o γ n (sep 𝓤 Y Z)) (Post v))
+      → ent 𝓤 Pre₆ (C g₆ (N .tval h ∷ w₂ ∷ []) Q₆) → ((r : S .Denot) → φ r → (y : ℕ) → χ r y → y ≡ 6 → ent 𝓤 (sem 𝓤 H A (R .own h (N .tval h ∷ []))) Pre₆)
+      → ((v : Val) → ent 𝓤 (Q₆ v) (H .⇛ (ex 𝓤 (λ (n : R .Denot). sep 𝓤 (sem 𝓤 H A (R .own n (v ∷ []))) (fact 𝓤 (ψ₆ n))))))
+      → ((r : S .Denot) → φ r → (y : ℕ) → χ r y → y ≡ 6 → (n : R .Denot) → ψ₆ n → (w : B .Denot) (v : Val) → Is B w (v ∷ []) → ω r w → ent 𝓤 (held 𝓤 A R κ q b o γ n (sep 𝓤 Y Z)) (Post v))
+      → ((r : S .Denot) → φ r → (y : ℕ) → χ r y → ((((((Unit {0}) × (y ≡ 1 → ⊥)) × (y ≡ 2 → ⊥)) × (y ≡ 3 → ⊥)) × (y ≡ 4 → ⊥)) × (y ≡ 5 → ⊥)) × (y ≡ 6 → ⊥) → (w : B .Denot) (v : Val) → Is B w (v ∷ []) → ω r w → ent 𝓤 (held 𝓤 A R κ q b o γ h (sep 𝓤 Y Z)) (Post v))
+      → ent 𝓤 (held 𝓤 A R κ q b o γ h (sep 𝓤 X Z)) (WpFn 𝓤 H C Λ (thinFn lfts τB τA τN τ₂ τT f d z g₁ g₂ g₃ g₄ g₅ g₆) (vptr b o ∷ w₂ ∷ []) Post)
   thin lfts C Λ fm f d z g₁ g₂ g₃ g₄ g₅ g₆ met goes comes met′ goes′ comes′ met″ goes″ comes″ met₁ goes₁ comes₁ exits₁ met₂ goes₂ comes₂ exits₂ met₃ goes₃ comes₃ exits₃ met₄ goes₄ comes₄ exits₄ met₅ goes₅ comes₅ exits₅ met₆ goes₆ comes₆ exits₆ stays =
-      qed W (‵ (fobs γ (R .coded .code h)) ∷ ‵ (fbor κ (Body (mem R) b o γ)) ∷ ‵ (flft κ q) ∷ raw X₁ ∷ raw X₂ ∷ raw Z ∷ []) ∵
+      qed W (‵ (fobs γ (R .coded .code h)) ∷ ‵ (fbor κ (Body (mem R) b o γ)) ∷ ‵ (flft κ q) ∷ raw X ∷ raw Z ∷ []) ∵
       enter ! C Λ (thinFn lfts τB τA τN τ₂ τT f d z g₁ g₂ g₃ g₄ g₅ g₆) (vptr b o ∷ w₂ ∷ []) _ $
       alloc1 ! (λ l₀. alloc1 ! (λ l₁. alloc1 ! (λ l₂. alloc1 ! (λ l₃. alloc1 ! (λ l₄. alloc1 ! (λ l₅. alloc1 ! (λ l₆. alloc1 ! (λ l₇. alloc1 ! (λ l₈. alloc1 ! (λ l₉. alloc1 ! (λ l₁₀. alloc1 ! (λ l₁₁. alloc1 ! (λ l₁₂. alloc1 ! (λ l₁₃. alloc1 ! (λ l₁₄. alloc1 ! (λ l₁₅. alloc1 ! (λ l₁₆. alloc1 ! (λ l₁₇. alloc0 ! $ params1 ! $ pass1 ! (init ! 32 refl (tt, tt)) $ pass1 ! (init ! 30 refl ok₂) $ pass0 ! $
       -- the borrow is opened, and the table copied
       move ! (36 ∷ 37 ∷ 38 ∷ []) $ opens ! tt R {h = h} b o (λ vs. spelt ! R (Is R) (shows 𝓤 H A R) (λ y. N .tval y ∷ []) (N .tells) fullShare h vs b o $
       use1 W (‵ (fat fullShare τT b o (N .tval h))) (N .out b o (N .tval h)) $ move ! (1 ∷ []) $ peeks ! R (Is R) (shows 𝓤 H A R) h (N .tval h ∷ []) (λ is-h. move ! (1 ∷ 0 ∷ []) $
-      -- [the table's cell; what it owns; the open borrow; obs; auth; the locals from the last to the first, two entries each; X₁; X₂; Z]
+      -- [the table's cell; what it owns; the open borrow; obs; auth; the locals from the last to the first, two entries each; X; Z]
       assigns ! (of-opd ! (load ! (from ! (hop ! (look ! 37 refl) (stop !))) (look ! 0 refl))) (from ! (stop !)) (init ! 31 refl (N .typed h (N .tval h) is-h)) $
       -- the judge
       move ! (1 ∷ 41 ∷ []) $ use2 W (raw Pre) goes $
       calls-from ! fm (raw Pre) (N .tval h ∷ w₂ ∷ []) Q met (and-then ! (load ! (from ! (stop !)) (look ! 31 refl)) (and-then ! (load ! (from ! (stop !)) (look ! 35 refl)) (no-more !))) (λ v.
-      use1 W (later (some (λ (r : S .Denot). (raw Y₁ ⊛ ‵ (S .own r (v ∷ []))) ⊛ raw (fact 𝓤 (φ r))))) (comes v) $ await ! tt $ pick ! (λ r. split ! $ move ! (1 ∷ []) $ heard ! (φ r) (λ e. split ! $ move ! (1 ∷ []) $ peeks ! S (Is S) (shows 𝓤 H A S) r (v ∷ []) (λ is.
-      -- [what the answer owns; Y₁; the table's cell; the open borrow; obs; auth; the locals; X₂; Z]
+      use1 W (later (some (λ (r : S .Denot). (raw Y ⊛ ‵ (S .own r (v ∷ []))) ⊛ raw (fact 𝓤 (φ r))))) (comes v) $ await ! tt $ pick ! (λ r. split ! $ move ! (1 ∷ []) $ heard ! (φ r) (λ e. split ! $ move ! (1 ∷ []) $ peeks ! S (Is S) (shows 𝓤 H A S) r (v ∷ []) (λ is.
+      -- [what the answer owns; Y; the table's cell; the open borrow; obs; auth; the locals; Z]
       land ! (from ! (stop !)) (init ! 34 refl (N .a-typed r v is)) $
       -- the router
       use1 W (raw (Pre′ r v)) (goes′ r v is) $ calls-from ! fm (raw (Pre′ r v)) (v ∷ []) (Q′ r v) (met′ r v) (and-then ! (load ! (from ! (stop !)) (look ! 34 refl)) (no-more !)) (λ u′.
       use1 W (later (some (λ (y : ℕ). ‵ (u64 .own y (u′ ∷ [])) ⊛ raw (fact 𝓤 (χ r y))))) (comes′ r v u′) $ await ! tt $ pick ! (λ y. split ! $ move ! (1 ∷ []) $ heard ! (χ r y) (λ c. peeks ! u64 (Is u64) (shows 𝓤 H A u64) y (u′ ∷ []) (λ is-y.
-      -- [what the number owns; Y₁; the table's cell; the open borrow; obs; auth; the locals; X₂; Z]
+      -- [what the number owns; Y; the table's cell; the open borrow; obs; auth; the locals; Z]
       land ! (from ! (stop !)) (init ! 30 refl (num-typed y u′ is-y)) $ rewrite ! 30 (λ (w : Val). ‵ (fat fullShare (tyInt w64) l₅ 0 w)) (ap only (is-y .0)) refl $
       drop ! $
-      -- [Y₁; the table's cell; the open borrow; obs; auth; the locals; X₂; Z]
+      -- [Y; the table's cell; the open borrow; obs; auth; the locals; Z]
       first ! $ switches ! (load ! (from ! (stop !)) (look ! 29 refl)) (
         (λ on.
             owned ! R (Is R) (N .makes) h (N .tval h ∷ []) is-h $
             assigns ! (of-opd ! (load ! (from ! (hop ! (look ! 38 refl) (stop !))) (look ! 2 refl))) (from ! (stop !)) (init ! 26 refl (N .typed h (N .tval h) is-h)) $
-            move ! (0 ∷ 1 ∷ 42 ∷ []) $ use3 W (raw Pre₁) (goes₁ r e y c on) $
-            calls-from ! fm (raw Pre₁) (N .tval h ∷ w₂ ∷ []) Q₁ met₁ (and-then ! (load ! (from ! (stop !)) (look ! 25 refl)) (and-then ! (load ! (from ! (stop !)) (look ! 35 refl)) (no-more !))) (λ u.
-            use1 W (later (some (λ (n : R .Denot). (raw Y₂ ⊛ ‵ (R .own n (u ∷ []))) ⊛ raw (fact 𝓤 (ψ₁ n))))) (comes₁ u) $ await ! tt $ pick ! (λ n. split ! $ move ! (1 ∷ []) $ heard ! (ψ₁ n) (λ e′. split ! $ move ! (1 ∷ []) $ peeks ! R (Is R) (shows 𝓤 H A R) n (u ∷ []) (λ is-n.
-            -- [what the table made owns; Y₂; the table's cell; the open borrow; obs; auth; the locals; Z]
+            use1 W (raw Pre₁) (goes₁ r e y c on) $
+            calls-from ! fm (raw Pre₁) (N .tval h ∷ w₂ ∷ []) Q₁ met₁ (and-then ! (load ! (from ! (stop !)) (look ! 26 refl)) (and-then ! (load ! (from ! (stop !)) (look ! 36 refl)) (no-more !))) (λ u.
+            use1 W (later (some (λ (n : R .Denot). ‵ (R .own n (u ∷ [])) ⊛ raw (fact 𝓤 (ψ₁ n))))) (comes₁ u) $ await ! tt $ pick ! (λ n. split ! $ move ! (1 ∷ []) $ heard ! (ψ₁ n) (λ e′. peeks ! R (Is R) (shows 𝓤 H A R) n (u ∷ []) (λ is-n.
+            -- [what the table made owns; Y; the table's cell; the open borrow; obs; auth; the locals; Z]
             land ! (from ! (stop !)) (init ! 28 refl (N .typed n u is-n)) $
             assigns-last ! (of-opd ! (load ! (from ! (stop !)) (look ! 28 refl))) (from ! (hop ! (look ! 38 refl) (stop !))) (store ! 2 refl (N .typed n u is-n)) $
             exec ! C Λ ((τB, l₀) ∷ (tyRef (named 0) mut τN, l₁) ∷ (τ₂, l₂) ∷ (τA, l₃) ∷ (τT, l₄) ∷ (tyInt w64, l₅) ∷ (τT, l₆) ∷ (τT, l₇) ∷ (τT, l₈) ∷ (τT, l₉) ∷ (τT, l₁₀) ∷ (τT, l₁₁) ∷ (τT, l₁₂) ∷ (τT, l₁₃) ∷ (τT, l₁₄) ∷ (τT, l₁₅) ∷ (τT, l₁₆) ∷ (τT, l₁₇) ∷ []) (last z) (atRet ((τB, l₀) ∷ (tyRef (named 0) mut τN, l₁) ∷ (τ₂, l₂) ∷ (τA, l₃) ∷ (τT, l₄) ∷ (tyInt w64, l₅) ∷ (τT, l₆) ∷ (τT, l₇) ∷ (τT, l₈) ∷ (τT, l₉) ∷ (τT, l₁₀) ∷ (τT, l₁₁) ∷ (τT, l₁₂) ∷ (τT, l₁₃) ∷ (τT, l₁₄) ∷ (τT, l₁₅) ∷ (τT, l₁₆) ∷ (τT, l₁₇) ∷ []) Post) $
@@ -151,10 +151,10 @@ module _ {M : Type 1} (𝓤 : URA M) (H : Heap 𝓤) (A : Atoms 𝓤) (W : Given
           (λ on.
               owned ! R (Is R) (N .makes) h (N .tval h ∷ []) is-h $
               assigns ! (of-opd ! (load ! (from ! (hop ! (look ! 38 refl) (stop !))) (look ! 2 refl))) (from ! (stop !)) (init ! 22 refl (N .typed h (N .tval h) is-h)) $
-              move ! (0 ∷ 1 ∷ 42 ∷ []) $ use3 W (raw Pre₂) (goes₂ r e y c on) $
-              calls-from ! fm (raw Pre₂) (N .tval h ∷ w₂ ∷ []) Q₂ met₂ (and-then ! (load ! (from ! (stop !)) (look ! 21 refl)) (and-then ! (load ! (from ! (stop !)) (look ! 35 refl)) (no-more !))) (λ u.
-              use1 W (later (some (λ (n : R .Denot). (raw Y₂ ⊛ ‵ (R .own n (u ∷ []))) ⊛ raw (fact 𝓤 (ψ₂ n))))) (comes₂ u) $ await ! tt $ pick ! (λ n. split ! $ move ! (1 ∷ []) $ heard ! (ψ₂ n) (λ e′. split ! $ move ! (1 ∷ []) $ peeks ! R (Is R) (shows 𝓤 H A R) n (u ∷ []) (λ is-n.
-              -- [what the table made owns; Y₂; the table's cell; the open borrow; obs; auth; the locals; Z]
+              use1 W (raw Pre₂) (goes₂ r e y c on) $
+              calls-from ! fm (raw Pre₂) (N .tval h ∷ w₂ ∷ []) Q₂ met₂ (and-then ! (load ! (from ! (stop !)) (look ! 22 refl)) (and-then ! (load ! (from ! (stop !)) (look ! 36 refl)) (no-more !))) (λ u.
+              use1 W (later (some (λ (n : R .Denot). ‵ (R .own n (u ∷ [])) ⊛ raw (fact 𝓤 (ψ₂ n))))) (comes₂ u) $ await ! tt $ pick ! (λ n. split ! $ move ! (1 ∷ []) $ heard ! (ψ₂ n) (λ e′. peeks ! R (Is R) (shows 𝓤 H A R) n (u ∷ []) (λ is-n.
+              -- [what the table made owns; Y; the table's cell; the open borrow; obs; auth; the locals; Z]
               land ! (from ! (stop !)) (init ! 24 refl (N .typed n u is-n)) $
               assigns-last ! (of-opd ! (load ! (from ! (stop !)) (look ! 24 refl))) (from ! (hop ! (look ! 38 refl) (stop !))) (store ! 2 refl (N .typed n u is-n)) $
               exec ! C Λ ((τB, l₀) ∷ (tyRef (named 0) mut τN, l₁) ∷ (τ₂, l₂) ∷ (τA, l₃) ∷ (τT, l₄) ∷ (tyInt w64, l₅) ∷ (τT, l₆) ∷ (τT, l₇) ∷ (τT, l₈) ∷ (τT, l₉) ∷ (τT, l₁₀) ∷ (τT, l₁₁) ∷ (τT, l₁₂) ∷ (τT, l₁₃) ∷ (τT, l₁₄) ∷ (τT, l₁₅) ∷ (τT, l₁₆) ∷ (τT, l₁₇) ∷ []) (last z) (atRet ((τB, l₀) ∷ (tyRef (named 0) mut τN, l₁) ∷ (τ₂, l₂) ∷ (τA, l₃) ∷ (τT, l₄) ∷ (tyInt w64, l₅) ∷ (τT, l₆) ∷ (τT, l₇) ∷ (τT, l₈) ∷ (τT, l₉) ∷ (τT, l₁₀) ∷ (τT, l₁₁) ∷ (τT, l₁₂) ∷ (τT, l₁₃) ∷ (τT, l₁₄) ∷ (τT, l₁₅) ∷ (τT, l₁₆) ∷ (τT, l₁₇) ∷ []) Post) $
@@ -169,10 +169,10 @@ module _ {M : Type 1} (𝓤 : URA M) (H : Heap 𝓤) (A : Atoms 𝓤) (W : Given
             (λ on.
                 owned ! R (Is R) (N .makes) h (N .tval h ∷ []) is-h $
                 assigns ! (of-opd ! (load ! (from ! (hop ! (look ! 38 refl) (stop !))) (look ! 2 refl))) (from ! (stop !)) (init ! 18 refl (N .typed h (N .tval h) is-h)) $
-                move ! (0 ∷ 1 ∷ 42 ∷ []) $ use3 W (raw Pre₃) (goes₃ r e y c on) $
-                calls-from ! fm (raw Pre₃) (N .tval h ∷ w₂ ∷ []) Q₃ met₃ (and-then ! (load ! (from ! (stop !)) (look ! 17 refl)) (and-then ! (load ! (from ! (stop !)) (look ! 35 refl)) (no-more !))) (λ u.
-                use1 W (later (some (λ (n : R .Denot). (raw Y₂ ⊛ ‵ (R .own n (u ∷ []))) ⊛ raw (fact 𝓤 (ψ₃ n))))) (comes₃ u) $ await ! tt $ pick ! (λ n. split ! $ move ! (1 ∷ []) $ heard ! (ψ₃ n) (λ e′. split ! $ move ! (1 ∷ []) $ peeks ! R (Is R) (shows 𝓤 H A R) n (u ∷ []) (λ is-n.
-                -- [what the table made owns; Y₂; the table's cell; the open borrow; obs; auth; the locals; Z]
+                use1 W (raw Pre₃) (goes₃ r e y c on) $
+                calls-from ! fm (raw Pre₃) (N .tval h ∷ w₂ ∷ []) Q₃ met₃ (and-then ! (load ! (from ! (stop !)) (look ! 18 refl)) (and-then ! (load ! (from ! (stop !)) (look ! 36 refl)) (no-more !))) (λ u.
+                use1 W (later (some (λ (n : R .Denot). ‵ (R .own n (u ∷ [])) ⊛ raw (fact 𝓤 (ψ₃ n))))) (comes₃ u) $ await ! tt $ pick ! (λ n. split ! $ move ! (1 ∷ []) $ heard ! (ψ₃ n) (λ e′. peeks ! R (Is R) (shows 𝓤 H A R) n (u ∷ []) (λ is-n.
+                -- [what the table made owns; Y; the table's cell; the open borrow; obs; auth; the locals; Z]
                 land ! (from ! (stop !)) (init ! 20 refl (N .typed n u is-n)) $
                 assigns-last ! (of-opd ! (load ! (from ! (stop !)) (look ! 20 refl))) (from ! (hop ! (look ! 38 refl) (stop !))) (store ! 2 refl (N .typed n u is-n)) $
                 exec ! C Λ ((τB, l₀) ∷ (tyRef (named 0) mut τN, l₁) ∷ (τ₂, l₂) ∷ (τA, l₃) ∷ (τT, l₄) ∷ (tyInt w64, l₅) ∷ (τT, l₆) ∷ (τT, l₇) ∷ (τT, l₈) ∷ (τT, l₉) ∷ (τT, l₁₀) ∷ (τT, l₁₁) ∷ (τT, l₁₂) ∷ (τT, l₁₃) ∷ (τT, l₁₄) ∷ (τT, l₁₅) ∷ (τT, l₁₆) ∷ (τT, l₁₇) ∷ []) (last z) (atRet ((τB, l₀) ∷ (tyRef (named 0) mut τN, l₁) ∷ (τ₂, l₂) ∷ (τA, l₃) ∷ (τT, l₄) ∷ (tyInt w64, l₅) ∷ (τT, l₆) ∷ (τT, l₇) ∷ (τT, l₈) ∷ (τT, l₉) ∷ (τT, l₁₀) ∷ (τT, l₁₁) ∷ (τT, l₁₂) ∷ (τT, l₁₃) ∷ (τT, l₁₄) ∷ (τT, l₁₅) ∷ (τT, l₁₆) ∷ (τT, l₁₇) ∷ []) Post) $
@@ -187,10 +187,10 @@ module _ {M : Type 1} (𝓤 : URA M) (H : Heap 𝓤) (A : Atoms 𝓤) (W : Given
               (λ on.
                   owned ! R (Is R) (N .makes) h (N .tval h ∷ []) is-h $
                   assigns ! (of-opd ! (load ! (from ! (hop ! (look ! 38 refl) (stop !))) (look ! 2 refl))) (from ! (stop !)) (init ! 14 refl (N .typed h (N .tval h) is-h)) $
-                  move ! (0 ∷ 1 ∷ 42 ∷ []) $ use3 W (raw Pre₄) (goes₄ r e y c on) $
-                  calls-from ! fm (raw Pre₄) (N .tval h ∷ w₂ ∷ []) Q₄ met₄ (and-then ! (load ! (from ! (stop !)) (look ! 13 refl)) (and-then ! (load ! (from ! (stop !)) (look ! 35 refl)) (no-more !))) (λ u.
-                  use1 W (later (some (λ (n : R .Denot). (raw Y₂ ⊛ ‵ (R .own n (u ∷ []))) ⊛ raw (fact 𝓤 (ψ₄ n))))) (comes₄ u) $ await ! tt $ pick ! (λ n. split ! $ move ! (1 ∷ []) $ heard ! (ψ₄ n) (λ e′. split ! $ move ! (1 ∷ []) $ peeks ! R (Is R) (shows 𝓤 H A R) n (u ∷ []) (λ is-n.
-                  -- [what the table made owns; Y₂; the table's cell; the open borrow; obs; auth; the locals; Z]
+                  use1 W (raw Pre₄) (goes₄ r e y c on) $
+                  calls-from ! fm (raw Pre₄) (N .tval h ∷ w₂ ∷ []) Q₄ met₄ (and-then ! (load ! (from ! (stop !)) (look ! 14 refl)) (and-then ! (load ! (from ! (stop !)) (look ! 36 refl)) (no-more !))) (λ u.
+                  use1 W (later (some (λ (n : R .Denot). ‵ (R .own n (u ∷ [])) ⊛ raw (fact 𝓤 (ψ₄ n))))) (comes₄ u) $ await ! tt $ pick ! (λ n. split ! $ move ! (1 ∷ []) $ heard ! (ψ₄ n) (λ e′. peeks ! R (Is R) (shows 𝓤 H A R) n (u ∷ []) (λ is-n.
+                  -- [what the table made owns; Y; the table's cell; the open borrow; obs; auth; the locals; Z]
                   land ! (from ! (stop !)) (init ! 16 refl (N .typed n u is-n)) $
                   assigns-last ! (of-opd ! (load ! (from ! (stop !)) (look ! 16 refl))) (from ! (hop ! (look ! 38 refl) (stop !))) (store ! 2 refl (N .typed n u is-n)) $
                   exec ! C Λ ((τB, l₀) ∷ (tyRef (named 0) mut τN, l₁) ∷ (τ₂, l₂) ∷ (τA, l₃) ∷ (τT, l₄) ∷ (tyInt w64, l₅) ∷ (τT, l₆) ∷ (τT, l₇) ∷ (τT, l₈) ∷ (τT, l₉) ∷ (τT, l₁₀) ∷ (τT, l₁₁) ∷ (τT, l₁₂) ∷ (τT, l₁₃) ∷ (τT, l₁₄) ∷ (τT, l₁₅) ∷ (τT, l₁₆) ∷ (τT, l₁₇) ∷ []) (last z) (atRet ((τB, l₀) ∷ (tyRef (named 0) mut τN, l₁) ∷ (τ₂, l₂) ∷ (τA, l₃) ∷ (τT, l₄) ∷ (tyInt w64, l₅) ∷ (τT, l₆) ∷ (τT, l₇) ∷ (τT, l₈) ∷ (τT, l₉) ∷ (τT, l₁₀) ∷ (τT, l₁₁) ∷ (τT, l₁₂) ∷ (τT, l₁₃) ∷ (τT, l₁₄) ∷ (τT, l₁₅) ∷ (τT, l₁₆) ∷ (τT, l₁₇) ∷ []) Post) $
@@ -205,10 +205,10 @@ module _ {M : Type 1} (𝓤 : URA M) (H : Heap 𝓤) (A : Atoms 𝓤) (W : Given
                 (λ on.
                     owned ! R (Is R) (N .makes) h (N .tval h ∷ []) is-h $
                     assigns ! (of-opd ! (load ! (from ! (hop ! (look ! 38 refl) (stop !))) (look ! 2 refl))) (from ! (stop !)) (init ! 10 refl (N .typed h (N .tval h) is-h)) $
-                    move ! (0 ∷ 1 ∷ 42 ∷ []) $ use3 W (raw Pre₅) (goes₅ r e y c on) $
-                    calls-from ! fm (raw Pre₅) (N .tval h ∷ w₂ ∷ []) Q₅ met₅ (and-then ! (load ! (from ! (stop !)) (look ! 9 refl)) (and-then ! (load ! (from ! (stop !)) (look ! 35 refl)) (no-more !))) (λ u.
-                    use1 W (later (some (λ (n : R .Denot). (raw Y₂ ⊛ ‵ (R .own n (u ∷ []))) ⊛ raw (fact 𝓤 (ψ₅ n))))) (comes₅ u) $ await ! tt $ pick ! (λ n. split ! $ move ! (1 ∷ []) $ heard ! (ψ₅ n) (λ e′. split ! $ move ! (1 ∷ []) $ peeks ! R (Is R) (shows 𝓤 H A R) n (u ∷ []) (λ is-n.
-                    -- [what the table made owns; Y₂; the table's cell; the open borrow; obs; auth; the locals; Z]
+                    use1 W (raw Pre₅) (goes₅ r e y c on) $
+                    calls-from ! fm (raw Pre₅) (N .tval h ∷ w₂ ∷ []) Q₅ met₅ (and-then ! (load ! (from ! (stop !)) (look ! 10 refl)) (and-then ! (load ! (from ! (stop !)) (look ! 36 refl)) (no-more !))) (λ u.
+                    use1 W (later (some (λ (n : R .Denot). ‵ (R .own n (u ∷ [])) ⊛ raw (fact 𝓤 (ψ₅ n))))) (comes₅ u) $ await ! tt $ pick ! (λ n. split ! $ move ! (1 ∷ []) $ heard ! (ψ₅ n) (λ e′. peeks ! R (Is R) (shows 𝓤 H A R) n (u ∷ []) (λ is-n.
+                    -- [what the table made owns; Y; the table's cell; the open borrow; obs; auth; the locals; Z]
                     land ! (from ! (stop !)) (init ! 12 refl (N .typed n u is-n)) $
                     assigns-last ! (of-opd ! (load ! (from ! (stop !)) (look ! 12 refl))) (from ! (hop ! (look ! 38 refl) (stop !))) (store ! 2 refl (N .typed n u is-n)) $
                     exec ! C Λ ((τB, l₀) ∷ (tyRef (named 0) mut τN, l₁) ∷ (τ₂, l₂) ∷ (τA, l₃) ∷ (τT, l₄) ∷ (tyInt w64, l₅) ∷ (τT, l₆) ∷ (τT, l₇) ∷ (τT, l₈) ∷ (τT, l₉) ∷ (τT, l₁₀) ∷ (τT, l₁₁) ∷ (τT, l₁₂) ∷ (τT, l₁₃) ∷ (τT, l₁₄) ∷ (τT, l₁₅) ∷ (τT, l₁₆) ∷ (τT, l₁₇) ∷ []) (last z) (atRet ((τB, l₀) ∷ (tyRef (named 0) mut τN, l₁) ∷ (τ₂, l₂) ∷ (τA, l₃) ∷ (τT, l₄) ∷ (tyInt w64, l₅) ∷ (τT, l₆) ∷ (τT, l₇) ∷ (τT, l₈) ∷ (τT, l₉) ∷ (τT, l₁₀) ∷ (τT, l₁₁) ∷ (τT, l₁₂) ∷ (τT, l₁₃) ∷ (τT, l₁₄) ∷ (τT, l₁₅) ∷ (τT, l₁₆) ∷ (τT, l₁₇) ∷ []) Post) $
@@ -223,10 +223,10 @@ module _ {M : Type 1} (𝓤 : URA M) (H : Heap 𝓤) (A : Atoms 𝓤) (W : Given
                   (λ on.
                       owned ! R (Is R) (N .makes) h (N .tval h ∷ []) is-h $
                       assigns ! (of-opd ! (load ! (from ! (hop ! (look ! 38 refl) (stop !))) (look ! 2 refl))) (from ! (stop !)) (init ! 6 refl (N .typed h (N .tval h) is-h)) $
-                      move ! (0 ∷ 1 ∷ 42 ∷ []) $ use3 W (raw Pre₆) (goes₆ r e y c on) $
-                      calls-from ! fm (raw Pre₆) (N .tval h ∷ w₂ ∷ []) Q₆ met₆ (and-then ! (load ! (from ! (stop !)) (look ! 5 refl)) (and-then ! (load ! (from ! (stop !)) (look ! 35 refl)) (no-more !))) (λ u.
-                      use1 W (later (some (λ (n : R .Denot). (raw Y₂ ⊛ ‵ (R .own n (u ∷ []))) ⊛ raw (fact 𝓤 (ψ₆ n))))) (comes₆ u) $ await ! tt $ pick ! (λ n. split ! $ move ! (1 ∷ []) $ heard ! (ψ₆ n) (λ e′. split ! $ move ! (1 ∷ []) $ peeks ! R (Is R) (shows 𝓤 H A R) n (u ∷ []) (λ is-n.
-                      -- [what the table made owns; Y₂; the table's cell; the open borrow; obs; auth; the locals; Z]
+                      use1 W (raw Pre₆) (goes₆ r e y c on) $
+                      calls-from ! fm (raw Pre₆) (N .tval h ∷ w₂ ∷ []) Q₆ met₆ (and-then ! (load ! (from ! (stop !)) (look ! 6 refl)) (and-then ! (load ! (from ! (stop !)) (look ! 36 refl)) (no-more !))) (λ u.
+                      use1 W (later (some (λ (n : R .Denot). ‵ (R .own n (u ∷ [])) ⊛ raw (fact 𝓤 (ψ₆ n))))) (comes₆ u) $ await ! tt $ pick ! (λ n. split ! $ move ! (1 ∷ []) $ heard ! (ψ₆ n) (λ e′. peeks ! R (Is R) (shows 𝓤 H A R) n (u ∷ []) (λ is-n.
+                      -- [what the table made owns; Y; the table's cell; the open borrow; obs; auth; the locals; Z]
                       land ! (from ! (stop !)) (init ! 8 refl (N .typed n u is-n)) $
                       assigns-last ! (of-opd ! (load ! (from ! (stop !)) (look ! 8 refl))) (from ! (hop ! (look ! 38 refl) (stop !))) (store ! 2 refl (N .typed n u is-n)) $
                       exec ! C Λ ((τB, l₀) ∷ (tyRef (named 0) mut τN, l₁) ∷ (τ₂, l₂) ∷ (τA, l₃) ∷ (τT, l₄) ∷ (tyInt w64, l₅) ∷ (τT, l₆) ∷ (τT, l₇) ∷ (τT, l₈) ∷ (τT, l₉) ∷ (τT, l₁₀) ∷ (τT, l₁₁) ∷ (τT, l₁₂) ∷ (τT, l₁₃) ∷ (τT, l₁₄) ∷ (τT, l₁₅) ∷ (τT, l₁₆) ∷ (τT, l₁₇) ∷ []) (last z) (atRet ((τB, l₀) ∷ (tyRef (named 0) mut τN, l₁) ∷ (τ₂, l₂) ∷ (τA, l₃) ∷ (τT, l₄) ∷ (tyInt w64, l₅) ∷ (τT, l₆) ∷ (τT, l₇) ∷ (τT, l₈) ∷ (τT, l₉) ∷ (τT, l₁₀) ∷ (τT, l₁₁) ∷ (τT, l₁₂) ∷ (τT, l₁₃) ∷ (τT, l₁₄) ∷ (τT, l₁₅) ∷ (τT, l₁₆) ∷ (τT, l₁₇) ∷ []) Post) $

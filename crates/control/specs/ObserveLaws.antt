@@ -31,7 +31,7 @@ use Rattle.control.specs.Judgement.Addition.{addsJoint, addsLearner, add
 use Rattle.control.specs.Judgement.Verdict.{refused, kept, moves}
 use Rattle.control.specs.Observation.{Sight, allRising, eqIds, eqSets, isHeldNodeId, isRising, memberIds, observeMembership, representableSets, see, splitSets, total}
 use Rattle.control.specs.Observation.Sight.{newJoint, newLearner, newUniform, nothingNew, strange}
-use Rattle.control.specs.ObserveSight.{Room, Supplied, answerOfObserved, confirmed, fewMembers, isChange, judgeClosed, judgeKnown, judgeSeen, judgeSets, routeOfObserved, weighed}
+use Rattle.control.specs.ObserveSight.{Room, Supplied, answerOfObserved, confirmed, entryWeighed, fewMembers, isChange, judgeClosed, judgeKnown, judgeSeen, judgeSets, routeOfObserved, weighed}
 use Rattle.control.specs.SettleLaws.{observes}
 
 -- ---- validity, where something is new
@@ -134,6 +134,16 @@ module _ (t : VoterSlotTable) (ids counts nodes : List ℕ) (cut : VoterSlotLogI
       ∙ (ap (λ (a : Answer). carried (added t cut) t (confirmed (isAccepted a) (weighed t ids counts nodes cut))) (p .1)
       ∙ ap (carried (added t cut) t) (confirmed-true (weighed t ids counts nodes cut)))
 
+  -- the verdict of the entry point, carried out, is the entry point
+  pub observes-entry : observeMembership t ids counts nodes cut ≡ carried (added t cut) t (entryWeighed t ids counts nodes cut)
+  unfolding carried
+  observes-entry = go (representable t) refl
+    where
+      go : (b : Bool) → representable t ≡ b
+          → observeMembership t ids counts nodes cut ≡ carried (added t cut) t (cond b (confirmed (isAccepted (validity t)) (weighed t ids counts nodes cut)) (refused Unrepresentable))
+      go true h = observes-as h
+      go false h = observes-not h
+
 -- ---- what a change knows
 
 changes : (b : Bool) (x y : Verdict Addition) → isChange y ≡ false → isChange (cond b x y) ≡ true → (b ≡ true) × (isChange x ≡ true)
@@ -171,6 +181,12 @@ module _ (t : VoterSlotTable) (ids counts nodes : List ℕ) (cut : VoterSlotLogI
         eqb-false (t .revision) full (room .0),
         (leb-true (t .count) 9 (and-left (leb (t .count) 9) _ (and-left (fewMembers t) (representableSets ids counts nodes) (fits .0))), ltb-true (targetIndex t) (t .count) (there .0)),
       )
+
+  -- and so of the entry point's verdict
+  pub entry-room : isChange (entryWeighed t ids counts nodes cut) ≡ true → Room t
+  entry-room h =
+      let v = isAccepted (validity t) in
+      weighed-room (confirmed-change v (weighed t ids counts nodes cut) (changes (representable t) (confirmed v (weighed t ids counts nodes cut)) (refused Unrepresentable) refl h .1))
 
 -- ---- what the code's tests tell
 

@@ -8,6 +8,7 @@ use mathlib.Core.List.{List, _∷_, []}
 use lib.Dec.{eqb, leb, ltb}
 use lib.ListN.{length}
 use Rattle.identity.specs.Identity.{fromNodeId}
+use Rattle.identity.specs.Answer.{isAccepted}
 use Rattle.identity.specs.Text.{every}
 use Rattle.identity.specs.declared.answer.Answer.{Answer}
 use Rattle.identity.specs.declared.answer.Answer.the-variants.{Accepted, InvalidTransition, NotRising, RevisionExhausted, Unrepresentable}
@@ -15,6 +16,8 @@ use Rattle.records.specs.declared.records.VoterReplacementRecord.{VoterReplacem
 use Rattle.records.specs.declared.records.VoterSlotLogId.{VoterSlotLogId}
 use Rattle.records.specs.declared.records.VoterSlotTable.{VoterSlotTable}
 use Rattle.records.specs.Records.{joint, learnerAdded, snapshotInstalled, uniform}
+use Rattle.records.specs.Representable.{representable}
+use Rattle.records.specs.Validation.{validity}
 use Rattle.control.specs.declared.observe.Observed.{Observed}
 use Rattle.control.specs.declared.observe.Observed.the-variants.{Refuse, Keep, AddLearner, AddJoint, AddUniform}
 use Rattle.control.specs.declared.observe.Seen.{Seen}
@@ -152,6 +155,11 @@ unfoldable pub confirmed : Bool → Verdict Addition → Verdict Addition
 confirmed valid (refused answer) = refused answer
 confirmed valid kept = kept
 confirmed valid (moves m) = cond valid (moves m) (refused InvalidTransition)
+
+-- the verdict of the entry point: 30 of the table, and its validity where something is new
+abbrev pub entryWeighed : VoterSlotTable → (ids counts nodes : List ℕ) → VoterSlotLogId → Verdict Addition
+entryWeighed t ids counts nodes cut =
+    cond (representable t) (confirmed (isAccepted (validity t)) (weighed t ids counts nodes cut)) (refused Unrepresentable)
 
 -- something is made; what its maker asks for
 abbrev pub isChange : Verdict Addition → Bool

@@ -32,7 +32,7 @@ use Rattle.control.specs.Judgement.Move.{begins, recordsSnapshot, record
 use Rattle.control.specs.OpenLaws.{opened}
 use Rattle.records.specs.RepresentableLaws.{representable-count}
 use Rattle.control.specs.declared.control.VoterAdvance.{VoterAdvance}
-use Rattle.control.specs.Verdicts.{advanceIn, advanceOf, answerOf, appliedOf, checkedOf, judgeOf, paired, routeOf, stepMade}
+use Rattle.control.specs.Verdicts.{advanceIn, advanceOf, answerOf, appliedOf, checkedOf, entryVerdict, judgeOf, paired, routeOf, stepMade}
 
 -- ---- what is made
 
@@ -279,3 +279,20 @@ module _ (t : VoterSlotTable) (c : VoterSlotControl) (cut : VoterSlotLogId) wher
   entry-valid h =
       let e = head-passed (representable t && representableControl c) (isAccepted (validity t) && validLogId cut) h in
       valid-joined t (and-left (representable t) _ (e .0)) (is-accepted _ (and-left (isAccepted (validity t)) _ (e .1)))
+
+  -- the verdict of the entry point, carried out, is the entry point
+  pub entry-carried : carried (made t c cut) t (entryVerdict t c cut) ≡ applyControl t c cut
+  unfolding carried
+  entry-carried = go (isAccepted (checkedOf t c cut)) refl
+    where
+      go : (b : Bool) → isAccepted (checkedOf t c cut) ≡ b → carried (made t c cut) t (cond b (judge t c cut) (refused (checkedOf t c cut))) ≡ applyControl t c cut
+      go true h = entry-passed h
+      go false h = entry-refused h
+
+  -- it makes a table where the command's does, of a table that its tests found valid
+  pub entry-moves : (m : Move) → entryVerdict t c cut ≡ moves m → (validate t ≡ Accepted) × (judge t c cut ≡ moves m)
+  entry-moves m = go (isAccepted (checkedOf t c cut)) refl
+    where
+      go : (b : Bool) → isAccepted (checkedOf t c cut) ≡ b → cond b (judge t c cut) (refused (checkedOf t c cut)) ≡ moves m → (validate t ≡ Accepted) × (judge t c cut ≡ moves m)
+      go true h e = (entry-valid h, e)
+      go false h e = absurd (false≢true (ap isMove e))

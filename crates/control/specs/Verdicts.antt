@@ -89,3 +89,7 @@ appliedOf t c cut = carried (made t c cut) t (judge t c cut)
 unfoldable pub checkedOf : VoterSlotTable → VoterSlotControl → VoterSlotLogId → Answer
 checkedOf t c cut =
     cond (representable t && representableControl c) (cond (isAccepted (validity t) && validLogId cut) Accepted InvalidTransition) Unrepresentable
+
+-- the verdict of the entry point: its tests, and then the command's
+abbrev pub entryVerdict : VoterSlotTable → VoterSlotControl → VoterSlotLogId → Verdict Move
+entryVerdict t c cut = cond (isAccepted (checkedOf t c cut)) (judge t c cut) (refused (checkedOf t c cut))

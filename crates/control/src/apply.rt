@@ -10,7 +10,7 @@ ghost use Rattle.identity.specs.declared.answer.Answer.the-variants.{Accepted};
 ghost use Rattle.records.specs.Validation.{validate};
 ghost use Rattle.control.specs.Control.{applyControl};
 ghost use Rattle.control.specs.Judgement.{judgeMarker};
-ghost use Rattle.control.specs.Verdicts.{advanceOf, answerOf, appliedOf, checkedOf, paired};
+ghost use Rattle.control.specs.Verdicts.{advanceOf, answerOf, appliedOf, checkedOf, entryVerdict, paired, verdictOf};
 use crate::begin::begin;
 use crate::command::advance_of;
 use crate::command::begin_of;
@@ -29,6 +29,7 @@ use crate::control::VoterCommand;
 use crate::control::VoterSlotControl;
 use crate::judge::Judged;
 use crate::judge::answer_of;
+use crate::judge::either;
 use crate::judge::judge_advance;
 use crate::judge::route;
 use crate::make::catch_up_table;
@@ -82,6 +83,47 @@ fn checked(t: VoterSlotTable, c: VoterSlotControl, cut: VoterSlotLogId) -> Answe
         return Answer::InvalidTransition;
     }
     Answer::Accepted
+}
+
+// `apply_control` on a table that is lent: any table, any command and any cut.
+pub fn apply_control_in_place(t: &mut VoterSlotTable, c: VoterCommand) -> Answer
+    ensures { λ b. ⌜ (b, now (t .exit)) ≡ applyControl (now (t .entry)) (c .control) (c .cut) ⌝ }
+{
+    let judged = judge_entry(*t, c);
+    match route(judged) {
+        1 => {
+            *t = make_snapshot(*t, c);
+        }
+        2 => {
+            *t = make_caught_up(*t, c);
+        }
+        3 => {
+            *t = make_continuation(*t, c);
+        }
+        4 => {
+            *t = make_fence(*t, c);
+        }
+        5 => {
+            *t = make_finalize(*t, c);
+        }
+        6 => {
+            *t = make_begin(*t, c);
+        }
+        _ => {}
+    }
+    answer_of(judged)
+}
+
+// The verdict of the entry point. The command is judged in any case: judges have no requirements.
+pub fn judge_entry(t: VoterSlotTable, c: VoterCommand) -> Judged
+    ensures { λ r. ⌜ verdictOf r ≡ entryVerdict t (c .control) (c .cut) ⌝ }
+{
+    let control = c.control;
+    let cut = c.cut;
+    let answer = checked(t, control, cut);
+    let judged = judge_command(t, c);
+    let passed = accepted(answer);
+    either(passed, judged, Judged::Refuse(answer))
 }
 
 // A command on a table that is known to be valid, by value. The caller has tested that the cut has no

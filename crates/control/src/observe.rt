@@ -8,17 +8,20 @@ ghost use Prim.Native.Nat.{_+_, _<_, _≤_};
 ghost use mathlib.Core.Path.{_≡_};
 ghost use mathlib.Core.Bool.{cond, false, true};
 ghost use lib.Dec.{eqb};
-ghost use lib.ListN.{length};
+ghost use lib.ListN.{length, set};
 ghost use Rattle.identity.specs.Answer.{isAccepted};
 ghost use Rattle.identity.specs.declared.answer.Answer.the-variants.{Accepted, InvalidTransition, RevisionExhausted};
 ghost use Rattle.identity.specs.declared.identity.VoterSlotIdentityResult.the-variants.{Ok};
+ghost use Rattle.records.specs.Records.{slotAt};
+ghost use Rattle.records.specs.Successor.{slotIndex};
 ghost use Rattle.records.specs.Validation.{validate, validity};
+ghost use Rattle.records.specs.With.{inPhase, tableWith};
 ghost use Rattle.control.specs.Control.{full, targetIndex, targetSlot};
 ghost use Rattle.control.specs.Judgement.{added, carried, jointTest, learnerTest, uniformTest};
 ghost use Rattle.control.specs.Judgement.Addition.{addsJoint, addsLearner, addsUniform};
 ghost use Rattle.control.specs.Judgement.Verdict.{refused};
 ghost use Rattle.control.specs.Observation.{isObsolete, memberIndex, observeMembership, see, seePhase, splitSets, total};
-ghost use Rattle.control.specs.ObserveSight.{Room, Supplied, answerOfObserved, confirmed, fewMembers, isChange, judgeClosed, judgeKnown, judgeMembers, judgeSeen, judgeSets, lingersAs, routeOfObserved, seenBy, seenOf, seenOld, sightOf, testsOf, verdictOfObserved, weighed};
+ghost use Rattle.control.specs.ObserveSight.{Room, Supplied, answerOfObserved, confirmed, entryWeighed, fewMembers, isChange, judgeClosed, judgeKnown, judgeMembers, judgeSeen, judgeSets, lingersAs, routeOfObserved, seenBy, seenOf, seenOld, sightOf, testsOf, verdictOfObserved, weighed};
 use crate::apply::Controlled;
 use crate::sets::NO_ID;
 use crate::sets::add_up;
@@ -53,7 +56,6 @@ use records::records::VoterConfiguration;
 use records::records::VoterSlotLogId;
 use records::records::VoterSlotTable;
 use records::representable::is_representable;
-use records::successor::slot_index;
 use records::validation::target_phase;
 use records::validation::validate_representable;
 
@@ -73,12 +75,6 @@ pub enum Observed {
     AddLearner,
     AddJoint,
     AddUniform,
-}
-
-// A verdict with the cut at which the observation is committed: what the makers and the thin call take.
-pub struct VoterObservation {
-    pub judged: Observed,
-    pub cut: VoterSlotLogId,
 }
 
 // The tests of the sets and the nodes.
@@ -316,6 +312,59 @@ fn is_uniform_cut(t: VoterSlotTable, cut: VoterSlotLogId) -> bool
     log_id_follows(cut, joint, false)
 }
 
+// ---- the slot being replaced
+//
+// All nine places are passed, and the place is compared in each turn: such a loop is written out by the
+// compiler, with a constant index in each turn. An index that is no constant has the table copied.
+
+// `slot_index`, with the places passed from the last to the first.
+fn slot_place(t: VoterSlotTable, slot: u16) -> usize
+    requires { ⌜ t .count ≤ 9 ⌝ }
+    ensures { λ r. ⌜ r ≡ slotIndex t slot ⌝ }
+{
+    let mut at: usize = 9;
+    let mut i: usize = 9;
+    while 0 < i {
+        i -= 1;
+        if (t.count <= i) | (t.slots[i].member.identity.slot == slot) {
+            at = i;
+        }
+    }
+    at
+}
+
+fn phase_at(t: VoterSlotTable, at: usize) -> u8
+    requires { ⌜ at < 9 ⌝ }
+    ensures { λ r. ⌜ r ≡ slotAt t at .phase ⌝ }
+{
+    let mut phase = 0;
+    let mut i: usize = 0;
+    while i < 9 {
+        if i == at {
+            phase = t.slots[i].phase;
+        }
+        i += 1;
+    }
+    phase
+}
+
+fn with_phase(t: VoterSlotTable, at: usize, phase: u8) -> VoterSlotTable
+    requires { ⌜ at < 9 ⌝ }
+    ensures { λ r. ⌜ r ≡ tableWith t (t .revision) (t .«configuration_epoch») (set (t .slots) at (inPhase (slotAt t at) phase)) (t .«has_replacement») (t .replacement) ⌝ }
+{
+    let mut u = t;
+    let mut i: usize = 0;
+    while i < 9 {
+        if i == at {
+            u.slots[i].phase = phase;
+        }
+        i += 1;
+    }
+    u
+}
+
+// ---- the judgement of what is seen
+
 // What is seen of a table that is known to be valid, whose slot being replaced is in this phase.
 fn judge_known(t: VoterSlotTable, phase: u8, seen: Seen, cut: VoterSlotLogId) -> Observed
     requires { ⌜ targetSlot t .phase ≡ phase ⌝ }
@@ -338,11 +387,11 @@ fn judge_seen(t: VoterSlotTable, seen: Seen, cut: VoterSlotLogId) -> Observed
     ensures { λ r. ⌜ verdictOfObserved r ≡ judgeSeen t (sightOf seen) cut ⌝ }
 {
     let slot = t.replacement.attestation.slot;
-    let at = slot_index(t, slot);
+    let at = slot_place(t, slot);
     if t.count <= at {
         return Observed::Refuse(Answer::InvalidTransition);
     }
-    let phase = t.slots[at].phase;
+    let phase = phase_at(t, at);
     judge_known(t, phase, seen, cut)
 }
 
@@ -459,68 +508,64 @@ pub fn route(judged: Observed) -> u64
 // ---- the next table
 
 // The membership with the learner.
-pub fn learner_table(t: VoterSlotTable, o: VoterObservation) -> VoterSlotTable
+pub fn learner_table(t: VoterSlotTable, cut: VoterSlotLogId) -> VoterSlotTable
     requires { ⌜ (t .revision ≡ full → ⊥) × ((t .count ≤ 9) × (targetIndex t < t .count)) ⌝ }
-    ensures { λ r. ⌜ r ≡ added t (o .cut) addsLearner ⌝ }
+    ensures { λ r. ⌜ r ≡ added t cut addsLearner ⌝ }
 {
     let mut u = t;
     let slot = t.replacement.attestation.slot;
-    let at = slot_index(t, slot);
+    let at = slot_place(t, slot);
     u.replacement.evidence.learner.is_some = true;
-    u.replacement.evidence.learner.cut.term = o.cut.term;
-    u.replacement.evidence.learner.cut.index = o.cut.index;
+    u.replacement.evidence.learner.cut.term = cut.term;
+    u.replacement.evidence.learner.cut.index = cut.index;
     u.replacement.phase = LEARNER_ADDED;
-    u.slots[at].phase = CATCHING_UP;
     u.has_replacement = true;
     u.revision = t.revision + 1;
-    u
+    with_phase(u, at, CATCHING_UP)
 }
 
 // The joint membership.
-pub fn joint_table(t: VoterSlotTable, o: VoterObservation) -> VoterSlotTable
+pub fn joint_table(t: VoterSlotTable, cut: VoterSlotLogId) -> VoterSlotTable
     requires { ⌜ (t .revision ≡ full → ⊥) × ((t .count ≤ 9) × (targetIndex t < t .count)) ⌝ }
-    ensures { λ r. ⌜ r ≡ added t (o .cut) addsJoint ⌝ }
+    ensures { λ r. ⌜ r ≡ added t cut addsJoint ⌝ }
 {
     let mut u = t;
     let slot = t.replacement.attestation.slot;
-    let at = slot_index(t, slot);
+    let at = slot_place(t, slot);
     u.replacement.evidence.joint.is_some = true;
-    u.replacement.evidence.joint.cut.term = o.cut.term;
-    u.replacement.evidence.joint.cut.index = o.cut.index;
+    u.replacement.evidence.joint.cut.term = cut.term;
+    u.replacement.evidence.joint.cut.index = cut.index;
     u.replacement.phase = JOINT;
-    u.slots[at].phase = VOTING;
     u.has_replacement = true;
     u.revision = t.revision + 1;
-    u
+    with_phase(u, at, VOTING)
 }
 
 // The successor's membership.
-pub fn uniform_table(t: VoterSlotTable, o: VoterObservation) -> VoterSlotTable
+pub fn uniform_table(t: VoterSlotTable, cut: VoterSlotLogId) -> VoterSlotTable
     requires { ⌜ (t .revision ≡ full → ⊥) × ((t .count ≤ 9) × (targetIndex t < t .count)) ⌝ }
-    ensures { λ r. ⌜ r ≡ added t (o .cut) addsUniform ⌝ }
+    ensures { λ r. ⌜ r ≡ added t cut addsUniform ⌝ }
 {
     let mut u = t;
     let slot = t.replacement.attestation.slot;
-    let at = slot_index(t, slot);
+    let at = slot_place(t, slot);
     u.replacement.evidence.uniform.is_some = true;
-    u.replacement.evidence.uniform.cut.term = o.cut.term;
-    u.replacement.evidence.uniform.cut.index = o.cut.index;
+    u.replacement.evidence.uniform.cut.term = cut.term;
+    u.replacement.evidence.uniform.cut.index = cut.index;
     u.replacement.phase = UNIFORM;
-    u.slots[at].phase = VOTING;
     u.configuration_epoch = t.replacement.successor.epoch;
     u.has_replacement = true;
     u.revision = t.revision + 1;
-    u
+    with_phase(u, at, VOTING)
 }
 
 // ---- the calls
 
 // A verdict carried out, by value.
-fn carry_out(t: VoterSlotTable, o: VoterObservation) -> Controlled
-    requires { ⌜ (isChange (verdictOfObserved (o .judged)) ≡ true → Room t) ⌝ }
-    ensures { λ r. ⌜ (r .answer, r .table) ≡ carried (added t (o .cut)) t (verdictOfObserved (o .judged)) ⌝ }
+fn carry_out(t: VoterSlotTable, judged: Observed, cut: VoterSlotLogId) -> Controlled
+    requires { ⌜ (isChange (verdictOfObserved judged) ≡ true → Room t) ⌝ }
+    ensures { λ r. ⌜ (r .answer, r .table) ≡ carried (added t cut) t (verdictOfObserved judged) ⌝ }
 {
-    let judged = o.judged;
     match judged {
         Observed::Refuse(answer) => Controlled { answer, table: t },
         Observed::Keep => Controlled {
@@ -529,15 +574,15 @@ fn carry_out(t: VoterSlotTable, o: VoterObservation) -> Controlled
         },
         Observed::AddLearner => Controlled {
             answer: Answer::Accepted,
-            table: learner_table(t, o),
+            table: learner_table(t, cut),
         },
         Observed::AddJoint => Controlled {
             answer: Answer::Accepted,
-            table: joint_table(t, o),
+            table: joint_table(t, cut),
         },
         Observed::AddUniform => Controlled {
             answer: Answer::Accepted,
-            table: uniform_table(t, o),
+            table: uniform_table(t, cut),
         },
     }
 }
@@ -554,8 +599,7 @@ pub fn observe_valid(
     ensures { λ r. ⌜ (r .answer, r .table) ≡ observeMembership t (now (sets .entry)) (now (counts .entry)) (now (nodes .entry)) cut ⌝ }
 {
     let judged = weigh(t, sets, counts, nodes, cut);
-    let o = VoterObservation { judged, cut };
-    carry_out(t, o)
+    carry_out(t, judged, cut)
 }
 
 // `VoterSlotTable::observe_membership`.
@@ -568,45 +612,76 @@ pub fn observe_membership(
 ) -> Controlled
     ensures { λ r. ⌜ (r .answer, r .table) ≡ observeMembership t (now (sets .entry)) (now (counts .entry)) (now (nodes .entry)) cut ⌝ }
 {
-    if !is_representable(t) {
-        return Controlled {
-            answer: Answer::Unrepresentable,
-            table: t,
-        };
-    }
-    let judged = weigh(t, sets, counts, nodes, cut);
-    let checked = confirm(t, judged);
-    let o = VoterObservation {
-        judged: checked,
-        cut,
-    };
-    carry_out(t, o)
+    let judged = weigh_entry(t, sets, counts, nodes, cut);
+    carry_out(t, judged, cut)
 }
 
-// A verdict carried out on the table that is lent, of which it was judged.
-pub fn observe_in_place(t: &mut VoterSlotTable, o: VoterObservation) -> Answer
-    requires { ⌜ (isChange (verdictOfObserved (o .judged)) ≡ true → Room (now t)) ⌝ }
-    ensures { λ v. ⌜ (v, now (t .exit)) ≡ carried (added (now (t .entry)) (o .cut)) (now (t .entry)) (verdictOfObserved (o .judged)) ⌝ }
+// The verdict of the entry point: 30 of the table, and its validity where something is new.
+pub fn weigh_entry(
+    t: VoterSlotTable,
+    sets: &[u64],
+    counts: &[usize],
+    nodes: &[u64],
+    cut: VoterSlotLogId,
+) -> Observed
+    ensures { λ r. ⌜ verdictOfObserved r ≡ entryWeighed t (now (sets .entry)) (now (counts .entry)) (now (nodes .entry)) cut ⌝ }
 {
-    let judged = judged_of(*t, o);
+    if !is_representable(t) {
+        return Observed::Refuse(Answer::Unrepresentable);
+    }
+    let judged = weigh(t, sets, counts, nodes, cut);
+    confirm(t, judged)
+}
+
+// `observe_membership` on a table that is lent: any table, any sets, any nodes and any cut.
+pub fn observe_membership_in_place(
+    t: &mut VoterSlotTable,
+    sets: &[u64],
+    counts: &[usize],
+    nodes: &[u64],
+    cut: VoterSlotLogId,
+) -> Answer
+    ensures { λ b. ⌜ (b, now (t .exit)) ≡ observeMembership (now (t .entry)) (now (sets .entry)) (now (counts .entry)) (now (nodes .entry)) cut ⌝ }
+{
+    let judged = weigh_entry(*t, sets, counts, nodes, cut);
     match route(judged) {
         1 => {
-            *t = learner_table(*t, o);
+            *t = learner_table(*t, cut);
         }
         2 => {
-            *t = joint_table(*t, o);
+            *t = joint_table(*t, cut);
         }
         3 => {
-            *t = uniform_table(*t, o);
+            *t = uniform_table(*t, cut);
         }
         _ => {}
     }
     answer_of(judged)
 }
 
-fn judged_of(t: VoterSlotTable, o: VoterObservation) -> Observed
-    ensures { λ r. ⌜ verdictOfObserved r ≡ verdictOfObserved (o .judged) ⌝ }
+// An observation of a table that is lent and known to be valid.
+pub fn observe_in_place(
+    t: &mut VoterSlotTable,
+    sets: &[u64],
+    counts: &[usize],
+    nodes: &[u64],
+    cut: VoterSlotLogId,
+) -> Answer
+    requires { ⌜ validate (now t) ≡ Accepted ⌝ }
+    ensures { λ v. ⌜ (v, now (t .exit)) ≡ observeMembership (now (t .entry)) (now (sets .entry)) (now (counts .entry)) (now (nodes .entry)) cut ⌝ }
 {
-    let judged = o.judged;
-    judged
+    let judged = weigh(*t, sets, counts, nodes, cut);
+    match route(judged) {
+        1 => {
+            *t = learner_table(*t, cut);
+        }
+        2 => {
+            *t = joint_table(*t, cut);
+        }
+        3 => {
+            *t = uniform_table(*t, cut);
+        }
+        _ => {}
+    }
+    answer_of(judged)
 }

@@ -1,7 +1,8 @@
 -- `control::observe::joint_table` meets its contract: the place of the slot is that of the definition. Assumes nothing.
-use mathlib.Core.Path.{ap}
+use mathlib.Core.Path.{ap, _∙_}
 use mathlib.Core.Bool.{true}
 use Prim.Native.Nat.{ℕ, _+_, _-_}
+use native.Mathlib.Omega.{arith}
 use lib.ListN.{set}
 use borrow.Author.Needs.{needs}
 use Rattle.records.specs.Records.{slotAt, voting}
@@ -11,8 +12,8 @@ use Rattle.control.specs.Observation.{jointSeen}
 use Rattle.control.proofs.observe.joint_table.Statement.{statement}
 use Rattle.control.proofs.observe.joint_table.Tie as tie
 
-slot-index-requires : tie.Need-slot-index-requires
-slot-index-requires c κs = c .pre .1 .0
+slot-place-requires : tie.Need-slot-place-requires
+slot-place-requires c κs = search needs
 
 way-write-given-u : tie.Need-way-write-given-u
 way-write-given-u c = search needs
@@ -23,31 +24,27 @@ way-write-given-u-2 c = search needs
 way-write-given-u-3 : tie.Need-way-write-given-u-3
 way-write-given-u-3 c = search needs
 
-mul-u : tie.Need-mul-u
-mul-u c = search needs
-
-way-write-given-u-4 : tie.Need-way-write-given-u-4
-way-write-given-u-4 c = search needs
-
 add-u : tie.Need-add-u
 add-u c = search needs
+
+with-phase-requires : tie.Need-with-phase-requires
+with-phase-requires c κs = search needs
 
 returns : tie.Need-returns
 unfolding added
 returns c =
-    let t = c .before .before .before .before .before .before .before .args .t in
-    let cut = c .before .before .before .before .before .before .before .args .o .cut in
-    ap (λ (k : ℕ). tableWith t (t .revision + 1) (t .«configuration_epoch») (set (t .slots) k (inPhase (slotAt t k) voting)) true (jointSeen (t .replacement) cut)) (c .before .before .before .before .before .before .slot-index .ensures)
+    let a = c .before .before .before .before .before .before .before .args in
+    c .with-phase .ensures
+    ∙ ap (λ (k : ℕ). tableWith (a .t) (a .t .revision + 1) (a .t .«configuration_epoch») (set (a .t .slots) k (inPhase (slotAt (a .t) k) voting)) true (jointSeen (a .t .replacement) (a .cut))) (c .before .before .before .before .before .before .slot-place .ensures)
 
 pub joint-table-spec : {M : Type 1} → statement M
 joint-table-spec =
     tie.close
     (tie.spec
-    slot-index-requires
+    slot-place-requires
     way-write-given-u
     way-write-given-u-2
     way-write-given-u-3
-    mul-u
-    way-write-given-u-4
     add-u
+    with-phase-requires
     returns)
