@@ -29,11 +29,9 @@ pub mod OpenLaws
 pub mod PlacesLaws
 pub mod Quorum
 pub mod QuorumLaws
-pub mod QuorumRows
 pub mod RefusedLaws
 pub mod Retired
 pub mod RetiredLaws
-pub mod Rows
 pub mod SetLaws
 pub mod SettleLaws
 pub mod SightLaws

@@ -9,9 +9,9 @@
 --     (`near`, `meet-next`).
 --   * The nodes that count and are not retired are a quorum by themselves: the vote of the node being replaced is never needed, and may always be refused (`enough`).
 --   * Where the later of two such quorums has no retired node, they share a node that is retired at neither place (`live`).
--- What it does not say, since it is not so (`quorum-rows` of QuorumRows, on three slots with node 1 being replaced by 65,537):
---   * That two quorums share a node that is not retired, where votes of the node being replaced are taken: in Fenced {1, 2} and {1, 3} are quorums, and node 1 is retired.
---   * That any two quorums share a node: {1, 2} in Fenced and {3, 65,537} in Uniform do not. Neither is a quorum in Joint, which lies between.
+-- What it does not say, since it is not so (`quorumRows` of the table in crates/cases, on three slots with node 2 being replaced by 65,538):
+--   * That two quorums share a node that is not retired, where votes of the node being replaced are taken: in Fenced {1, 2} and {2, 3} are quorums, and node 2 is retired.
+--   * That any two quorums share a node: {1, 2} in Fenced and {3, 65,538} in Uniform do not. Neither is a quorum in Joint, which lies between.
 --
 -- It is about the configurations that the tables of one line show, and not about the engine. A table follows the membership entries that were APPLIED, while an engine may
 -- count by the last one APPENDED: between the two it may count by a configuration that no table shows yet. What the engine does then, that its voters are otherwise those of
