@@ -15,6 +15,8 @@ use identity::identity::VoterSlotIdentity;
 use identity::identity::is_configuration_epoch;
 use identity::identity::validate_slot_id;
 use identity::identity::validate_voter_incarnation;
+use identity::text::MAX_VOTER_SNAPSHOT_ID_BYTES;
+use identity::text::MAX_VOTER_SPIFFE_ID_BYTES;
 use identity::text::is_utf8;
 use layout::get::read_sized;
 use layout::get::read_u8;
@@ -252,7 +254,7 @@ pub fn read_times(bytes: &[u8]) -> TimesRead
 pub fn read_spiffe_id(bytes: &[u8]) -> SpiffeIdRead
     ensures { λ r. ⌜ (report (r .answer), r .value) ≡ outcome blankSpiffeId (spiffeId .dec (now (bytes .entry))) ⌝ }
 {
-    let size = read_sized(bytes, 2048);
+    let size = read_sized(bytes, MAX_VOTER_SPIFFE_ID_BYTES);
     let SizedRead::Read(len, at) = size else {
         return refused_spiffe_id(why_sized(size));
     };
@@ -273,7 +275,7 @@ pub fn read_spiffe_id(bytes: &[u8]) -> SpiffeIdRead
 pub fn read_snapshot_id(bytes: &[u8]) -> SnapshotIdRead
     ensures { λ r. ⌜ (report (r .answer), r .value) ≡ outcome blankSnapshotId (snapshotId .dec (now (bytes .entry))) ⌝ }
 {
-    let size = read_sized(bytes, 256);
+    let size = read_sized(bytes, MAX_VOTER_SNAPSHOT_ID_BYTES);
     let SizedRead::Read(len, at) = size else {
         return refused_snapshot_id(why_sized(size));
     };
