@@ -27,7 +27,7 @@ use Rattle.codec.specs.Codec.{decodeVoterSlotTable, tableBytes, encodeVoterSlot
 use Rattle.records.specs.Successor.{resultSucceeds, slotSucceeds, requestSucceeds, ownReceipt, requestEnded, endedSucceeds, replacementSucceeds, headSucceeds, succession, validateSuccessorOf}
 use Rattle.control.specs.Control.{settle, representableStep, representableControl, currentConfiguration, validRequest, requestCheck, isOpenRequest, receiptIndex, knownDigest, repeated, openCheck, isExpected, isCurrent, candidateCheck, fullCheck, beginCheck, begunSlot, begunOperation, begin, recordSnapshot, recordCaughtUp, recordContinuation, fence, finalizedSlot, finalize, isCompleted, takeStep, advanceOpen, advance, marker, decide, applyControl}
 use Rattle.control.specs.Blank.{blankConsensusIdentity, blankVoterReplacementRequest, blankVoterReplacementStep, sameConsensusIdentity, sameVoterReplacementRequest, sameVoterReplacementStep}
-use Rattle.control.specs.Observation.{isRising, allRising, insert, contains, union, difference, splitSets, total, representableSets, memberIdsBelow, isObsolete, mayLinger, seePredecessor, seeSets, seeFrom, observed, observe, observeMembership}
+use Rattle.control.specs.Observation.{isRising, allRising, insertId, contains, unionIds, difference, splitSets, total, representableSets, memberIdsBelow, isObsolete, mayLinger, seePredecessor, seeSets, seeFrom, observed, observe, observeMembership}
 use Rattle.control.specs.Retired.{isRetiredIdentity, retiredTest}
 use Rattle.control.specs.Quorum.{countsIn, among, isMajority, isQuorum}
 use Rattle.cases.specs.Row.{Row, Every, every as every-row}
@@ -124,5 +124,5 @@ rows =
 -- ---- the theorem
 
 pub cases : Every rows
-unfolding validateVoterIncarnation validateVoterSlotIdentity newVoterSlotIdentity nodeId fromNodeId isIn startsWith isName fits widthIn decoded charsFrom allChars eqList allTrue sameVoterSlotIdentity sameSpiffeId sameSnapshotId sameVoterSlotLogId sameOptionalLogId sameVoterSlotMember sameVoterReplacementResult sameVoterSlotRecord sameVoterSnapshotEvidence sameVoterConfiguration sameLostVoterAttestationV1 sameVoterReplacementEvidence sameVoterReplacementRecord blankVoterSlotIdentity blankSpiffeId blankSnapshotId blankVoterSlotLogId blankOptionalLogId blankVoterSlotMember blankVoterReplacementResult blankVoterSlotRecord blankVoterSnapshotEvidence blankVoterConfiguration blankLostVoterAttestationV1 blankVoterReplacementEvidence blankVoterReplacementRecord allBelow representableMember representableResult representableSlotRecord representable follows validResult validSlot validSlots validity validate validateSlotId decodeVoterSlotTable bounded andThen whole pick gate answered tableBytes encodeVoterSlotTable restarted restartOutcome be encVec table magicAndVersion headTest via check dep raw decSeq decCheck decMap decRaw uint held decUint val tableHead epoch slotCount slots slot slotMember identity slotId incarnation binding choice result opt either always flag flagTest padded vec decVec isUtf8 isSnapshotId every blankVoterSlotTable sameVoterSlotTable firstFrom validStage stageOr validStages validBeside validContinuation validEvidence retainsCut retainsMarker retainsCuts retains laterOf latest isText representableOptionalLogId representableConfiguration representableAttestation representableEvidence representableReplacement validConfiguration validAttestation validOperationHead isCurrentEpoch validOperation retiredMember validTarget validateMember validateMembers validateOperation resultSucceeds slotSucceeds requestSucceeds ownReceipt requestEnded endedSucceeds replacementSucceeds headSucceeds succession validateSuccessorOf settle blankConsensusIdentity blankVoterReplacementRequest blankVoterReplacementStep sameConsensusIdentity sameVoterReplacementRequest sameVoterReplacementStep representableStep representableControl currentConfiguration validRequest requestCheck isOpenRequest receiptIndex knownDigest repeated openCheck isExpected isCurrent candidateCheck fullCheck beginCheck begunSlot begunOperation begin recordSnapshot recordCaughtUp recordContinuation fence finalizedSlot finalize isCompleted takeStep advanceOpen advance marker decide applyControl isRising allRising insert contains union difference splitSets total representableSets memberIdsBelow isObsolete mayLinger seePredecessor seeSets seeFrom observed observe observeMembership isRetiredIdentity retiredTest countsIn among isMajority isQuorum
+unfolding validateVoterIncarnation validateVoterSlotIdentity newVoterSlotIdentity nodeId fromNodeId isIn startsWith isName fits widthIn decoded charsFrom allChars eqList allTrue sameVoterSlotIdentity sameSpiffeId sameSnapshotId sameVoterSlotLogId sameOptionalLogId sameVoterSlotMember sameVoterReplacementResult sameVoterSlotRecord sameVoterSnapshotEvidence sameVoterConfiguration sameLostVoterAttestationV1 sameVoterReplacementEvidence sameVoterReplacementRecord blankVoterSlotIdentity blankSpiffeId blankSnapshotId blankVoterSlotLogId blankOptionalLogId blankVoterSlotMember blankVoterReplacementResult blankVoterSlotRecord blankVoterSnapshotEvidence blankVoterConfiguration blankLostVoterAttestationV1 blankVoterReplacementEvidence blankVoterReplacementRecord allBelow representableMember representableResult representableSlotRecord representable follows validResult validSlot validSlots validity validate validateSlotId decodeVoterSlotTable bounded andThen whole pick gate answered tableBytes encodeVoterSlotTable restarted restartOutcome be encVec table magicAndVersion headTest via check dep raw decSeq decCheck decMap decRaw uint held decUint val tableHead epoch slotCount slots slot slotMember identity slotId incarnation binding choice result opt either always flag flagTest padded vec decVec isUtf8 isSnapshotId every blankVoterSlotTable sameVoterSlotTable firstFrom validStage stageOr validStages validBeside validContinuation validEvidence retainsCut retainsMarker retainsCuts retains laterOf latest isText representableOptionalLogId representableConfiguration representableAttestation representableEvidence representableReplacement validConfiguration validAttestation validOperationHead isCurrentEpoch validOperation retiredMember validTarget validateMember validateMembers validateOperation resultSucceeds slotSucceeds requestSucceeds ownReceipt requestEnded endedSucceeds replacementSucceeds headSucceeds succession validateSuccessorOf settle blankConsensusIdentity blankVoterReplacementRequest blankVoterReplacementStep sameConsensusIdentity sameVoterReplacementRequest sameVoterReplacementStep representableStep representableControl currentConfiguration validRequest requestCheck isOpenRequest receiptIndex knownDigest repeated openCheck isExpected isCurrent candidateCheck fullCheck beginCheck begunSlot begunOperation begin recordSnapshot recordCaughtUp recordContinuation fence finalizedSlot finalize isCompleted takeStep advanceOpen advance marker decide applyControl isRising allRising insertId contains unionIds difference splitSets total representableSets memberIdsBelow isObsolete mayLinger seePredecessor seeSets seeFrom observed observe observeMembership isRetiredIdentity retiredTest countsIn among isMajority isQuorum
 cases = every-row rows tt

@@ -49,9 +49,9 @@ allRising [] = true
 allRising (s ∷ sets) = isRising s && allRising sets
 
 -- an id put into a set
-unfoldable pub insert : ℕ → List ℕ → List ℕ
-insert x [] = x ∷ []
-insert x (y ∷ l) = cond (ltb x y) (x ∷ (y ∷ l)) (cond (eqb x y) (y ∷ l) (y ∷ insert x l))
+unfoldable pub insertId : ℕ → List ℕ → List ℕ
+insertId x [] = x ∷ []
+insertId x (y ∷ l) = cond (ltb x y) (x ∷ (y ∷ l)) (cond (eqb x y) (y ∷ l) (y ∷ insertId x l))
 
 -- an id is in a set
 unfoldable pub contains : ℕ → List ℕ → Bool
@@ -59,9 +59,9 @@ contains x [] = false
 contains x (y ∷ l) = eqb x y || contains x l
 
 -- the ids of both
-unfoldable pub union : List ℕ → List ℕ → List ℕ
-union [] b = b
-union (x ∷ a) b = insert x (union a b)
+unfoldable pub unionIds : List ℕ → List ℕ → List ℕ
+unionIds [] b = b
+unionIds (x ∷ a) b = insertId x (unionIds a b)
 
 -- the ids of the first that the second has not
 unfoldable pub difference : List ℕ → List ℕ → List ℕ
@@ -101,7 +101,7 @@ memberNode m = valueOfNumber (nodeId (m .identity))
 -- the nodes of the members before a place, as a set
 unfoldable pub memberIdsBelow : VoterConfiguration → ℕ → List ℕ
 memberIdsBelow c zero = []
-memberIdsBelow c (suc n) = insert (memberNode (memberAt c n)) (memberIdsBelow c n)
+memberIdsBelow c (suc n) = insertId (memberNode (memberAt c n)) (memberIdsBelow c n)
 
 -- those of a configuration
 abbrev pub memberIds : VoterConfiguration → List ℕ
@@ -146,7 +146,7 @@ newIds op = difference (memberIds (op .successor)) (memberIds (op .predecessor))
 unfoldable pub seePredecessor : VoterReplacementRecord → ℕ → List ℕ → Sight
 seePredecessor op candidate nodes =
     let old = memberIds (op .predecessor) in
-    let both = union old (memberIds (op .successor)) in
+    let both = unionIds old (memberIds (op .successor)) in
     cond
     (ltb (op .phase) joint
     && isSubset old nodes
@@ -167,7 +167,7 @@ seeSets op candidate sets nodes =
     let old = memberIds (op .predecessor) in
     let new = memberIds (op .successor) in
     cond (eqSets sets (old ∷ [])) (seePredecessor op candidate nodes)
-    (cond (eqSets sets (old ∷ (new ∷ [])) && eqIds nodes (union old new)) (seePhase (op .phase) joint newJoint)
+    (cond (eqSets sets (old ∷ (new ∷ [])) && eqIds nodes (unionIds old new)) (seePhase (op .phase) joint newJoint)
     (cond (eqSets sets (new ∷ []) && eqIds nodes new) (seePhase (op .phase) uniform newUniform) strange))
 
 -- the candidate is the least id of the successor that is not the predecessor's; 25 where there is none

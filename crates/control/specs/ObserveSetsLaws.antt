@@ -13,7 +13,7 @@ use lib.Seq.{take-suc, take-suc-set, drop-cons, drop-drop}
 use borrow.Author.Tests.{eqb-true, eqb-false, eq-eqb, ne-eqb, leb-true, leb-false}
 use Rattle.records.specs.declared.records.VoterConfiguration.{VoterConfiguration}
 use Rattle.records.specs.Records.{memberAt}
-use Rattle.control.specs.Observation.{allRising, contains, difference, isRising, memberNode, splitSets, total, union}
+use Rattle.control.specs.Observation.{allRising, contains, difference, isRising, memberNode, splitSets, total, unionIds}
 use Rattle.control.specs.ObserveSets.{firstOf, leastNew, listed}
 use Rattle.control.specs.SetLaws.{contains-union}
 
@@ -91,11 +91,11 @@ sets-end ids (x ∷ l) (suc i) h = sets-end ids l i (omega arith)
 module _ (s old new : List ℕ) (i : ℕ) (h : i < length s) where
   -- an element that one of them has is passed
   pub outside-passed : (contains (getD s i 0) old || contains (getD s i 0) new) ≡ true
-      → firstOf (difference (drop i s) (union old new)) ≡ firstOf (difference (drop (i + 1) s) (union old new))
+      → firstOf (difference (drop i s) (unionIds old new)) ≡ firstOf (difference (drop (i + 1) s) (unionIds old new))
   unfolding difference
   outside-passed e = rw (add-one, drop-cons s i 0 h, contains-union (getD s i 0) old new, e)
 
-  pub outside-found : (contains (getD s i 0) old || contains (getD s i 0) new) ≡ false → firstOf (difference (drop i s) (union old new)) ≡ getD s i 0
+  pub outside-found : (contains (getD s i 0) old || contains (getD s i 0) new) ≡ false → firstOf (difference (drop i s) (unionIds old new)) ≡ getD s i 0
   unfolding difference firstOf
   outside-found e = rw (drop-cons s i 0 h, contains-union (getD s i 0) old new, e)
 

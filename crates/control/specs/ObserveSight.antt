@@ -27,7 +27,7 @@ use Rattle.control.specs.Control.{currentConfiguration, full, targetInde
 use Rattle.control.specs.Judgement.{Addition, Verdict, jointTest, learnerTest, phaseFits, uniformTest}
 use Rattle.control.specs.Judgement.Addition.{addsLearner, addsJoint, addsUniform}
 use Rattle.control.specs.Judgement.Verdict.{refused, kept, moves}
-use Rattle.control.specs.Observation.{Sight, allRising, contains, difference, eqIds, eqSets, isHeldNodeId, isObsolete, isRising, isSubset, memberIds, representableSets, see, seePhase, splitSets, total, union}
+use Rattle.control.specs.Observation.{Sight, allRising, contains, difference, eqIds, eqSets, isHeldNodeId, isObsolete, isRising, isSubset, memberIds, representableSets, see, seePhase, splitSets, total, unionIds}
 use Rattle.control.specs.Observation.Sight.{newJoint, newLearner, newUniform, nothingNew, strange}
 use Rattle.control.specs.ObserveSets.{areTwoSets, firstOf, isOneSet, leastNew, noId, sameIds}
 
@@ -98,7 +98,7 @@ lingersAs op node = eqb node noId || isObsolete op (fromNodeId node)
 -- the whole, where `old` and `new` are the ids of the members of the predecessor and of the successor
 abbrev pub seenOf : VoterReplacementRecord → (old new ids counts nodes : List ℕ) → Sight
 seenOf op old new ids counts nodes =
-    let outside = firstOf (difference nodes (union old new)) in
+    let outside = firstOf (difference nodes (unionIds old new)) in
     seenBy (op .phase) (testsOf (op .phase) old new ids counts nodes (eqb outside noId) (lingersAs op outside))
 
 -- ---- what the tests of the sets ask for

@@ -25,7 +25,7 @@ use Rattle.records.specs.EqualityLaws.{eqBytes-true}
 use Rattle.records.specs.Records.{joint, memberAt, uniform}
 use Rattle.records.specs.TestLaws.{cond-false, cond-true, either-way}
 use Rattle.control.specs.Control.{currentConfiguration}
-use Rattle.control.specs.Observation.{Sight, allRising, contains, difference, eqIds, eqSets, insert, isHeldNodeId, isObsolete, isRising, isSubset, mayLinger, memberIds, memberIdsBelow, memberNode, newIds, see, seeFrom, seePhase, seePredecessor, seeSets, splitSets, total, union}
+use Rattle.control.specs.Observation.{Sight, allRising, contains, difference, eqIds, eqSets, insertId, isHeldNodeId, isObsolete, isRising, isSubset, mayLinger, memberIds, memberIdsBelow, memberNode, newIds, see, seeFrom, seePhase, seePredecessor, seeSets, splitSets, total, unionIds}
 use Rattle.control.specs.Observation.Sight.{newJoint, newUniform, strange}
 use Rattle.control.specs.ObserveSets.{areTwoSets, firstOf, isOneSet, leastNew, listed, noId, sameIds, slotMembers}
 use Rattle.control.specs.ObserveSetsLaws.{contains-append}
@@ -120,8 +120,8 @@ subset-left a b c s = by (isSubset a c) refl (isSubset b c) refl
 pub ids-are : (s set l : List ℕ) → isRising s ≡ true → isRising set ≡ true → Same l set → eqIds s set ≡ sameIds s l
 ids-are s set l p q h = sets-equal s set p q ∙ (λ i. sym (subset-right s l set h) i && sym (subset-left l set s h) i)
 
-subset-insert : (x : ℕ) (l s : List ℕ) → isSubset (insert x l) s ≡ (contains x s && isSubset l s)
-unfolding insert every
+subset-insert : (x : ℕ) (l s : List ℕ) → isSubset (insertId x l) s ≡ (contains x s && isSubset l s)
+unfolding insertId every
 subset-insert x [] s = refl
 subset-insert x (y ∷ l) s = by (ltb x y) refl (eqb x y) refl (subset-insert x l s)
   where
@@ -133,18 +133,18 @@ subset-insert x (y ∷ l) s = by (ltb x y) refl (eqb x y) refl (subset-insert x 
     swap true b c = refl
     swap false b c = sym (and-false b)
 
-    by : (lt : Bool) → ltb x y ≡ lt → (eq : Bool) → eqb x y ≡ eq → isSubset (insert x l) s ≡ (contains x s && isSubset l s)
-        → isSubset (cond lt (x ∷ (y ∷ l)) (cond eq (y ∷ l) (y ∷ insert x l))) s ≡ (contains x s && (contains y s && isSubset l s))
+    by : (lt : Bool) → ltb x y ≡ lt → (eq : Bool) → eqb x y ≡ eq → isSubset (insertId x l) s ≡ (contains x s && isSubset l s)
+        → isSubset (cond lt (x ∷ (y ∷ l)) (cond eq (y ∷ l) (y ∷ insertId x l))) s ≡ (contains x s && (contains y s && isSubset l s))
     by true e eq f ih = refl
     by false e true f ih =
         self (contains y s) (isSubset l s) ∙ ap (λ (z : ℕ). contains z s && (contains y s && isSubset l s)) (sym (eqb-true x y f))
     by false e false f ih = ap (λ (b : Bool). contains y s && b) ih ∙ swap (contains y s) (contains x s) (isSubset l s)
 
-subset-union : (a b s : List ℕ) → isSubset (union a b) s ≡ (isSubset a s && isSubset b s)
-unfolding union every
+subset-union : (a b s : List ℕ) → isSubset (unionIds a b) s ≡ (isSubset a s && isSubset b s)
+unfolding unionIds every
 subset-union [] b s = refl
 subset-union (x ∷ a) b s =
-    subset-insert x (union a b) s
+    subset-insert x (unionIds a b) s
     ∙ (ap (λ (t : Bool). contains x s && t) (subset-union a b s) ∙ sym (and-assoc (contains x s) (isSubset a s) (isSubset b s)))
 
 difference-same : (a b c : List ℕ) → Same b c → difference a b ≡ difference a c
@@ -339,7 +339,7 @@ module _ (old : List ℕ) where
 
 -- ---- the sight of an open request
 
-both-same : (a b c d : List ℕ) → Same a b → Same c d → Same (union a c) (union b d)
+both-same : (a b c d : List ℕ) → Same a b → Same c d → Same (unionIds a c) (unionIds b d)
 both-same a b c d h k x = contains-union x a c ∙ ((λ i. h x i || k x i) ∙ sym (contains-union x b d))
 
 module _ (op : VoterReplacementRecord) (ids counts nodes : List ℕ) (s : Supplied ids counts nodes) where
@@ -350,7 +350,7 @@ module _ (op : VoterReplacementRecord) (ids counts nodes : List ℕ) (s : Suppli
   news = listed (op .successor) (op .successor .count)
 
   abbrev outside : ℕ
-  outside = firstOf (difference nodes (union olds news))
+  outside = firstOf (difference nodes (unionIds olds news))
 
   abbrev tests : SetTests
   tests = testsOf (op .phase) olds news ids counts nodes (eqb outside noId) (lingersAs op outside)
@@ -388,12 +388,12 @@ module _ (op : VoterReplacementRecord) (ids counts nodes : List ℕ) (s : Suppli
       let old = memberIds (op .predecessor) in
       ap length (sym (eqBytes-true ids old (and-right (eqb (length counts) 1) (eqIds ids old) (sym (split-one ids counts old (s .counted)) ∙ h))))
 
-  linger-same : mayLinger op (difference nodes (union (memberIds (op .predecessor)) (memberIds (op .successor)))) ≡ lingersAs op outside
+  linger-same : mayLinger op (difference nodes (unionIds (memberIds (op .predecessor)) (memberIds (op .successor)))) ≡ lingersAs op outside
   linger-same =
       let old = memberIds (op .predecessor) in
       let new = memberIds (op .successor) in
-      ap (mayLinger op) (difference-same nodes (union old new) (union olds news) (λ x. sym (both-same olds old news new same-old same-new x)))
-      ∙ lingers-are op nodes (union olds news) (s .held)
+      ap (mayLinger op) (difference-same nodes (unionIds old new) (unionIds olds news) (λ x. sym (both-same olds old news new same-old same-new x)))
+      ∙ lingers-are op nodes (unionIds olds news) (s .held)
 
   see-old : (candidate : ℕ) → eqSets (splitSets ids counts) (memberIds (op .predecessor) ∷ []) ≡ true
       → seePredecessor op candidate nodes ≡ seenOld (op .phase) (tests .«fits_old») (contains candidate nodes)
@@ -405,14 +405,14 @@ module _ (op : VoterReplacementRecord) (ids counts nodes : List ℕ) (s : Suppli
       λ i. seenOld (op .phase) (ltb (op .phase) joint && e1 i && leb (length nodes) (e2 i + 1) && e3 i) (contains candidate nodes)
 
   joint-same : (eqSets (splitSets ids counts) (memberIds (op .predecessor) ∷ (memberIds (op .successor) ∷ []))
-      && eqIds nodes (union (memberIds (op .predecessor)) (memberIds (op .successor)))) ≡ tests .«is_joint»
+      && eqIds nodes (unionIds (memberIds (op .predecessor)) (memberIds (op .successor)))) ≡ tests .«is_joint»
   joint-same =
       let old = memberIds (op .predecessor) in
       let new = memberIds (op .successor) in
       let e0 = two-sets ids counts (s .counted) (s .rising) old new olds news old-rises new-rises same-old same-new in
-      let e1 = subset-right nodes (union old new) (union olds news) (λ x. sym (both-same olds old news new same-old same-new x)) ∙ none-outside nodes (union olds news) (s .held) in
+      let e1 = subset-right nodes (unionIds old new) (unionIds olds news) (λ x. sym (both-same olds old news new same-old same-new x)) ∙ none-outside nodes (unionIds olds news) (s .held) in
       let e2 = subset-union old new nodes ∙ (λ i. sym (subset-left olds old nodes same-old) i && sym (subset-left news new nodes same-new) i) in
-      λ i. e0 i && (sets-equal nodes (union old new) (s .nodes-rise) (rising-union old new new-rises) ∙ (λ j. e1 j && e2 j)) i
+      λ i. e0 i && (sets-equal nodes (unionIds old new) (s .nodes-rise) (rising-union old new new-rises) ∙ (λ j. e1 j && e2 j)) i
 
   new-same : (eqSets (splitSets ids counts) (memberIds (op .successor) ∷ []) && eqIds nodes (memberIds (op .successor))) ≡ tests .«is_new»
   new-same =

@@ -48,7 +48,7 @@ use Rattle.control.specs.Control.{Decision, settle, full, representableC
 use Rattle.control.specs.HistoryLaws.{ValidTable, Every, restart-same, has-room, call-valid, history}
 use Rattle.control.specs.History.Call.{command, observation, restart}
 use Rattle.control.specs.History.{Call, withRoom, after, tableAt}
-use Rattle.control.specs.Observation.{Sight, eqIds, eqSets, isRising, allRising, insert, contains, splitSets, representableSets, memberNode, memberIdsBelow, memberIds, see, withTarget, uniformSeen, raised, keepOr, observed, observe, observeMembership}
+use Rattle.control.specs.Observation.{Sight, eqIds, eqSets, isRising, allRising, insertId, contains, splitSets, representableSets, memberNode, memberIdsBelow, memberIds, see, withTarget, uniformSeen, raised, keepOr, observed, observe, observeMembership}
 use Rattle.control.specs.Observation.Sight.{strange, nothingNew, newLearner, newJoint, newUniform}
 use Rattle.control.specs.Quorum.{isJoint, currentIds, successorIds, countsIn, among, isMajority, isQuorum, IsReplaced, Shared, AllLive, SharedLive, Near, QuorumsIn, Quorums}
 use Rattle.control.specs.Retired.{isBelowFloor, isRetiredIdentity, isRetired}
@@ -68,24 +68,24 @@ or-cases true b h = inl refl
 or-cases false b h = inr h
 
 -- one that was not makes the set longer by one
-length-insert : (x : ℕ) (l : List ℕ) → contains x l ≡ false → length (insert x l) ≡ length l + 1
-unfolding contains insert
+length-insert : (x : ℕ) (l : List ℕ) → contains x l ≡ false → length (insertId x l) ≡ length l + 1
+unfolding contains insertId
 length-insert x [] n = refl
 length-insert x (z ∷ l) n = by (ltb x z) (eqb x z) refl n (length-insert x l)
   where
-    by : (b d : Bool) → eqb x z ≡ d → (d || contains x l) ≡ false → (contains x l ≡ false → length (insert x l) ≡ length l + 1)
-        → length (cond b (x ∷ (z ∷ l)) (cond d (z ∷ l) (z ∷ insert x l))) ≡ suc (length l) + 1
+    by : (b d : Bool) → eqb x z ≡ d → (d || contains x l) ≡ false → (contains x l ≡ false → length (insertId x l) ≡ length l + 1)
+        → length (cond b (x ∷ (z ∷ l)) (cond d (z ∷ l) (z ∷ insertId x l))) ≡ suc (length l) + 1
     by true d e h f = omega arith
     by false true e h f = absurd (false≢true (sym h))
     by false false e h f = let k = f h in omega arith
 
-among-insert : (x : ℕ) (l nodes : List ℕ) → contains x l ≡ false → among (insert x l) nodes ≡ cond (contains x nodes) 1 0 + among l nodes
-unfolding contains insert among
+among-insert : (x : ℕ) (l nodes : List ℕ) → contains x l ≡ false → among (insertId x l) nodes ≡ cond (contains x nodes) 1 0 + among l nodes
+unfolding contains insertId among
 among-insert x [] nodes n = refl
 among-insert x (z ∷ l) nodes n = by (ltb x z) (eqb x z) refl n (among-insert x l nodes)
   where
-    by : (b d : Bool) → eqb x z ≡ d → (d || contains x l) ≡ false → (contains x l ≡ false → among (insert x l) nodes ≡ cond (contains x nodes) 1 0 + among l nodes)
-        → among (cond b (x ∷ (z ∷ l)) (cond d (z ∷ l) (z ∷ insert x l))) nodes ≡ cond (contains x nodes) 1 0 + (cond (contains z nodes) 1 0 + among l nodes)
+    by : (b d : Bool) → eqb x z ≡ d → (d || contains x l) ≡ false → (contains x l ≡ false → among (insertId x l) nodes ≡ cond (contains x nodes) 1 0 + among l nodes)
+        → among (cond b (x ∷ (z ∷ l)) (cond d (z ∷ l) (z ∷ insertId x l))) nodes ≡ cond (contains x nodes) 1 0 + (cond (contains z nodes) 1 0 + among l nodes)
     by true d e h f = refl
     by false true e h f = absurd (false≢true (sym h))
     by false false e h f = let k = f h in omega arith
@@ -150,7 +150,7 @@ id-there c (suc n) i l = contains-insert (memberNode (memberAt c i)) (memberNode
 ids-same : (c d : VoterConfiguration) (n : ℕ) → ((i : ℕ) → i < n → memberAt c i ≡ memberAt d i) → memberIdsBelow c n ≡ memberIdsBelow d n
 unfolding memberIdsBelow
 ids-same c d zero f = refl
-ids-same c d (suc n) f = λ i. insert (memberNode (f n (omega arith) i)) (ids-same c d n (λ k l. f k (omega arith)) i)
+ids-same c d (suc n) f = λ i. insertId (memberNode (f n (omega arith) i)) (ids-same c d n (λ k l. f k (omega arith)) i)
 
 abbrev one : Bool → ℕ
 one b = cond b 1 0
@@ -179,9 +179,9 @@ module _ (c : VoterConfiguration) (differ : (i j : ℕ) → i < c .count → j <
         by (eqb n k) (ltb k n) refl refl m (ids-among n (omega arith))
       where
         by : (b d : Bool) → eqb n k ≡ b → ltb k n ≡ d
-            → among (insert (memberNode (memberAt c n)) (memberIdsBelow c n)) nodes ≡ cond (contains (memberNode (memberAt c n)) nodes) 1 0 + among (memberIdsBelow c n) nodes
+            → among (insertId (memberNode (memberAt c n)) (memberIdsBelow c n)) nodes ≡ cond (contains (memberNode (memberAt c n)) nodes) 1 0 + among (memberIdsBelow c n) nodes
             → n ≤ among (memberIdsBelow c n) nodes + cond d 1 0
-            → suc n ≤ among (insert (memberNode (memberAt c n)) (memberIdsBelow c n)) nodes + cond (ltb k (suc n)) 1 0
+            → suc n ≤ among (insertId (memberNode (memberAt c n)) (memberIdsBelow c n)) nodes + cond (ltb k (suc n)) 1 0
         by true true e f m h = absurd (let p = eqb-true n k e in let q = ltb-true k n f in omega arith)
         by true false e f m h =
             let p = eqb-true n k e in

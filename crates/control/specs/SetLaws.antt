@@ -13,7 +13,7 @@ use Rattle.identity.specs.Utf8Laws.{and-left, and-right}
 use Rattle.records.specs.declared.records.VoterConfiguration.{VoterConfiguration}
 use Rattle.records.specs.EqualityLaws.{eqBytes-true, eqBytes-refl}
 use Rattle.records.specs.Records.{allBelow, memberAt}
-use Rattle.control.specs.Observation.{eqIds, isRising, insert, contains, union, difference, isSubset, memberNode, memberIdsBelow}
+use Rattle.control.specs.Observation.{eqIds, isRising, insertId, contains, unionIds, difference, isSubset, memberNode, memberIdsBelow}
 
 -- ---- what a set holds
 
@@ -23,23 +23,23 @@ or-swap true false c = refl
 or-swap false b c = refl
 
 module _ (x y : ℕ) where
-  insert-in : (z : ℕ) (l : List ℕ) (lt eq : Bool) → ltb y z ≡ lt → eqb y z ≡ eq → contains x (insert y l) ≡ (eqb x y || contains x l)
-      → contains x (cond lt (y ∷ z ∷ l) (cond eq (z ∷ l) (z ∷ insert y l))) ≡ (eqb x y || (eqb x z || contains x l))
+  insert-in : (z : ℕ) (l : List ℕ) (lt eq : Bool) → ltb y z ≡ lt → eqb y z ≡ eq → contains x (insertId y l) ≡ (eqb x y || contains x l)
+      → contains x (cond lt (y ∷ z ∷ l) (cond eq (z ∷ l) (z ∷ insertId y l))) ≡ (eqb x y || (eqb x z || contains x l))
   unfolding contains
   insert-in z l true eq e f h = refl
   insert-in z l false true e f h = rw (eqb-true y z f) (sym (or-self-left (eqb x z) (contains x l)))
   insert-in z l false false e f h = rw h (or-swap (eqb x z) (eqb x y) (contains x l))
 
-  pub contains-insert : (l : List ℕ) → contains x (insert y l) ≡ (eqb x y || contains x l)
-  unfolding contains insert
+  pub contains-insert : (l : List ℕ) → contains x (insertId y l) ≡ (eqb x y || contains x l)
+  unfolding contains insertId
   contains-insert [] = refl
   contains-insert (z ∷ l) = insert-in z l (ltb y z) (eqb y z) refl refl (contains-insert l)
 
-pub contains-union : (x : ℕ) (a b : List ℕ) → contains x (union a b) ≡ (contains x a || contains x b)
-unfolding contains union
+pub contains-union : (x : ℕ) (a b : List ℕ) → contains x (unionIds a b) ≡ (contains x a || contains x b)
+unfolding contains unionIds
 contains-union x [] b = refl
 contains-union x (y ∷ a) b =
-    contains-insert x y (union a b) ∙ (ap (λ (t : Bool). eqb x y || t) (contains-union x a b) ∙ sym (or-assoc (eqb x y) (contains x a) (contains x b)))
+    contains-insert x y (unionIds a b) ∙ (ap (λ (t : Bool). eqb x y || t) (contains-union x a b) ∙ sym (or-assoc (eqb x y) (contains x a) (contains x b)))
 
 -- a member of a configuration has that id
 pub contains-ids : (c : VoterConfiguration) (x n : ℕ) → contains x (memberIdsBelow c n) ≡ not (allBelow (λ i. not (eqb x (memberNode (memberAt c i)))) n)
@@ -97,8 +97,8 @@ unfolding isRising contains
 rising-head x [] h f = refl
 rising-head x (y ∷ l) h f = rw (lt-ltb x y (f y (rw (eq-eqb y y refl)))) h
 
-pub rising-insert : (x : ℕ) (l : List ℕ) → isRising l ≡ true → isRising (insert x l) ≡ true
-unfolding isRising insert
+pub rising-insert : (x : ℕ) (l : List ℕ) → isRising l ≡ true → isRising (insertId x l) ≡ true
+unfolding isRising insertId
 rising-insert x [] h = refl
 rising-insert x (y ∷ l) h = by (ltb x y) refl (eqb x y) refl (rising-insert x l (rising-tail y l h))
   where
@@ -106,18 +106,18 @@ rising-insert x (y ∷ l) h = by (ltb x y) refl (eqb x y) refl (rising-insert x 
     behind k z true e c = let q = eqb-true z x e in omega arith
     behind k z false e c = head-least y l h z c
 
-    by : (lt : Bool) → ltb x y ≡ lt → (eq : Bool) → eqb x y ≡ eq → isRising (insert x l) ≡ true → isRising (cond lt (x ∷ y ∷ l) (cond eq (y ∷ l) (y ∷ insert x l))) ≡ true
+    by : (lt : Bool) → ltb x y ≡ lt → (eq : Bool) → eqb x y ≡ eq → isRising (insertId x l) ≡ true → isRising (cond lt (x ∷ y ∷ l) (cond eq (y ∷ l) (y ∷ insertId x l))) ≡ true
     by true e eq f r = rw e h
     by false e true f r = h
     by false e false f r =
         let k = ltb-false x y e in
         let n = eqb-false x y f in
-        rising-head y (insert x l) r (λ z c. behind (omega arith) z (eqb z x) refl (sym (contains-insert z x l) ∙ c))
+        rising-head y (insertId x l) r (λ z c. behind (omega arith) z (eqb z x) refl (sym (contains-insert z x l) ∙ c))
 
-pub rising-union : (a b : List ℕ) → isRising b ≡ true → isRising (union a b) ≡ true
-unfolding union
+pub rising-union : (a b : List ℕ) → isRising b ≡ true → isRising (unionIds a b) ≡ true
+unfolding unionIds
 rising-union [] b h = h
-rising-union (x ∷ a) b h = rising-insert x (union a b) (rising-union a b h)
+rising-union (x ∷ a) b h = rising-insert x (unionIds a b) (rising-union a b h)
 
 pub rising-ids : (c : VoterConfiguration) (n : ℕ) → isRising (memberIdsBelow c n) ≡ true
 unfolding memberIdsBelow isRising

@@ -11,7 +11,7 @@ ghost use lib.Dec.{eqb, leb};
 ghost use lib.ListN.{length};
 ghost use Rattle.identity.specs.Identity.{identityOf, nodeId, valueOfNumber};
 ghost use Rattle.identity.specs.Text.{every};
-ghost use Rattle.control.specs.Observation.{allRising, contains, difference, isHeldNodeId, isRising, isSubset, splitSets, total, union};
+ghost use Rattle.control.specs.Observation.{allRising, contains, difference, isHeldNodeId, isRising, isSubset, splitSets, total, unionIds};
 ghost use Rattle.control.specs.ObserveSets.{areTwoSets, firstOf, isOneSet, leastNew, listed, noId, slotMembers};
 use identity::identity::CONSENSUS_NODE_ID_MAX;
 use identity::identity::NumberResult;
@@ -119,7 +119,7 @@ pub fn is_same(set: &[u64], ids: &[u64]) -> bool
 
 // The first id of the set that neither of the others has, or none.
 pub fn first_outside(set: &[u64], old: &[u64], new: &[u64]) -> u64
-    ensures { λ r. ⌜ r ≡ firstOf (difference (now (set .entry)) (union (now (old .entry)) (now (new .entry)))) ⌝ }
+    ensures { λ r. ⌜ r ≡ firstOf (difference (now (set .entry)) (unionIds (now (old .entry)) (now (new .entry)))) ⌝ }
 {
     let mut i = 0;
     while i < set.len() {

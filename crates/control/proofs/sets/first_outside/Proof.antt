@@ -6,14 +6,14 @@ use native.Mathlib.Omega.{arith}
 use lib.ListN.{length, getD, drop}
 use borrow.Author.Needs.{needs}
 use Rattle.records.specs.ValidationLaws.{failed, held}
-use Rattle.control.specs.Observation.{contains, difference, union}
+use Rattle.control.specs.Observation.{contains, difference, unionIds}
 use Rattle.control.specs.ObserveSets.{firstOf}
 use Rattle.control.specs.ObserveSetsLaws.{outside-passed, outside-found, outside-none}
 use Rattle.control.proofs.sets.first_outside.Statement.{statement}
 use Rattle.control.proofs.sets.first_outside.Tie as tie
 
 abbrev Inv-loop : tie.InvT-loop
-Inv-loop set old new i₀ i = (i ≤ length set) × (firstOf (difference set (union old new)) ≡ firstOf (difference (drop i set) (union old new)))
+Inv-loop set old new i₀ i = (i ≤ length set) × (firstOf (difference set (unionIds old new)) ≡ firstOf (difference (drop i set) (unionIds old new)))
 
 abbrev μ-loop : tie.MeasureT-loop
 μ-loop set old new i₀ i = length set - i
@@ -64,7 +64,7 @@ unfolding firstOf
 returns-2 c =
     let l = c .before in
     let s = l .before .before .before .before .args in
-    sym (l .loop .inv .1 ∙ outside-none (s .set .now) (union (s .old .now) (s .new .now)) (l .loop .i) (omega arith))
+    sym (l .loop .inv .1 ∙ outside-none (s .set .now) (unionIds (s .old .now) (s .new .now)) (l .loop .i) (omega arith))
 
 pub first-outside-spec : {M : Type 1} → statement M
 first-outside-spec =
