@@ -189,6 +189,30 @@ pub fn run(
     Ok(())
 }
 
+/// One call of each task in a library, after one that is not counted, with a line for each: what
+/// scripts/count.py runs under callgrind, which counts the instructions of every call.
+pub fn once(
+    support: &str,
+    port: &str,
+    mut line: impl FnMut(&str) -> Result<(), String>,
+) -> Result<(), String> {
+    let support = Support::open(support)?;
+    let port = Port::open(port)?;
+    for task in [3, 5, 9].into_iter().flat_map(tasks) {
+        let start = support.table(&task.table);
+        let mut called = true;
+        for _ in 0..2 {
+            let mut place = [start.clone()];
+            called = port_batch(&support, &port, &task, &mut place).is_some();
+        }
+        if called {
+            let slots = task.table.slots.len();
+            line(&format!("{}\t{slots}\t{}", task.name, task.state))?;
+        }
+    }
+    Ok(())
+}
+
 fn tasks(count: u16) -> Vec<Task> {
     let node = identity(2, 1).node_id().get();
     let learner = open(count, VoterReplacementPhase::LearnerAdded);

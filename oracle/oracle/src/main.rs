@@ -46,6 +46,7 @@ const USAGE: &str = "usage:
   oracle ordered > OrderBytes.antt
   oracle bench
   oracle bench-control SUPPORT LIBRARY...
+  oracle once-control SUPPORT LIBRARY
 kinds:";
 
 fn main() -> ExitCode {
@@ -89,6 +90,10 @@ fn run(words: &[&str]) -> Result<ExitCode, String> {
         ["bench"] => bench::run(|line| print(format!("{line}\n").as_bytes()).map(drop))
             .map(|()| ExitCode::SUCCESS),
         ["bench-control", support, ports @ ..] => bench_control::run(support, ports, |line| {
+            print(format!("{line}\n").as_bytes()).map(drop)
+        })
+        .map(|()| ExitCode::SUCCESS),
+        ["once-control", support, port] => bench_control::once(support, port, |line| {
             print(format!("{line}\n").as_bytes()).map(drop)
         })
         .map(|()| ExitCode::SUCCESS),
