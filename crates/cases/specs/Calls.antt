@@ -126,6 +126,11 @@ abbrev pub names : (kind id digest : ℕ) → VoterReplacementStep → VoterSlot
 names kind id digest s at =
     commands (record { kind = kind; request = blankVoterReplacementRequest; «request_id» = replicate 16 id; «request_digest» = key digest; step = s }) at
 
+-- a command of any kind with a request and an id, which none has
+abbrev pub mixed : (kind : ℕ) → VoterReplacementRequest → (id : ℕ) → VoterSlotLogId → Act
+mixed kind r id at =
+    commands (record { kind = kind; request = r; «request_id» = replicate 16 id; «request_digest» = blankRequestDigest; step = blankVoterReplacementStep }) at
+
 abbrev pub marks : (id : ℕ) → VoterSlotLogId → Act
 marks id at = names markerKind id id blankVoterReplacementStep at
 
@@ -314,6 +319,20 @@ isNext =
       evidence = prepareAt (cut 1 2);
     })
 
+-- ---- request 26, after it too: slot 2 again, in incarnation 3
+
+abbrev pub isReplacedAgain : VoterSlotTable
+isReplacedAgain =
+    openWith 12 2 (around (slotWith (memberOf 2 3 10 6) 2 pending true (replacedSlot .«last_result»)))
+    (record {
+      «expected_revision» = 11;
+      attestation = attest 26 2 2 9 10 6;
+      predecessor = configurationOf 2 (memberOf 2 2 9 5);
+      successor = configurationOf 3 (memberOf 2 3 10 6);
+      phase = prepared;
+      evidence = prepareAt (cut 1 2);
+    })
+
 -- ---- requests 22 and 24, of which each supersedes the one before it; 23 is for another slot
 
 abbrev pub second : VoterReplacementRequest
@@ -356,6 +375,14 @@ abbrev pub isSupersededAgain : VoterSlotTable
 isSupersededAgain =
     openWith 8 1 (around (slotWith (memberOf 2 4 11 7) 3 pending true (receiptOf 22 3 8 1 superseded (cut 2 18))))
     (operationOf 7 (attest 24 2 3 10 11 7) (memberOf 2 4 11 7) prepared (prepareAt (cut 2 18)))
+
+-- ---- Fenced, with no continuation
+
+abbrev pub isFencedAlone : VoterSlotTable
+isFencedAlone =
+    openFirst 7 1 catchingUp fenced
+    (evidenceWith (cut 2 10) true (snapshotAt (cut 2 10)) (present (cut 2 12)) (present (cut 2 16)) blankOptionalLogId (present (cut 2 19)) blankOptionalLogId
+    blankOptionalLogId)
 
 -- ---- tables that are not valid
 

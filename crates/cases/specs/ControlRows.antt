@@ -15,13 +15,13 @@ use Rattle.records.specs.With.{slotWith, evidenceWith, present}
 use Rattle.records.specs.declared.records.VoterSlotTable.{VoterSlotTable}
 use Rattle.control.specs.declared.control.VoterReplacementRequest.{VoterReplacementRequest}
 use Rattle.control.specs.Blank.{blankVoterReplacementStep}
-use Rattle.control.specs.Control.{advanceKind, markerKind, recordCaughtUpKind, finalizeKind, full}
+use Rattle.control.specs.Control.{beginKind, advanceKind, markerKind, recordCaughtUpKind, finalizeKind, full}
 use Rattle.control.specs.Quorum.{countsIn, isQuorum}
 use Rattle.control.specs.Retired.{retiredTest, retiredNumber}
 use Rattle.cases.specs.Row.{Row}
 use Rattle.cases.specs.Row.Row.{is-number, is-yes, is-no}
 use Rattle.cases.specs.Tables.{cut, memberOf, slotOf, placesOf, idleWith, tableOf}
-use Rattle.cases.specs.Calls.{attestOf, requestOf, candidateOf, request, unchecked, Act, begins, names, marks, bare, stepOf, snapshotAt, snapshots, catches, continues, fences, finalizes, line, start, first, old, new, both, around, openSecond, isPrepared, isInstalled, hasLearnerAt, hasLearner, isCaughtUp, isContinued, isFenced, isJoint, isUniform, isFinalizedAt, isFinalized, next, isNext, second, otherSlot, third, bothNext, isSuperseded, isSecondInstalled, hasSecondLearner, isSupersededAgain, preparedWith, candidateIn, pendingOf, attestedLast, epochFull}
+use Rattle.cases.specs.Calls.{attestOf, requestOf, candidateOf, request, unchecked, Act, begins, names, mixed, marks, bare, stepOf, snapshotAt, snapshots, catches, continues, fences, finalizes, line, start, first, old, new, both, around, openSecond, isPrepared, isInstalled, hasLearnerAt, hasLearner, isCaughtUp, isContinued, isFenced, isJoint, isUniform, isFinalizedAt, isFinalized, next, isNext, isReplacedAgain, isFencedAlone, second, otherSlot, third, bothNext, isSuperseded, isSecondInstalled, hasSecondLearner, isSupersededAgain, preparedWith, candidateIn, pendingOf, attestedLast, epochFull}
 use Rattle.cases.specs.Calls.Act.{observes}
 use Rattle.cases.specs.Calls.Turn.{gives, makes}
 
@@ -40,6 +40,7 @@ wholeReplacement =
     ∷ gives (marks 21 (cut 2 1)) 25
     ∷ gives (observes old (3 ∷ []) old (cut 0 0)) 0
     ∷ gives (observes old (3 ∷ []) (1 ∷ 2 ∷ []) (cut 0 0)) 25
+    ∷ gives (observes new (3 ∷ []) old (cut 0 0)) 25
     -- Prepared; the same Begin again, at any cut, is accepted and changes nothing
     ∷ makes (begins first (cut 2 10)) isPrepared
     ∷ gives (begins first (cut 1 1)) 0
@@ -50,10 +51,15 @@ wholeReplacement =
     ∷ gives (fences 21 (cut 2 11)) 25
     ∷ gives (finalizes 21 (cut 2 11)) 25
     ∷ gives (observes old (3 ∷ []) both (cut 2 11)) 25
+    -- a node of the predecessor is missing
+    ∷ gives (observes old (3 ∷ []) (1 ∷ 2 ∷ []) (cut 2 11)) 25
     -- a snapshot at the cut of prepare; one that was taken before prepare, which the successor
     -- check refuses
     ∷ gives (snapshots 21 (cut 2 10) (cut 2 10)) 25
     ∷ gives (snapshots 21 (cut 2 9) (cut 2 12)) 25
+    -- one that was not taken before the command; one of a later term
+    ∷ gives (snapshots 21 (cut 2 12) (cut 2 12)) 25
+    ∷ gives (snapshots 21 (cut 3 11) (cut 2 12)) 25
     -- SnapshotInstalled; "only a snapshot cut may equal prepare"
     ∷ makes (snapshots 21 (cut 2 10) (cut 2 12)) isInstalled
     -- the same snapshot again; another one
@@ -72,6 +78,8 @@ wholeReplacement =
     ∷ gives (marks 21 (cut 1 1)) 0
     -- a mark of another term than the command's
     ∷ gives (catches 21 (cut 2 14) (cut 3 15)) 25
+    -- a mark that is not before the command
+    ∷ gives (catches 21 (cut 2 15) (cut 2 15)) 25
     -- CaughtUp; the same mark again; a Marker; a later mark; an earlier one, which the successor
     -- check refuses
     ∷ makes (catches 21 (cut 2 14) (cut 2 15)) (isCaughtUp 5 (cut 2 14))
@@ -105,6 +113,9 @@ wholeReplacement =
     ∷ makes (observes (old ++ new) (3 ∷ 3 ∷ []) both (cut 2 21)) isJoint
     ∷ gives (observes (old ++ new) (3 ∷ 3 ∷ []) both (cut 0 0)) 0
     ∷ gives (observes old (3 ∷ []) both (cut 2 22)) 25
+    -- the fence again; a Finalize that comes early
+    ∷ gives (fences 21 (cut 2 30)) 0
+    ∷ gives (finalizes 21 (cut 2 22)) 25
     -- Uniform has the successor's nodes alone; then the epoch is the successor's
     ∷ gives (observes new (3 ∷ []) both (cut 2 22)) 25
     ∷ makes (observes new (3 ∷ []) new (cut 2 22)) isUniform
@@ -147,6 +158,9 @@ supersession =
     ∷ gives (observes old (3 ∷ []) both (cut 0 0)) 0
     ∷ gives (observes old (3 ∷ []) old (cut 0 0)) 0
     ∷ gives (observes old (3 ∷ []) bothNext (cut 2 15)) 25
+    -- no other node may: one of another slot, or of a later incarnation
+    ∷ gives (observes old (3 ∷ []) (1 ∷ 2 ∷ 3 ∷ 65539 ∷ []) (cut 0 0)) 25
+    ∷ gives (observes old (3 ∷ []) (1 ∷ 2 ∷ 3 ∷ 196610 ∷ []) (cut 0 0)) 25
     -- SnapshotInstalled: it may linger still, and not next to the new one
     ∷ makes (snapshots 22 (cut 2 15) (cut 2 16)) isSecondInstalled
     ∷ gives (observes old (3 ∷ []) both (cut 0 0)) 0
@@ -161,6 +175,13 @@ supersession =
     ∷ gives (begins first (cut 2 30)) 13
     ∷ gives (begins second (cut 1 1)) 0
     ∷ [])
+    -- the slot is replaced again: the node that was replaced first does not come back as a learner
+    ++ line isFinalized
+    (makes (begins (request 11 2 26 2 2 9 10 6) (cut 1 2)) isReplacedAgain
+    ∷ gives (observes new (3 ∷ []) (1 ∷ 2 ∷ 3 ∷ 65538 ∷ []) (cut 0 0)) 25
+    ∷ [])
+    -- past the fence no continuation is recorded
+    ++ line isFencedAlone (gives (continues 21 (cut 2 30)) 25 ∷ [])
     -- a continuation may equal the snapshot's cut
     ++ line isSecondInstalled
     (makes (continues 22 (cut 2 15))
@@ -180,8 +201,16 @@ beginOrder =
     line start
     -- 30 and a cut of zeros: a candidate of slot 0
     (gives (begins (requestOf 1 7 1 (memberOf 0 2 9 5) (attestOf 21 21 7 2 1 2 9 5) 21 8) (cut 0 0)) 30
+    -- and a Begin that names a request
+    ∷ gives (mixed beginKind first 21 (cut 0 0)) 30
     -- 12 and 13: the digest recomputed and the revision differ
     ∷ gives (begins (unchecked (request 9 1 21 2 1 2 9 5)) (cut 2 10)) 12
+    -- 12 and 13: the expected revision is 0; the expected cluster is not the attested one
+    ∷ gives (begins (request 0 1 21 2 1 2 9 5) (cut 2 10)) 12
+    ∷ gives (begins (requestOf 1 8 1 (memberOf 2 2 9 5) (attestOf 21 21 7 2 1 2 9 5) 21 8) (cut 2 10)) 12
+    -- 12: the candidate has another key, or another generation, than the attested
+    ∷ gives (begins (requestOf 1 7 1 (memberOf 2 2 10 5) (attestOf 21 21 7 2 1 2 9 5) 21 8) (cut 2 10)) 12
+    ∷ gives (begins (requestOf 1 7 1 (memberOf 2 2 9 6) (attestOf 21 21 7 2 1 2 9 5) 21 8) (cut 2 10)) 12
     -- 12: the candidate of another slot; the attested incarnation is 2^47, and 22 is not given
     ∷ gives (begins (requestOf 1 7 1 (memberOf 3 2 9 5) (attestOf 21 21 7 2 1 2 9 5) 21 8) (cut 2 10)) 12
     ∷ gives (begins (requestOf 1 7 1 (memberOf 2 (2 ^ 47) 9 5) (attestOf 21 21 7 2 (2 ^ 47) 2 9 5) 21 8) (cut 2 10)) 12
@@ -194,6 +223,8 @@ beginOrder =
     ∷ gives (begins (let a = attestOf 21 21 8 2 1 2 2 5 in requestOf 1 8 1 (candidateOf a) a 21 8) (cut 2 10)) 13
     ∷ gives (begins (request 1 1 21 2 2 2 2 5) (cut 2 10)) 13
     ∷ gives (begins (request 1 1 21 2 1 1 2 5) (cut 2 10)) 13
+    -- an id of zeros is that of no request: no request is open, and no slot has a receipt
+    ∷ gives (begins (request 9 1 0 2 1 2 9 5) (cut 2 10)) 13
     -- step 5's 12: the generation is not greater; the key is the same
     ∷ gives (begins (request 1 1 21 2 1 2 9 1) (cut 2 10)) 12
     ∷ gives (begins (request 1 1 21 2 1 2 2 5) (cut 2 10)) 12
@@ -214,6 +245,7 @@ beginOrder =
     (gives (begins (let a = attestOf 21 20 7 2 1 2 9 5 in requestOf 1 7 1 (candidateOf a) a 20 8) (cut 0 1)) 25
     ∷ gives (begins (let a = attestOf 21 20 7 2 1 2 9 5 in requestOf 1 7 1 (candidateOf a) a 99 8) (cut 1 1)) 14
     ∷ gives (begins (unchecked first) (cut 1 1)) 12
+    ∷ gives (begins (request 1 1 21 2 1 2 9 0) (cut 1 1)) 12
     -- it looks at nothing else: another slot, revision and epoch, supplied configuration id, or
     -- cluster
     ∷ gives (begins (request 1 1 21 3 1 3 9 5) (cut 1 1)) 0
@@ -242,10 +274,14 @@ beginOrder =
 abbrev pub advanceOrder : List Row
 advanceOrder =
     line isInstalled
-    -- 30 and a cut of zeros: no step is of kind 5; a Finalize has no mark; a Marker has no step
+    -- 30 and a cut of zeros: no step is of kind 5; a Finalize has no mark; a Marker has no step; a
+    -- Finalize has no snapshot; a Marker has no request; no command is of kind 3
     (gives (names advanceKind 21 21 (bare 5) (cut 0 0)) 30
     ∷ gives (names advanceKind 21 21 (stepOf finalizeKind blankVoterSnapshotEvidence (cut 1 1)) (cut 0 0)) 30
     ∷ gives (names markerKind 21 21 (bare recordCaughtUpKind) (cut 0 0)) 30
+    ∷ gives (names advanceKind 21 21 (stepOf finalizeKind (snapshotAt (cut 1 1)) (cut 0 0)) (cut 0 0)) 30
+    ∷ gives (mixed markerKind first 21 (cut 0 0)) 30
+    ∷ gives (names 3 21 21 blankVoterReplacementStep (cut 0 0)) 30
     -- 13 and 14: another id and another digest; 14 and the cut of prepare
     ∷ gives (names advanceKind 22 20 (bare finalizeKind) (cut 2 10)) 13
     ∷ gives (names advanceKind 21 20 (bare finalizeKind) (cut 2 10)) 14
@@ -277,7 +313,10 @@ observationOrder =
     ∷ gives (observes old (3 ∷ []) ((2 ^ 63) ∷ 1 ∷ []) (cut 0 0)) 30
     -- an id of 0 can be held: it is of no slot
     ∷ gives (observes old (3 ∷ []) (0 ∷ old) (cut 0 0)) 25
-    -- 31: a set, or the nodes
+    -- and the greatest id
+    ∷ gives (observes old (3 ∷ []) (old ++ ((2 ^ 63 - 1) ∷ [])) (cut 0 0)) 25
+    -- 31: a set, a second set, or the nodes
+    ∷ gives (observes (old ++ (2 ∷ 1 ∷ [])) (3 ∷ 2 ∷ []) old (cut 0 0)) 31
     ∷ gives (observes (1 ∷ 3 ∷ 2 ∷ []) (3 ∷ []) old (cut 0 0)) 31
     ∷ gives (observes old (3 ∷ []) (1 ∷ 1 ∷ []) (cut 0 0)) 31
     ∷ [])
@@ -356,10 +395,16 @@ quorumRows =
     ∷ is-yes (isQuorum isFenced (2 ∷ 3 ∷ []))
     ∷ is-yes (countsIn isFenced 2)
     ∷ is-number (asked isFenced 2) 101
+    -- the candidate counts from Joint on
+    ∷ is-no (countsIn isFenced 65538)
+    ∷ is-yes (countsIn isJoint 65538)
     -- a quorum of Fenced and one of Uniform that share no node; neither is one of Joint
     ∷ is-yes (isQuorum isUniform (3 ∷ 65538 ∷ []))
     ∷ is-no (isQuorum isJoint (1 ∷ 2 ∷ []))
     ∷ is-no (isQuorum isJoint (3 ∷ 65538 ∷ []))
     -- node 2 counts no more
     ∷ is-no (countsIn isUniform 2)
+    -- of five, three are a quorum, and two are not
+    ∷ is-yes (isQuorum (tableOf 5) (1 ∷ 3 ∷ 5 ∷ []))
+    ∷ is-no (isQuorum (tableOf 5) (1 ∷ 3 ∷ []))
     ∷ []
