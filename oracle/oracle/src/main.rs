@@ -14,6 +14,7 @@ mod format;
 mod generate;
 mod histogram;
 mod layout;
+mod named;
 mod ordered;
 mod raw;
 #[cfg(test)]
@@ -34,6 +35,7 @@ use std::process::ExitCode;
 
 const USAGE: &str = "usage:
   oracle replay < log > lines
+  oracle phases < log
   oracle cases < questions > answers
   oracle fixed > questions
   oracle generate SEED COUNT KIND > questions-or-log
@@ -64,6 +66,7 @@ fn run(words: &[&str]) -> Result<ExitCode, String> {
     match words {
         ["cases"] => print(cases::answers(&input()?).as_bytes()),
         ["replay"] => print(replay::lines(&input()?).as_bytes()),
+        ["phases"] => print(replay::phases(&input()?).as_bytes()),
         ["fixed"] => print(&fixed::questions()),
         ["histogram"] => print(histogram::histogram(&text_input()?).as_bytes()),
         ["show"] => print(show::file(&input()?).as_bytes()),
