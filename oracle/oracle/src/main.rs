@@ -4,6 +4,7 @@
 mod answer;
 mod bench;
 mod bench_control;
+mod bench_logs;
 mod call;
 mod cases;
 mod compare;
@@ -48,6 +49,7 @@ const USAGE: &str = "usage:
   oracle ordered > OrderBytes.antt
   oracle bench
   oracle bench-control SUPPORT LIBRARY...
+  oracle bench-log KIND COUNT > log
 kinds:";
 
 fn main() -> ExitCode {
@@ -91,6 +93,10 @@ fn run(words: &[&str]) -> Result<ExitCode, String> {
         ["ordered"] => print(ordered::text().as_bytes()),
         ["bench"] => bench::run(|line| print(format!("{line}\n").as_bytes()).map(drop))
             .map(|()| ExitCode::SUCCESS),
+        ["bench-log", kind, count] => {
+            let log = bench_logs::log(kind, number(count)? as usize);
+            print(&log.ok_or_else(|| format!("the kinds are: {}", bench_logs::KINDS.join(" ")))?)
+        }
         ["bench-control", support, ports @ ..] => bench_control::run(support, ports, |line| {
             print(format!("{line}\n").as_bytes()).map(drop)
         })

@@ -32,19 +32,19 @@ pub fn logs() -> Vec<(&'static str, Vec<u8>)> {
 
 /// A log as it is written, with the table that stands after its last record.
 #[derive(Default)]
-struct Log {
-    bytes: Vec<u8>,
+pub struct Log {
+    pub bytes: Vec<u8>,
     run: Run,
 }
 
 impl Log {
-    fn of_table(table: &VoterSlotTable) -> Self {
+    pub fn of_table(table: &VoterSlotTable) -> Self {
         let mut log = Self::default();
         log.put(*b"TB", &wire::table(table).bytes);
         log
     }
 
-    fn put(&mut self, mark: Mark, body: &[u8]) {
+    pub fn put(&mut self, mark: Mark, body: &[u8]) {
         put_record(&mut self.bytes, mark, body);
         self.run.step(mark, body);
     }
@@ -53,7 +53,7 @@ impl Log {
         self.put(body.mark(), &body.bytes());
     }
 
-    fn calls(&mut self, bodies: impl IntoIterator<Item = Body>) {
+    pub fn calls(&mut self, bodies: impl IntoIterator<Item = Body>) {
         bodies.into_iter().for_each(|body| self.call(body));
     }
 
@@ -68,13 +68,13 @@ impl Log {
         self.call(Body::Begin(body));
     }
 
-    fn table(&self) -> &VoterSlotTable {
+    pub fn table(&self) -> &VoterSlotTable {
         self.run.table.as_ref().expect("a table stands")
     }
 }
 
 /// The ids of voters 1 to `count` in their first incarnation, with slot 2 in this one.
-fn voters(count: u64, incarnation: u64) -> Vec<u64> {
+pub fn voters(count: u64, incarnation: u64) -> Vec<u64> {
     let second = identity(2, incarnation).node_id().get();
     let mut ids: Vec<u64> = (1..=count).filter(|id| *id != 2).collect();
     ids.push(second);
@@ -82,7 +82,7 @@ fn voters(count: u64, incarnation: u64) -> Vec<u64> {
     ids
 }
 
-fn with(ids: &[u64], other: u64) -> Vec<u64> {
+pub fn with(ids: &[u64], other: u64) -> Vec<u64> {
     let mut ids = [ids, &[other]].concat();
     ids.sort_unstable();
     ids
