@@ -9,6 +9,7 @@ prints are held to the original's too.
 """
 import glob
 import os
+import re
 import select
 import signal
 import subprocess
@@ -127,6 +128,18 @@ def by_hand(program, logs):
     return f'{len(logs)} logs'
 
 
+def manual(program, logs):
+    """The examples of docs/REPLAY.md: a block `hex`, with comments after #, and its block `lines`."""
+    with open('docs/REPLAY.md', encoding='utf-8') as page:
+        examples = re.findall(r'^```hex\n(.*?)^```\n\n```lines\n(.*?)^```$', page.read(), re.M | re.S)
+    texts = [(bytes.fromhex(re.sub('#.*', '', digits)), lines.encode()) for digits, lines in examples]
+    for log, lines in texts:
+        held('an example of docs/REPLAY.md', lines, played(program, log))
+    worked = next(log for name, log, _ in logs if name == 'worked-example')
+    held('the first example of docs/REPLAY.md', worked, texts[0][0])
+    return f'{len(texts)} examples'
+
+
 def long_logs(program, logs):
     """Logs longer than any buffer: records of the largest size with and without a table, and very many small ones."""
     table = next(log for name, log, _ in logs if name == 'worked-example')
@@ -205,6 +218,7 @@ def main(program, oracle=None):
         ('from files', lambda: from_files(program, logs)),
         ('cut short, through a pipe', lambda: cut_everywhere(program, named)),
         ('byte by byte, each line awaited', lambda: by_hand(program, named)),
+        ('examples of the manual', lambda: manual(program, logs)),
         ('longer than any buffer', lambda: long_logs(program, logs)),
         ('ends', lambda: ends(program, logs)),
     ]
