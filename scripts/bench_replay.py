@@ -13,7 +13,8 @@ import sys
 import tempfile
 
 # Records of each log: about half a second of the original's time.
-LOGS = (('replacements-3', 240000), ('replacements-9', 160000), ('markers', 1000000), ('observations', 400000), ('tables', 20000))
+LOGS = (('replacements-3', 240000), ('replacements-9', 160000), ('advances', 400000),
+        ('markers', 1000000), ('observations', 400000), ('tables', 20000))
 GIGABYTE = 1 << 30
 
 

@@ -9,9 +9,10 @@ use crate::sample::{
 };
 use crate::wire;
 
-pub const KINDS: [&str; 5] = [
+pub const KINDS: [&str; 6] = [
     "replacements-3",
     "replacements-9",
+    "advances",
     "markers",
     "observations",
     "tables",
@@ -22,6 +23,7 @@ pub fn log(kind: &str, count: usize) -> Option<Vec<u8>> {
     match kind {
         "replacements-3" => Some(replacements(3, count)),
         "replacements-9" => Some(replacements(9, count)),
+        "advances" => Some(advances(count)),
         "markers" => Some(repeated(count, marker(1, cut(2, 50)))),
         "observations" => {
             let old = voters(3, 1);
@@ -54,6 +56,16 @@ fn replacements(slots: u16, count: usize) -> Vec<u8> {
             observation(at(7), &[&new], &new),
             advance(request, at(8), Step::Finalize),
         ]);
+    }
+    log.bytes
+}
+
+/// Three slots; the open request catches up to a later marker each time, so every record changes the table.
+fn advances(count: usize) -> Vec<u8> {
+    let mut log = Log::of_table(&open(3, CaughtUp));
+    for at in 0..count as u64 {
+        let (mark, own) = (cut(2, 50 + 2 * at), cut(2, 51 + 2 * at));
+        log.calls([advance(1, own, Step::CaughtUp(mark))]);
     }
     log.bytes
 }
