@@ -4,6 +4,7 @@
 mod answer;
 mod bench;
 mod bench_control;
+mod bench_logs;
 mod call;
 mod cases;
 mod compare;
@@ -14,6 +15,7 @@ mod format;
 mod generate;
 mod histogram;
 mod layout;
+mod named;
 mod ordered;
 mod raw;
 #[cfg(test)]
@@ -34,6 +36,7 @@ use std::process::ExitCode;
 
 const USAGE: &str = "usage:
   oracle replay < log > lines
+  oracle phases < log
   oracle cases < questions > answers
   oracle fixed > questions
   oracle generate SEED COUNT KIND > questions-or-log
@@ -47,6 +50,7 @@ const USAGE: &str = "usage:
   oracle bench
   oracle bench-control SUPPORT LIBRARY...
   oracle once-control SUPPORT LIBRARY
+  oracle bench-log KIND COUNT > log
 kinds:";
 
 fn main() -> ExitCode {
@@ -65,6 +69,7 @@ fn run(words: &[&str]) -> Result<ExitCode, String> {
     match words {
         ["cases"] => print(cases::answers(&input()?).as_bytes()),
         ["replay"] => print(replay::lines(&input()?).as_bytes()),
+        ["phases"] => print(replay::phases(&input()?).as_bytes()),
         ["fixed"] => print(&fixed::questions()),
         ["histogram"] => print(histogram::histogram(&text_input()?).as_bytes()),
         ["show"] => print(show::file(&input()?).as_bytes()),
@@ -89,6 +94,10 @@ fn run(words: &[&str]) -> Result<ExitCode, String> {
         ["ordered"] => print(ordered::text().as_bytes()),
         ["bench"] => bench::run(|line| print(format!("{line}\n").as_bytes()).map(drop))
             .map(|()| ExitCode::SUCCESS),
+        ["bench-log", kind, count] => {
+            let log = bench_logs::log(kind, number(count)? as usize);
+            print(&log.ok_or_else(|| format!("the kinds are: {}", bench_logs::KINDS.join(" ")))?)
+        }
         ["bench-control", support, ports @ ..] => bench_control::run(support, ports, |line| {
             print(format!("{line}\n").as_bytes()).map(drop)
         })

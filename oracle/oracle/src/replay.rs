@@ -38,21 +38,28 @@ pub fn items(log: &[u8]) -> Vec<Item<'_>> {
 
 /// The lines of a whole run.
 pub fn lines(log: &[u8]) -> String {
-    let mut lines = HEADLINE.to_owned();
+    let row = |mark, answer, run: &Run| format!("{} {answer} {}", mark_text(mark), run.revision());
+    HEADLINE.to_owned() + &rows(log, row)
+}
+
+/// `oracle phases`: for each line of a run the phase afterwards, `none` where no request is open and
+/// `-` where no table stands.
+pub fn phases(log: &[u8]) -> String {
+    rows(log, |_, _, run| run.phase())
+}
+
+/// A numbered row for each record: its mark, its answer and the run after it, as `row` shows them.
+fn rows(log: &[u8], row: impl Fn(Option<Mark>, u8, &Run) -> String) -> String {
+    let mut rows = String::new();
     let mut run = Run::default();
     for (index, item) in items(log).into_iter().enumerate() {
         let (mark, answer) = match item {
             Item::Whole(mark, body) => (Some(mark), run.step(mark, body)),
             Item::Bad(mark) => (mark, BAD_FORM),
         };
-        lines += &format!(
-            "{} {} {answer} {}\n",
-            index + 1,
-            mark_text(mark),
-            run.revision()
-        );
+        rows += &format!("{} {}\n", index + 1, row(mark, answer, &run));
     }
-    lines
+    rows
 }
 
 fn mark_text(mark: Option<Mark>) -> String {
@@ -97,5 +104,13 @@ impl Run {
 
     pub fn revision(&self) -> u64 {
         self.table.as_ref().map_or(0, |table| table.revision)
+    }
+
+    fn phase(&self) -> String {
+        let Some(table) = &self.table else {
+            return "-".to_owned();
+        };
+        let open = table.replacement.as_ref();
+        open.map_or("none".to_owned(), |open| format!("{:?}", open.phase))
     }
 }

@@ -3,7 +3,7 @@
 
 use std::path::Path;
 
-use crate::{cases, edges, fixed, generate, replay};
+use crate::{cases, edges, fixed, generate, named, replay};
 
 /// Files of questions: name, seed, count, kind.
 const QUESTIONS: [(&str, u64, usize, &str); 7] = [
@@ -34,14 +34,21 @@ pub fn write(folder: &Path) -> Result<(), String> {
     }
     for seed in 1..=LOGS {
         let log = generate::generate(seed, RECORDS, "log").unwrap_or_default();
-        write_file(folder, &format!("log-{seed:02}.log"), &log)?;
-        write_file(
-            folder,
-            &format!("log-{seed:02}.lines"),
-            replay::lines(&log).as_bytes(),
-        )?;
+        write_log(folder, &format!("log-{seed:02}"), &log)?;
+    }
+    for (name, log) in named::logs() {
+        write_log(folder, name, &log)?;
     }
     Ok(())
+}
+
+fn write_log(folder: &Path, name: &str, log: &[u8]) -> Result<(), String> {
+    write_file(folder, &format!("{name}.log"), log)?;
+    write_file(
+        folder,
+        &format!("{name}.lines"),
+        replay::lines(log).as_bytes(),
+    )
 }
 
 fn write_questions(folder: &Path, name: &str, questions: &[u8]) -> Result<(), String> {
