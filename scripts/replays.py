@@ -180,13 +180,25 @@ def full_output(program, log):
         raise Difference(f'output that cannot be written: exit {run.returncode}')
 
 
-def unread_input(program):
-    """Input that is closed, and input that is no file of bytes: the first line, and no line of a record."""
+def unread_input(program, log):
+    """Input that is closed, that is no file of bytes, or that fails within a record: the lines of what was read whole, and a message."""
     for input_ in ('<&-', '</'):
         run = subprocess.run(['sh', '-c', f'exec "$0" {input_}', program], stdout=subprocess.PIPE, stderr=subprocess.PIPE, timeout=PATIENCE, check=False)
-        held(f'input {input_}', HEAD, run.stdout)
-        if run.returncode < 0:
-            raise Difference(f'input {input_}: exit {run.returncode}')
+        failed_reading(f'input {input_}', run, HEAD)
+    # A pipe that does not block fails to be read where it is empty and open.
+    end, start = os.pipe()
+    os.set_blocking(end, False)
+    os.write(start, log[:-1])
+    run = subprocess.run([program], stdin=end, stdout=subprocess.PIPE, stderr=subprocess.PIPE, timeout=PATIENCE, check=False)
+    os.close(end)
+    os.close(start)
+    failed_reading('a read that fails within a record', run, HEAD + b'1 TB 0 1\n2 MK 25 1\n')
+
+
+def failed_reading(asked, run, lines):
+    held(asked, lines, run.stdout)
+    if run.returncode < 0 or run.stderr.count(b'\n') != 1:
+        raise Difference(f'{asked}: exit {run.returncode}, and on standard error {run.stderr!r}')
 
 
 def ends(program, logs):
@@ -194,7 +206,7 @@ def ends(program, logs):
     closed_output(program, True)
     if os.path.exists('/dev/full'):
         full_output(program, max((log for _, log, _ in logs), key=len))
-    unread_input(program)
+    unread_input(program, next(log for name, log, _ in logs if name == 'worked-example'))
     return 'output closed, output full, input closed, input not readable'
 
 
