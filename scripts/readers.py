@@ -1,5 +1,5 @@
 #!/usr/bin/env python3
-"""Writes the regular proofs of the readers (crates/reader/proofs/{reader,decode} and crates/layout/proofs/{get,reading}).
+"""Writes the regular proofs of the readers (crates/reader/proofs/{reader,decode}, crates/layout/proofs/{get,reading} and crates/journal/proofs/bodies).
 
 Records are read field by field: after each field a lemma says what was read so far and up to where; every need is then one line. Optional parts, the places of
 slots and members, text, and arrays of bytes have a template each, and so have the refusals that are passed on. The needs and their order are those
@@ -16,12 +16,12 @@ ROOT = os.path.dirname(os.path.dirname(os.path.abspath(__file__)))
 
 
 def proofs_of(module):
-    """Where the proofs of a module are: the readers of plain bytes, and what a reader answers, stand in layout."""
+    """Where the proofs of a module are: the readers of plain bytes, and what a reader answers, stand in layout; those of a replay's bodies in journal."""
     return os.path.join(ROOT, "crates", crate_of(module), "proofs", module)
 
 
 def crate_of(module):
-    return "layout" if module in ("get", "reading") else "reader"
+    return {"get": "layout", "reading": "layout", "bodies": "journal"}.get(module, "reader")
 
 
 class Skeleton:
@@ -83,6 +83,7 @@ class Skeleton:
 # What a field is read by: call, codec, type of the value, the definition of its answer (None: it stands beside a value), the refusal's
 ENUM = {
     "u64": ("read_u64", "uint 8", "ℕ", "u64Read", "U64"),
+    "u16": ("read_u16", "uint 2", "ℕ", "u16Read", "U16"),
     "epoch": ("read_epoch", "epoch", "ℕ", "u64Read", "U64"),
     "incarnation": ("read_incarnation", "incarnation", "ℕ", "u64Read", "U64"),
     "slot_id": ("read_slot_id", "slotId", "ℕ", "u16Read", "U16"),
@@ -92,6 +93,7 @@ ENUM = {
     "reason": ("read_choice", "choice 1 2", "ℕ", "u8Read", "U8"),
     "step": ("read_choice", "choice 0 6", "ℕ", "u8Read", "U8"),
     "identity": ("read_identity", "identity", "VoterSlotIdentity", "identityRead", "Identity"),
+    "any_identity": ("read_any_identity", "anyIdentity", "VoterSlotIdentity", "identityRead", "Identity"),
     "log_id": ("read_log_id", "logId", "VoterSlotLogId", "logIdRead", "LogId"),
     "optional_log_id": ("read_optional_log_id", "optionalLogId", "OptionalLogId", "optionalLogIdRead", "OptionalLogId"),
     "three_cuts": ("read_three_cuts", "threeCuts", "ThreeCuts", "threeCutsRead", "ThreeCuts"),
@@ -123,6 +125,8 @@ STRUCT = {
     "optional_snapshot": ("read_optional_snapshot", "opt snapshot blankVoterSnapshotEvidence", "Bool × VoterSnapshotEvidence", "absentSnapshot"),
     "change": ("read_change", "change", "Change", "blankChange"),
     "evidence": ("read_evidence", "evidence", "VoterReplacementEvidence", "blankVoterReplacementEvidence"),
+    "expected": ("read_expected", "expected", "ConsensusIdentity", "blankConsensusIdentity"),
+    "candidate": ("read_candidate", "candidate", "VoterSlotMember", "blankVoterSlotMember"),
 }
 
 # So many places as were counted before them
@@ -172,7 +176,16 @@ READERS = [
      [("cluster_instance", "array32"), ("manifest_digest", "array32"), ("revision", "u64"), ("configuration_epoch", "epoch")]),
     ("decode", "read_table_front", "tableFront", "blankTableFront", None,
      [("magic", "head"), ("head", "table_head"), ("count", "count"), ("slots", "slots")]),
+    ("bodies", "read_marker_body", "markerBody", "blankMarkerBody", None, [("cut", "log_id"), ("request_id", "array16"), ("request_digest", "array32")]),
+    ("bodies", "read_any_identity", "anyIdentity", "=identityRead", None, [("slot", "u16"), ("incarnation", "u64")]),
+    ("bodies", "read_candidate", "candidate", "blankVoterSlotMember", "member_of", [("identity", "any_identity"), ("binding", "binding")]),
+    ("bodies", "read_expected", "expected", "blankConsensusIdentity", None,
+     [("cluster_id", "array32"), ("configuration_id", "array32"), ("configuration_epoch", "u64")]),
+    ("bodies", "read_begin_head", "beginHead", "blankBeginHead", None,
+     [("cut", "log_id"), ("expected_revision", "u64"), ("expected_configuration", "expected"), ("candidate", "candidate")]),
 ]
+# Readers that pass a refusal on by the function of another
+REFUSED = {"read_candidate": "refused_member"}
 
 # Where a name of the specs stands
 HOMES = {
@@ -189,9 +202,10 @@ HOMES = {
     "layout.specs.Reading": ["report", "outcome"],
     "layout.specs.ReadingLaws": ["told", "told-not", "got", "outcome-ok", "outcome-no"],
     "identity.specs.Answer": ["numberOf"],
+    "journal·specs.specs.Records": ["markerBody", "anyIdentity", "candidate", "expected", "beginHead"],
 }
 DECLARED = {
-    "identity.specs.declared.identity": ["VoterSlotIdentity"],
+    "identity.specs.declared.identity": ["VoterSlotIdentity", "ConsensusIdentity"],
     "records.specs.declared.records": [
         "SpiffeId", "SnapshotId", "VoterSlotLogId", "OptionalLogId", "VoterSlotMember", "VoterReplacementResult", "VoterSlotRecord",
         "VoterSnapshotEvidence", "VoterConfiguration", "LostVoterAttestationV1", "VoterReplacementEvidence", "VoterReplacementRecord"],
@@ -201,6 +215,8 @@ DECLARED = {
 }
 PARTS_BLANKS = {"blankBinding", "blankResultHead", "blankSlotMember", "blankClaimsRequest", "blankClaimsSlot", "blankClaimsNames",
                 "blankClaimsEnd", "blankChange", "blankTableHead", "blankTableFront", "blankVoterSlotMembers", "blankVoterSlotRecords", "absentResult", "absentSnapshot"}
+# Blanks of a crate that is neither records nor layout
+BLANK_HOMES = {"blankConsensusIdentity": "control.specs.Blank", "blankMarkerBody": "journal·specs.specs.Bodies", "blankBeginHead": "journal·specs.specs.Bodies"}
 
 
 def back(k, c="c"):
@@ -389,7 +405,7 @@ def write(r):
         if r.enum:
             body = f"ap (λ a. no (numberOf a)) (c .{w} .ensures ∙ ap {wd} ({e})) ∙ sym (via-no _ _ _ _ _ ({t}))"
         else:
-            ref = "refused-" + kebab(r.name[5:]) + ("" if k == 0 else str(k + 1))
+            ref = kebab(REFUSED.get(r.name, "refused_" + r.name[5:])) + ("" if k == 0 else str(k + 1))
             body = (f"\n    outcome-no _ (c .{ref} .ensures ∙ ap (λ a. outcome {r.blank} (no (numberOf a))) ({back(1)} .{w} .ensures ∙ ap {wd} ({e})))"
                     f"\n    ({r.whole('no', t)})")
         s.fill(need, body, r.unfolded())
@@ -459,10 +475,10 @@ def header(r, body, own):
              "use Rattle.format.specs.Res.Res.{ok, no}",
              "use Rattle.format.specs.Codec.{Codec, dep, dep-ok, dep-no-1, dep-no-2, via-ok, via-no, rest}"]
     blanks = sorted(w for w in words if re.fullmatch(r"(blank|absent)\w+", w))
-    if [b for b in blanks if b not in PARTS_BLANKS]:
-        lines.append("use Rattle.records.specs.Blank.{" + ", ".join(b for b in blanks if b not in PARTS_BLANKS) + "}")
-    if [b for b in blanks if b in PARTS_BLANKS]:
-        lines.append("use Rattle.layout.specs.Parts.{" + ", ".join(b for b in blanks if b in PARTS_BLANKS) + "}")
+    homes = {b: BLANK_HOMES.get(b, "layout.specs.Parts" if b in PARTS_BLANKS else "records.specs.Blank") for b in blanks}
+    for home in ("records.specs.Blank", "layout.specs.Parts", *dict.fromkeys(BLANK_HOMES.values())):
+        if home in homes.values():
+            lines.append(f"use Rattle.{home}.{{" + ", ".join(b for b in blanks if homes[b] == home) + "}")
     for home, names in HOMES.items():
         hit = [x for x in names if x in words]
         if home.endswith(".Reading"):
@@ -685,22 +701,32 @@ def array(size):
 
 def answers():
     """What passes a refusal on: `why..` and `refused..`."""
-    for name in sorted(os.listdir(proofs_of("reading"))):
-        if name.startswith("why"):
-            said = "whyOf" if name == "why" else "why" + "".join(w.capitalize() for w in name[4:].split("_"))
-            refill("reading", name, [PATH, f"use Rattle.layout.specs.Reading.{{{said}}}"], "", {"returns-2": f"sym (ap {said} (c .before .answer .given .1))"})
-        elif name.startswith("refused"):
-            made = [need[:-len("-requires")] for need in Skeleton("reading", name).needs if need.endswith("-requires")]
-            start = back(len(made))
-            uses = [PATH, "use mathlib.Core.Bool.{false}", RESULTS, NUMBER, "use Rattle.format.specs.Copy.{zeros}", "use Rattle.layout.specs.Reading.{outcome}"]
-            if not made:
-                refill("reading", name, uses, "", {"returns": ("refl", "outcome zeros")})
-            elif name == "refused_table_front":
-                value = f"(((tt, {back(1)} .{made[0]} .ensures i), 0), c .{made[1]} .ensures i)"
-                refill("reading", name, uses, "", {"returns": (f"λ i. (no (numberOf ({start} .args .answer)), {value})", "outcome")})
-            else:
-                value = "(false, v)" if "optional" in name else "v"
-                refill("reading", name, uses, "", {"returns": (f"ap (λ v. (no (numberOf ({start} .args .answer)), {value})) (c .{made[0]} .ensures)", "outcome")})
+    for module in ("reading", "bodies"):
+        for name in sorted(os.listdir(proofs_of(module))):
+            if name.startswith("why"):
+                said = "whyOf" if name == "why" else "why" + "".join(w.capitalize() for w in name[4:].split("_"))
+                refill(module, name, [PATH, f"use Rattle.layout.specs.Reading.{{{said}}}"], "", {"returns-2": f"sym (ap {said} (c .before .answer .given .1))"})
+            elif name.startswith("refused"):
+                passed_on(module, name)
+
+
+def passed_on(module, name):
+    """A refusal with its blank, which a call makes, or zeros."""
+    made = [need[:-len("-requires")] for need in Skeleton(module, name).needs if need.endswith("-requires")]
+    said = f"no (numberOf ({back(len(made))} .args .answer))"
+    # the blank step is made as one without a part
+    opened = "outcome blankVoterReplacementStep" if made == ["step-of"] else "outcome"
+    if not made:
+        answer = "refl", "outcome zeros"
+    elif name == "refused_table_front":
+        answer = f"λ i. ({said}, (((tt, {back(1)} .{made[0]} .ensures i), 0), c .{made[1]} .ensures i))", opened
+    else:
+        value = "(false, v)" if "optional" in name else "v"
+        answer = f"ap (λ v. ({said}, {value})) (c .{made[0]} .ensures)", opened
+    refill(module, name, [
+        PATH, "use mathlib.Core.Bool.{false}", RESULTS, NUMBER, "use Rattle.format.specs.Copy.{zeros}", "use Rattle.layout.specs.Reading.{outcome}",
+        "use Rattle.control.specs.Blank.{blankVoterReplacementStep}",
+    ], "", {"returns": answer})
 
 
 TEMPLATES = {

@@ -4,7 +4,7 @@
 -- Assumes nothing.
 use Prim.Native.Nat.{ℕ, zero, suc, _+_, _-_, _^_}
 use mathlib.Core.Bool.{false}
-use mathlib.Core.List.{List, [], _∷_, _++_}
+use mathlib.Core.List.{List, [], _∷_, _++_, flatten}
 use lib.ListN.{replicate}
 use Rattle.identity.specs.Answer.{numberOf}
 use Rattle.format.specs.Res.{andThen}
@@ -12,7 +12,7 @@ use Rattle.format.specs.Codec.{decSeq, decCheck, decMap, gate, dep, check, via,
 use Rattle.format.specs.Num.{uint, raw, decUint, decRaw, val, be, pick}
 use Rattle.format.specs.List.{decVec, encVec, vec, padded, flag, flagTest, opt, either}
 use Rattle.format.specs.Through.{whole}
-use Rattle.identity.specs.Identity.{validateSlotId, validateVoterIncarnation, validateVoterSlotIdentity, newVoterSlotIdentity, identityOf, nodeId, fromNodeId, numberOfNumber, valueOfNumber, numberOfIdentity}
+use Rattle.identity.specs.Identity.{validateSlotId, validateVoterIncarnation, validateVoterSlotIdentity, newVoterSlotIdentity, identityOf, nodeId, fromNodeId, numberOfNumber, valueOfNumber, numberOfIdentity, nextVoterIncarnation}
 use Rattle.identity.specs.Text.{scheme, isIn, startsWith, isName, isUtf8, isSnapshotId, every}
 use Rattle.identity.specs.Utf8.{fits, widthIn, decoded, charsFrom, allChars}
 use Rattle.records.specs.Blank.{blankVoterSlotIdentity, blankSpiffeId, blankSnapshotId, blankVoterSlotLogId, blankOptionalLogId, blankVoterSlotMember, blankVoterReplacementResult, blankVoterSlotRecord, blankVoterSnapshotEvidence, blankVoterConfiguration, blankLostVoterAttestationV1, blankVoterReplacementEvidence, blankVoterReplacementRecord, blankVoterSlotTable}
@@ -22,18 +22,21 @@ use Rattle.records.specs.Records.{voting, pending, allBelow, firstFrom}
 use Rattle.records.specs.Representable.{representableMember, representableResult, representableSlotRecord, representable, isText, representableOptionalLogId, representableConfiguration, representableAttestation, representableEvidence, representableReplacement}
 use Rattle.records.specs.Validation.{validResult, validSlot, validSlots, validity, validate, validConfiguration, validAttestation, validOperationHead, isCurrentEpoch, validOperation, retiredMember, validTarget, validateMember, validateMembers, validateOperation}
 use Rattle.records.specs.declared.records.VoterSlotTable.{VoterSlotTable}
-use Rattle.layout.specs.Format.{table, magicAndVersion, headTest, tableHead, epoch, slotCount, slots, slot, slotMember, identity, slotId, incarnation, binding, choice, result, magic}
-use Rattle.codec.specs.Codec.{decodeVoterSlotTable, tableBytes, encodeVoterSlotTable, restarted, restartOutcome, bounded, decoded as answered}
+use Rattle.layout.specs.Format.{table, magicAndVersion, headTest, tableHead, epoch, slotCount, slots, slot, slotMember, identity, slotId, incarnation, binding, choice, result, magic, configuration, members, member, resultHead, version, claims, claimsEnd, claimsNames, claimsSlot, claimsRequest, times, attestation, spiffeId, snapshotId, string, sized, logId, optionalLogId, snapshot, evidence, threeCuts, change, replacement}
+use Rattle.codec.specs.Codec.{decodeVoterSlotTable, tableBytes, encodeVoterSlotTable, restarted, restartOutcome, bounded, decoded as answered, decodeLostVoterAttestation}
 use Rattle.records.specs.Successor.{resultSucceeds, slotSucceeds, requestSucceeds, ownReceipt, requestEnded, endedSucceeds, replacementSucceeds, headSucceeds, succession, validateSuccessorOf}
 use Rattle.control.specs.Control.{settle, representableStep, representableControl, currentConfiguration, validRequest, requestCheck, isOpenRequest, receiptIndex, knownDigest, repeated, openCheck, isExpected, isCurrent, candidateCheck, fullCheck, beginCheck, begunSlot, begunOperation, begin, recordSnapshot, recordCaughtUp, recordContinuation, fence, finalizedSlot, finalize, isCompleted, takeStep, advanceOpen, advance, marker, decide, applyControl}
 use Rattle.control.specs.Blank.{blankConsensusIdentity, blankVoterReplacementRequest, blankVoterReplacementStep, sameConsensusIdentity, sameVoterReplacementRequest, sameVoterReplacementStep}
 use Rattle.control.specs.Observation.{isRising, allRising, insertId, contains, unionIds, difference, splitSets, total, representableSets, memberIdsBelow, isObsolete, mayLinger, seePredecessor, seeSets, seeFrom, observed, observe, observeMembership}
 use Rattle.control.specs.Retired.{isRetiredIdentity, retiredTest}
 use Rattle.control.specs.Quorum.{countsIn, among, isMajority, isQuorum}
+use Rattle.journal.specs.Records.{sizedBytes, counted, markerBody, noSnapshotPart, snapshotPart, stepBody, advanceBody, anyIdentity, candidate, expected, beginHead, beginBody, nodeIds, nodeSets, observationBody, markOf, knownMark, frame}
+use Rattle.journal.specs.Replay.{markerControl, markerAsked, snapshotIdOf, snapshotOf, stepOf, advanceOf, advanceControl, advanceAsked, beginOf, beginControl, beginAsked, observationAsked, formed, attested, asking, answered as answered-call, called, opened, opening, step, firstEntry, entriesIn, entries, run, ended, decimalIn, decimal, revisionOf, lineOf, lines, replayFrom, replay}
 use Rattle.cases.specs.Row.{Row, Every, every as every-row}
 use Rattle.cases.specs.Row.Row.{is-number, is-yes, is-no}
 use Rattle.cases.specs.Tables.{cut, tableOf}
 use Rattle.cases.specs.Calls.{around, candidateIn, attestedLast}
+use Rattle.cases.specs.LogRows.{replayRows}
 use Rattle.cases.specs.ControlRows.{wholeReplacement, supersession, beginOrder, advanceOrder, observationOrder, invalidTables, retiredRows, quorumRows}
 
 -- ---- what the rows of bytes speak of
@@ -119,10 +122,12 @@ rows =
     ++ invalidTables
     -- the retired test and quorums
     ++ retiredRows
-    ++ quorumRows)
+    ++ quorumRows
+    -- the replay program
+    ++ replayRows)
 
 -- ---- the theorem
 
 pub cases : Every rows
-unfolding validateVoterIncarnation validateVoterSlotIdentity newVoterSlotIdentity nodeId fromNodeId isIn startsWith isName fits widthIn decoded charsFrom allChars eqList allTrue sameVoterSlotIdentity sameSpiffeId sameSnapshotId sameVoterSlotLogId sameOptionalLogId sameVoterSlotMember sameVoterReplacementResult sameVoterSlotRecord sameVoterSnapshotEvidence sameVoterConfiguration sameLostVoterAttestationV1 sameVoterReplacementEvidence sameVoterReplacementRecord blankVoterSlotIdentity blankSpiffeId blankSnapshotId blankVoterSlotLogId blankOptionalLogId blankVoterSlotMember blankVoterReplacementResult blankVoterSlotRecord blankVoterSnapshotEvidence blankVoterConfiguration blankLostVoterAttestationV1 blankVoterReplacementEvidence blankVoterReplacementRecord allBelow representableMember representableResult representableSlotRecord representable follows validResult validSlot validSlots validity validate validateSlotId decodeVoterSlotTable bounded andThen whole pick gate answered tableBytes encodeVoterSlotTable restarted restartOutcome be encVec table magicAndVersion headTest via check dep raw decSeq decCheck decMap decRaw uint held decUint val tableHead epoch slotCount slots slot slotMember identity slotId incarnation binding choice result opt either always flag flagTest padded vec decVec isUtf8 isSnapshotId every blankVoterSlotTable sameVoterSlotTable firstFrom validStage stageOr validStages validBeside validContinuation validEvidence retainsCut retainsMarker retainsCuts retains laterOf latest isText representableOptionalLogId representableConfiguration representableAttestation representableEvidence representableReplacement validConfiguration validAttestation validOperationHead isCurrentEpoch validOperation retiredMember validTarget validateMember validateMembers validateOperation resultSucceeds slotSucceeds requestSucceeds ownReceipt requestEnded endedSucceeds replacementSucceeds headSucceeds succession validateSuccessorOf settle blankConsensusIdentity blankVoterReplacementRequest blankVoterReplacementStep sameConsensusIdentity sameVoterReplacementRequest sameVoterReplacementStep representableStep representableControl currentConfiguration validRequest requestCheck isOpenRequest receiptIndex knownDigest repeated openCheck isExpected isCurrent candidateCheck fullCheck beginCheck begunSlot begunOperation begin recordSnapshot recordCaughtUp recordContinuation fence finalizedSlot finalize isCompleted takeStep advanceOpen advance marker decide applyControl isRising allRising insertId contains unionIds difference splitSets total representableSets memberIdsBelow isObsolete mayLinger seePredecessor seeSets seeFrom observed observe observeMembership isRetiredIdentity retiredTest countsIn among isMajority isQuorum
+unfolding validateVoterIncarnation validateVoterSlotIdentity newVoterSlotIdentity nodeId fromNodeId isIn startsWith isName fits widthIn decoded charsFrom allChars eqList allTrue sameVoterSlotIdentity sameSpiffeId sameSnapshotId sameVoterSlotLogId sameOptionalLogId sameVoterSlotMember sameVoterReplacementResult sameVoterSlotRecord sameVoterSnapshotEvidence sameVoterConfiguration sameLostVoterAttestationV1 sameVoterReplacementEvidence sameVoterReplacementRecord blankVoterSlotIdentity blankSpiffeId blankSnapshotId blankVoterSlotLogId blankOptionalLogId blankVoterSlotMember blankVoterReplacementResult blankVoterSlotRecord blankVoterSnapshotEvidence blankVoterConfiguration blankLostVoterAttestationV1 blankVoterReplacementEvidence blankVoterReplacementRecord allBelow representableMember representableResult representableSlotRecord representable follows validResult validSlot validSlots validity validate validateSlotId decodeVoterSlotTable bounded andThen whole pick gate answered tableBytes encodeVoterSlotTable restarted restartOutcome be encVec table magicAndVersion headTest via check dep raw decSeq decCheck decMap decRaw uint held decUint val tableHead epoch slotCount slots slot slotMember identity slotId incarnation binding choice result opt either always flag flagTest padded vec decVec isUtf8 isSnapshotId every blankVoterSlotTable sameVoterSlotTable firstFrom validStage stageOr validStages validBeside validContinuation validEvidence retainsCut retainsMarker retainsCuts retains laterOf latest isText representableOptionalLogId representableConfiguration representableAttestation representableEvidence representableReplacement validConfiguration validAttestation validOperationHead isCurrentEpoch validOperation retiredMember validTarget validateMember validateMembers validateOperation resultSucceeds slotSucceeds requestSucceeds ownReceipt requestEnded endedSucceeds replacementSucceeds headSucceeds succession validateSuccessorOf settle blankConsensusIdentity blankVoterReplacementRequest blankVoterReplacementStep sameConsensusIdentity sameVoterReplacementRequest sameVoterReplacementStep representableStep representableControl currentConfiguration validRequest requestCheck isOpenRequest receiptIndex knownDigest repeated openCheck isExpected isCurrent candidateCheck fullCheck beginCheck begunSlot begunOperation begin recordSnapshot recordCaughtUp recordContinuation fence finalizedSlot finalize isCompleted takeStep advanceOpen advance marker decide applyControl isRising allRising insertId contains unionIds difference splitSets total representableSets memberIdsBelow isObsolete mayLinger seePredecessor seeSets seeFrom observed observe observeMembership isRetiredIdentity retiredTest countsIn among isMajority isQuorum configuration members member resultHead version claims claimsEnd claimsNames claimsSlot claimsRequest times attestation spiffeId snapshotId string sized logId optionalLogId snapshot evidence threeCuts change replacement decodeLostVoterAttestation nextVoterIncarnation sizedBytes counted markerBody noSnapshotPart snapshotPart stepBody advanceBody anyIdentity candidate expected beginHead beginBody nodeIds nodeSets observationBody markOf knownMark frame markerControl markerAsked snapshotIdOf snapshotOf stepOf advanceOf advanceControl advanceAsked beginOf beginControl beginAsked observationAsked formed attested asking answered-call called opened opening step firstEntry entriesIn entries run ended decimalIn decimal revisionOf lineOf lines replayFrom replay flatten
 cases = every-row rows tt

@@ -1,4 +1,5 @@
 pub mod Calls
+pub mod LogRows
 pub mod Cases
 pub mod ControlRows
 pub mod Order

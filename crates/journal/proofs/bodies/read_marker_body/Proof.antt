@@ -1,0 +1,161 @@
+-- `journal::bodies::read_marker_body` meets its contract: field by field. Written by scripts/readers.py. Assumes nothing.
+use Prim.Native.Nat.{ℕ, _+_}
+use mathlib.Core.List.{List}
+use mathlib.Core.Path.{_≡_, ap, _∙_}
+use native.Mathlib.Nat.{lt-of-le-of-lt}
+use borrow.Author.Needs.{needs}
+use Rattle.format.specs.Res.Res.{ok, no}
+use Rattle.format.specs.Codec.{Codec, dep, dep-ok, dep-no-1, dep-no-2, via-ok, via-no, rest}
+use Rattle.journal.specs.Bodies.{blankMarkerBody}
+use Rattle.format.specs.Copy.{zeros}
+use Rattle.format.specs.Num.{raw}
+use Rattle.layout.specs.Format.{logId}
+use Rattle.layout.specs.Reading.{outcome, logIdRead, whyLogId, whyOf}
+use Rattle.layout.specs.ReadingLaws.{told, told-not, got, outcome-ok, outcome-no}
+use Rattle.identity.specs.Answer.{numberOf}
+use Rattle.journal.specs.Records.{markerBody}
+use Rattle.records.specs.declared.records.VoterSlotLogId.{VoterSlotLogId}
+use Rattle.journal.proofs.bodies.read_marker_body.Statement.{statement}
+use Rattle.journal.proofs.bodies.read_marker_body.Tie as tie
+
+-- after each field: what was read so far, and up to where
+abbrev c1 : Codec (VoterSlotLogId)
+c1 = logId
+
+abbrev c2 : Codec (VoterSlotLogId × List ℕ)
+c2 = dep c1 (λ a. raw 16)
+
+abbrev c3 : Codec ((VoterSlotLogId × List ℕ) × List ℕ)
+c3 = dep c2 (λ a. raw 32)
+
+got-1 : (c : tie.After-known-told) → c1 .dec (c .before .before .before .before .before .args .bytes .now) ≡ ok (c .before .cut-read .given .0 .0) (c .before .cut-read .given .0 .1 .0)
+got-1 c = got logIdRead (c .before .before .before .read-log-id .ensures) (c .before .cut-read .given .1)
+
+got-2 : (c : tie.After-request-id) → c2 .dec (c .before .before .before .before .before .before .before .before .before .before .before .args .bytes .now) ≡ ok (c .before .before .before .before .before .before .before .cut-read .given .0 .0, c .before .before .before .before .read-array16 .result .value) (c .before .before .before .before .before .before .before .cut-read .given .0 .1 .0 + c .before .before .request-id-to .given .0 .0)
+got-2 c = dep-ok _ _ _ (got-1 (c .before .before .before .before .before .before)) (told (zeros 16) _ (c .before .before .before .before .read-array16 .ensures ∙ ap (λ l. outcome (zeros 16) ((raw 16) .dec l)) (rest (c .before .before .before .before .before .before .before .before .before .before .before .args .bytes .now) _)) (c .before .before .request-id-to .given .1))
+
+got-3 : (c : tie.After-request-digest) → c3 .dec (c .before .before .before .before .before .before .before .before .before .before .before .before .before .before .before .before .before .args .bytes .now) ≡ ok ((c .before .before .before .before .before .before .before .before .before .before .before .before .before .cut-read .given .0 .0, c .before .before .before .before .before .before .before .before .before .before .read-array16 .result .value), c .before .before .before .before .read-array32 .result .value) ((c .before .before .before .before .before .before .before .before .before .before .before .before .before .cut-read .given .0 .1 .0 + c .before .before .before .before .before .before .before .before .request-id-to .given .0 .0) + c .before .before .request-digest-to .given .0 .0)
+got-3 c = dep-ok _ _ _ (got-2 (c .before .before .before .before .before .before)) (told (zeros 32) _ (c .before .before .before .before .read-array32 .ensures ∙ ap (λ l. outcome (zeros 32) ((raw 32) .dec l)) (rest (c .before .before .before .before .before .before .before .before .before .before .before .before .before .before .before .before .before .args .bytes .now) _)) (c .before .before .request-digest-to .given .1))
+
+read-log-id-requires : tie.Need-read-log-id-requires
+read-log-id-requires c κs = search needs
+
+enum-known-cut-read : tie.Need-enum-known-cut-read
+enum-known-cut-read c = search needs
+
+enum-told : tie.Need-enum-told
+enum-told c = search needs
+
+why-log-id-requires : tie.Need-why-log-id-requires
+why-log-id-requires c κs = search needs
+
+refused-marker-body-requires : tie.Need-refused-marker-body-requires
+refused-marker-body-requires c κs = search needs
+
+returns : tie.Need-returns
+unfolding markerBody
+returns c =
+    outcome-no _ (c .refused-marker-body .ensures ∙ ap (λ a. outcome blankMarkerBody (no (numberOf a))) (c .before .why-log-id .ensures ∙ ap whyLogId (c .before .before .enum-told .given .1)))
+    (via-no _ _ _ _ _ (dep-no-1 _ _ _ (dep-no-1 _ _ _ (got logIdRead (c .before .before .before .before .read-log-id .ensures) (c .before .before .enum-told .given .1)))))
+
+sub-read-array16 : tie.Need-sub-read-array16
+sub-read-array16 c = c1 .within _ (got-1 c)
+
+part-read-array16-start : tie.Need-part-read-array16-start
+part-read-array16-start c = c1 .within _ (got-1 c)
+
+part-read-array16-end : tie.Need-part-read-array16-end
+part-read-array16-end c = search needs
+
+read-array16-requires : tie.Need-read-array16-requires
+read-array16-requires c κs = search needs
+
+enum-known-request-id-to : tie.Need-enum-known-request-id-to
+enum-known-request-id-to c = search needs
+
+enum-told-2 : tie.Need-enum-told-2
+enum-told-2 c = search needs
+
+why-requires : tie.Need-why-requires
+why-requires c κs = search needs
+
+refused-marker-body-requires-2 : tie.Need-refused-marker-body-requires-2
+refused-marker-body-requires-2 c κs = search needs
+
+returns-2 : tie.Need-returns-2
+unfolding markerBody
+returns-2 c =
+    outcome-no _ (c .refused-marker-body2 .ensures ∙ ap (λ a. outcome blankMarkerBody (no (numberOf a))) (c .before .why .ensures ∙ ap whyOf (c .before .before .enum-told2 .given .1)))
+    (via-no _ _ _ _ _ (dep-no-1 _ _ _ (dep-no-2 _ _ _ (got-1 (c .before .before .before .before .before .before)) (told-not (zeros 16) _ (c .before .before .before .before .read-array16 .ensures ∙ ap (λ l. outcome (zeros 16) ((raw 16) .dec l)) (rest (c .before .before .before .before .before .before .before .before .before .before .before .args .bytes .now) _)) (c .before .before .enum-told2 .given .1)))))
+
+add-at : tie.Need-add-at
+add-at c = record { fits = lt-of-le-of-lt (c2 .within _ (got-2 c)) (c .before .before .before .before .before .before .before .before .before .before .before .good .0 .0) }
+
+sub-read-array32 : tie.Need-sub-read-array32
+sub-read-array32 c = c2 .within _ (got-2 c)
+
+part-read-array32-start : tie.Need-part-read-array32-start
+part-read-array32-start c = c2 .within _ (got-2 c)
+
+part-read-array32-end : tie.Need-part-read-array32-end
+part-read-array32-end c = search needs
+
+read-array32-requires : tie.Need-read-array32-requires
+read-array32-requires c κs = search needs
+
+enum-known-request-digest-to : tie.Need-enum-known-request-digest-to
+enum-known-request-digest-to c = search needs
+
+enum-told-3 : tie.Need-enum-told-3
+enum-told-3 c = search needs
+
+why-requires-2 : tie.Need-why-requires-2
+why-requires-2 c κs = search needs
+
+refused-marker-body-requires-3 : tie.Need-refused-marker-body-requires-3
+refused-marker-body-requires-3 c κs = search needs
+
+returns-3 : tie.Need-returns-3
+unfolding markerBody
+returns-3 c =
+    outcome-no _ (c .refused-marker-body3 .ensures ∙ ap (λ a. outcome blankMarkerBody (no (numberOf a))) (c .before .why2 .ensures ∙ ap whyOf (c .before .before .enum-told3 .given .1)))
+    (via-no _ _ _ _ _ (dep-no-2 _ _ _ (got-2 (c .before .before .before .before .before .before)) (told-not (zeros 32) _ (c .before .before .before .before .read-array32 .ensures ∙ ap (λ l. outcome (zeros 32) ((raw 32) .dec l)) (rest (c .before .before .before .before .before .before .before .before .before .before .before .before .before .before .before .before .before .args .bytes .now) _)) (c .before .before .enum-told3 .given .1))))
+
+add-t16 : tie.Need-add-t16
+add-t16 c = record { fits = lt-of-le-of-lt (c3 .within _ (got-3 (c))) (c .before .before .before .before .before .before .before .before .before .before .before .before .before .before .before .before .before .good .0 .0) }
+
+returns-4 : tie.Need-returns-4
+unfolding markerBody
+returns-4 c = outcome-ok _ (via-ok _ _ _ _ _ (got-3 (c)))
+
+pub read-marker-body-spec : {M : Type 1} → statement M
+read-marker-body-spec =
+    tie.close
+    (tie.spec
+    read-log-id-requires
+    enum-known-cut-read
+    enum-told
+    why-log-id-requires
+    refused-marker-body-requires
+    returns
+    sub-read-array16
+    part-read-array16-start
+    part-read-array16-end
+    read-array16-requires
+    enum-known-request-id-to
+    enum-told-2
+    why-requires
+    refused-marker-body-requires-2
+    returns-2
+    add-at
+    sub-read-array32
+    part-read-array32-start
+    part-read-array32-end
+    read-array32-requires
+    enum-known-request-digest-to
+    enum-told-3
+    why-requires-2
+    refused-marker-body-requires-3
+    returns-3
+    add-t16
+    returns-4)

@@ -1,0 +1,17 @@
+pub mod Records
+pub mod Replay
+pub mod RunHistory
+pub mod Bodies
+pub mod SetBody
+pub mod Step
+pub mod Play
+pub mod ReplayLaws
+pub mod RefusalLaws
+pub mod BodiesLaws
+pub mod RecordLaws
+pub mod SetBodyLaws
+pub mod TextLaws
+pub mod RunHistoryLaws
+pub mod BodyLaws
+pub mod StepLaws
+pub mod PlayLaws

@@ -1,0 +1,151 @@
+-- A record at a valid table, judged before anything is made: `called` of Replay in the two steps of the code. That both give the same is proved (StepLaws).
+-- From document 01, section "Replay program": 33; the attestation reader's number; 30; 31; the call.
+-- Assumes nothing.
+use Prim.Native.Nat.{ℕ}
+use mathlib.Core.Path.{_≡_}
+use mathlib.Core.Bool.{Bool, true, false, cond}
+use mathlib.Core.List.{List}
+use Rattle.identity.specs.Answer.{numberOf}
+use Rattle.identity.specs.declared.answer.Answer.{Answer}
+use Rattle.identity.specs.declared.answer.Answer.the-variants.{Accepted, BadRecord, InvalidTransition, Unrepresentable}
+use Rattle.format.specs.Res.{Res}
+use Rattle.format.specs.Res.Res.{ok, no}
+use Rattle.layout.specs.Format.{logId}
+use Rattle.records.specs.Blank.{blankVoterSlotLogId}
+use Rattle.records.specs.Evidence.{validLogId}
+use Rattle.records.specs.Validation.{validate}
+use Rattle.records.specs.declared.records.VoterSlotLogId.{VoterSlotLogId}
+use Rattle.records.specs.declared.records.VoterSlotTable.{VoterSlotTable}
+use Rattle.control.specs.declared.begin.VoterBegin.{VoterBegin}
+use Rattle.control.specs.declared.control.VoterSlotControl.{VoterSlotControl}
+use Rattle.control.specs.Control.{representableRequest}
+use Rattle.control.specs.Judgement.{Addition, Move, Verdict, added, judgeBegin, made}
+use Rattle.control.specs.Judgement.Move.{begins, recordsSnapshot, recordsCaughtUp, continues, fences, finalizes}
+use Rattle.control.specs.Judgement.Verdict.{kept, moves}
+use Rattle.control.specs.Judgement.Verdict.{refused as refuses}
+use Rattle.control.specs.ObserveSight.{answerOfObserved, verdictOfObserved, weighed}
+use Rattle.control.specs.Verdicts.{answerOf, entryVerdict, verdictOf}
+use Rattle.journal.specs.declared.bodies.Asks.{Asks}
+use Rattle.journal.specs.declared.bodies.Asks.the-variants.{Bad, Refused, Begin}
+use Rattle.journal.specs.declared.replay.Mark.{Mark}
+use Rattle.journal.specs.declared.replay.Mark.the-variants.{Ad, Bg, Ob}
+use Rattle.journal.specs.declared.step.Called.{Called}
+use Rattle.journal.specs.declared.step.Called.the-variants.{Command, Observation}
+use Rattle.journal.specs.Bodies.{blankMarkerBody}
+use Rattle.journal.specs.Replay.{Asking, Standing, asking, badRecord, markerControl}
+use Rattle.journal.specs.Replay.Asked.{command, observation}
+use Rattle.journal.specs.Replay.Asking.{bad, refused, asks}
+use Rattle.journal.specs.Replay.Standing.{absent, stands}
+
+-- a verdict with document 01's number in place of the answer
+pub data Numbered (M : Type 0) : Type 0 where
+  refusedBy : ℕ → Numbered M
+  keeps : Numbered M
+  movesBy : M → Numbered M
+
+abbrev pub numbered : {M : Type 0} → Verdict M → Numbered M
+numbered (refuses answer) = refusedBy (numberOf answer)
+numbered kept = keeps
+numbered (moves m) = movesBy m
+
+-- a body that asks for a command: 33, the reader's number, or the verdict of the entry point
+unfoldable pub commandVerdict : VoterSlotTable → Asking → Numbered Move
+commandVerdict t bad = refusedBy badRecord
+commandVerdict t (refused number) = refusedBy number
+commandVerdict t (asks (command c cut)) = numbered (entryVerdict t c cut)
+commandVerdict t (asks (observation ids counts nodes cut)) = refusedBy badRecord
+
+-- a body that asks for an observation
+unfoldable pub observationVerdict : VoterSlotTable → Asking → Numbered Addition
+observationVerdict t bad = refusedBy badRecord
+observationVerdict t (refused number) = refusedBy number
+observationVerdict t (asks (command c cut)) = refusedBy badRecord
+observationVerdict t (asks (observation ids counts nodes cut)) = numbered (weighed t ids counts nodes cut)
+
+-- the tests of the entry point on a valid table: 30, and 25 for a zero in the cut
+abbrev pub checkedCall : Bool → VoterSlotLogId → Verdict Move → Verdict Move
+checkedCall fits cut v = cond fits (cond (validLogId cut) v (refuses InvalidTransition)) (refuses Unrepresentable)
+
+-- a BG by what its reader says: 33, the reader's number, or the verdict
+abbrev pub beginVerdict : VoterSlotTable → Asks → VoterBegin → Verdict Move
+beginVerdict t Bad b = refuses BadRecord
+beginVerdict t (Refused answer) b = refuses answer
+beginVerdict t Begin b = checkedCall (representableRequest (b .request)) (b .cut) (judgeBegin t (b .request) (b .cut))
+
+-- ---- what was judged
+
+abbrev pub answerOfCalled : Called → Answer
+answerOfCalled (Command judged) = answerOf (verdictOf judged)
+answerOfCalled (Observation observed) = answerOfObserved (verdictOfObserved observed)
+
+-- it was judged of this body, under this mark
+abbrev pub Judges : VoterSlotTable → Mark → List ℕ → Called → Type 0
+Judges t mark body (Command judged) = (mark ≡ Ob → ⊥) × (numbered (verdictOf judged) ≡ commandVerdict t (asking mark body))
+Judges t mark body (Observation observed) = (mark ≡ Ob) × (numbered (verdictOfObserved observed) ≡ observationVerdict t (asking Ob body))
+
+-- ---- what is made
+
+-- the cut that a body begins with
+unfoldable pub cutBy : Res VoterSlotLogId → VoterSlotLogId
+cutBy (ok cut n) = cut
+cutBy (no k) = blankVoterSlotLogId
+
+abbrev pub cutAt : List ℕ → VoterSlotLogId
+cutAt body = cutBy (logId .dec body)
+
+-- a table that stands is valid
+abbrev pub ValidStanding : Standing → Type 0
+ValidStanding absent = Unit {0}
+ValidStanding (stands t) = validate t ≡ Accepted
+
+-- the command of a body; of one that asks for none, which nobody makes, any
+abbrev pub commandIn : Asking → VoterSlotControl × VoterSlotLogId
+commandIn bad = (markerControl blankMarkerBody, blankVoterSlotLogId)
+commandIn (refused number) = (markerControl blankMarkerBody, blankVoterSlotLogId)
+commandIn (asks (command c cut)) = (c, cut)
+commandIn (asks (observation ids counts nodes cut)) = (markerControl blankMarkerBody, cut)
+
+-- the mark of the body that a change is read from again
+abbrev pub markOfMove : Move → Mark
+markOfMove begins = Bg
+markOfMove recordsSnapshot = Ad
+markOfMove recordsCaughtUp = Ad
+markOfMove continues = Ad
+markOfMove fences = Ad
+markOfMove finalizes = Ad
+
+unfoldable pub madeByCommand : VoterSlotTable → List ℕ → Verdict Move → VoterSlotTable
+madeByCommand t body (refuses answer) = t
+madeByCommand t body kept = t
+madeByCommand t body (moves m) = made t (commandIn (asking (markOfMove m) body) .0) (commandIn (asking (markOfMove m) body) .1) m
+
+unfoldable pub madeByObservation : VoterSlotTable → List ℕ → Verdict Addition → VoterSlotTable
+madeByObservation t body (refuses answer) = t
+madeByObservation t body kept = t
+madeByObservation t body (moves m) = added t (commandIn (asking Ob body) .1) m
+
+-- the table afterwards
+abbrev pub madeBy : VoterSlotTable → List ℕ → Called → VoterSlotTable
+madeBy t body (Command judged) = madeByCommand t body (verdictOf judged)
+madeBy t body (Observation observed) = madeByObservation t body (verdictOfObserved observed)
+
+-- a change that is made was judged of the body that it is read from
+abbrev pub MakesCommand : VoterSlotTable → List ℕ → Verdict Move → Type 0
+MakesCommand t body v = (m : Move) → v ≡ moves m → commandVerdict t (asking (markOfMove m) body) ≡ movesBy m
+
+abbrev pub MakesObservation : VoterSlotTable → List ℕ → Verdict Addition → Type 0
+MakesObservation t body v = (m : Addition) → v ≡ moves m → observationVerdict t (asking Ob body) ≡ movesBy m
+
+abbrev pub Makes : VoterSlotTable → List ℕ → Called → Type 0
+Makes t body (Command judged) = MakesCommand t body (verdictOf judged)
+Makes t body (Observation observed) = MakesObservation t body (verdictOfObserved observed)
+
+-- whether the table changes
+abbrev pub isMade : {M : Type 0} → Verdict M → Bool
+isMade (refuses answer) = false
+isMade kept = false
+isMade (moves m) = true
+
+abbrev pub changes : Called → Bool
+changes (Command judged) = isMade (verdictOf judged)
+changes (Observation observed) = isMade (verdictOfObserved observed)

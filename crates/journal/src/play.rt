@@ -1,0 +1,311 @@
+// A log played: records from a lent slice, from any table or none, and a line for each.
+//
+// Document 01, section "Replay program". No part of the original has it.
+ghost use Prim.Native.Nat.{_+_, _*_, _-_, _/_, _<_, _≤_, min};
+ghost use mathlib.Core.Bool.{cond, false, true};
+ghost use mathlib.Core.Path.{_≡_};
+ghost use lib.ListN.{length};
+ghost use Rattle.identity.specs.declared.answer.Answer.the-variants.{Accepted, BadRecord};
+ghost use Rattle.records.specs.Blank.{blankVoterSlotTable};
+ghost use Rattle.records.specs.Validation.{validate};
+ghost use Rattle.control.specs.Control.{full};
+ghost use Rattle.journal.specs.Play.{Goes, PutTurn, Safe, brings, longestLine, openedTo, playOf, playedTo, readyOf, standing, startAnswer, startPlace, turnsAfter};
+ghost use Rattle.journal.specs.Replay.{opening};
+ghost use Rattle.journal.specs.RunHistory.{LineOfRun};
+ghost use Rattle.journal.specs.Step.{ValidStanding};
+use crate::line::LONGEST_LINE;
+use crate::line::put_line;
+use crate::record::Record;
+use crate::record::record_at;
+use crate::replay::Mark;
+use crate::step::Called;
+use crate::step::answer_of_called;
+use crate::step::is_change;
+use crate::step::judge_advance_body;
+use crate::step::judge_begin_body;
+use crate::step::judge_marker_body;
+use crate::step::judge_observation_body;
+use crate::step::make_record;
+use codec::codec::DecodedTable;
+use codec::codec::decode_voter_slot_table;
+use control::judge::Judged;
+use identity::answer::Answer;
+use identity::answer::accepted;
+use records::blank::blank_voter_slot_table;
+use records::records::VoterSlotTable;
+use records::validation::validate_table;
+
+// Where a log stands: the table, if one stands; how many records were read; and whether a record has
+// ended the reading.
+pub struct Journal {
+    pub stands: bool,
+    pub count: u64,
+    pub ended: bool,
+    pub table: VoterSlotTable,
+}
+
+// How many bytes were read and written, and where the log stands then. A start whose table is not valid
+// is refused, and nothing is played.
+pub struct Played {
+    pub answer: Answer,
+    pub read: usize,
+    pub written: usize,
+    pub journal: Journal,
+}
+
+// How far the bytes were read and the lines written, how many records were read, how many more may be,
+// and whether one of them has ended the reading.
+struct Place {
+    read: usize,
+    written: usize,
+    count: u64,
+    turns: u64,
+    ended: bool,
+}
+
+// A place, and the table, if one stands.
+struct Opened {
+    place: Place,
+    stands: bool,
+    table: VoterSlotTable,
+}
+
+// No table, and nothing read.
+pub fn new_journal() -> Journal {
+    let table = blank_voter_slot_table();
+    Journal {
+        stands: false,
+        count: 0,
+        ended: false,
+        table,
+    }
+}
+
+// Plays the records that the bytes hold, as many as there is room for: a line has room where 66 bytes
+// are left. `last`: no bytes come after these, so that a record that is cut short ends the reading.
+// The second clause: the tables that the records go through are a line of history.
+pub fn play(from: Journal, input: &[u8], last: bool, out: &mut [u8]) -> Played
+    ensures played { λ r. ⌜ ((r .answer, (r .read, (r .written, r .journal))), now (out .exit)) ≡ playOf from (now (input .entry)) last (now (out .entry)) ⌝ }
+    ensures line { λ _. ⌜ (from .stands ≡ true → validate (from .table) ≡ Accepted → LineOfRun (from .table) (readyOf from (now (input .entry)) last (now (out .entry)))) ⌝ }
+{
+    let table = from.table;
+    let answer = start_answer(from.stands, table);
+    let start = start_place(answer, from, out.len());
+    let mut opened = Opened {
+        place: start,
+        stands: from.stands,
+        table,
+    };
+    if !opened.stands {
+        opened = open_log(opened, input, last, out);
+    }
+    if opened.stands {
+        opened = play_on(opened, input, last, out);
+    }
+    played_to(answer, opened)
+}
+
+// With no table: each record gets its line, until a TB brings one.
+fn open_log(from: Opened, input: &[u8], last: bool, out: &mut [u8]) -> Opened
+    requires { ⌜ Safe (now input) (length (now out)) from × (from .stands ≡ false) ⌝ }
+    ensures { λ r. ⌜ Goes (now (input .entry)) last from (now (out .entry)) r (now (out .exit)) × (Safe (now (input .entry)) (length (now (out .exit))) r × (r .stands ≡ false → r .place .turns ≡ 0)) ⌝ }
+{
+    let mut place = from.place;
+    let mut table = from.table;
+    let mut stands = false;
+    while (0 < place.turns) & !stands {
+        let found = record_at(input, place.read, last);
+        let asks = found.asks;
+        let begin = found.body;
+        let end = found.end;
+        let opened = open_record(asks, &input[begin..end]);
+        let answer = opened.answer;
+        stands = 0 < opened.table.count;
+        if stands {
+            table = opened.table;
+        }
+        let revision = revision_of(stands, table.revision);
+        place = put_turn(out, place, found, answer, revision);
+    }
+    Opened {
+        place,
+        stands,
+        table,
+    }
+}
+
+// With a table: each record is a call on it, or a bad record.
+fn play_on(from: Opened, input: &[u8], last: bool, out: &mut [u8]) -> Opened
+    requires { ⌜ Safe (now input) (length (now out)) from × (from .stands ≡ true) ⌝ }
+    ensures { λ r. ⌜ Goes (now (input .entry)) last from (now (out .entry)) r (now (out .exit)) × (r .place .turns ≡ 0) ⌝ }
+{
+    let mut ids = no_ids();
+    let mut counts = no_counts();
+    let mut place = from.place;
+    let mut table = from.table;
+    while 0 < place.turns {
+        let found = record_at(input, place.read, last);
+        let asks = found.asks;
+        let begin = found.body;
+        let end = found.end;
+        let body = &input[begin..end];
+        let called = match asks {
+            Mark::Mk => Called::Command(judge_marker_body(table, body)),
+            Mark::Ad => Called::Command(judge_advance_body(table, body)),
+            Mark::Bg => Called::Command(judge_begin_body(table, body)),
+            Mark::Ob => {
+                Called::Observation(judge_observation_body(table, body, &mut ids, &mut counts))
+            }
+            Mark::Tb => Called::Command(Judged::Refuse(Answer::BadRecord)),
+            Mark::Unknown => Called::Command(Judged::Refuse(Answer::BadRecord)),
+        };
+        if is_change(called) {
+            table = make_record(table, body, called);
+        }
+        let answer = answer_of_called(called);
+        place = put_turn(out, place, found, answer, table.revision);
+    }
+    Opened {
+        place,
+        stands: true,
+        table,
+    }
+}
+
+// Places for the ids and the counts of an observation. Nobody reads what they hold at first.
+fn no_ids() -> [u64; 8192] {
+    [0; 8192]
+}
+
+fn no_counts() -> [usize; 255] {
+    [0; 255]
+}
+
+// The line of a record, where there is one, and the place after it.
+fn put_turn(out: &mut [u8], place: Place, found: Record, answer: Answer, revision: u64) -> Place
+    requires { ⌜ (0 < place .turns) × ((place .written + longestLine * place .turns ≤ length (now out)) × (place .count + place .turns ≤ full)) ⌝ }
+    ensures { λ r. ⌜ PutTurn place found answer revision (now (out .entry)) (now (out .exit)) r ⌝ }
+{
+    if found.end == place.read {
+        return Place {
+            read: place.read,
+            written: place.written,
+            count: place.count,
+            turns: 0,
+            ended: place.ended,
+        };
+    }
+    let mark = found.mark;
+    let count = place.count + 1;
+    let written = put_line(out, place.written, count, mark, answer, revision);
+    let turns = turns_after(place.turns, found.ends);
+    Place {
+        read: found.end,
+        written,
+        count,
+        turns,
+        ended: place.ended | found.ends,
+    }
+}
+
+fn turns_after(turns: u64, ends: bool) -> u64
+    requires { ⌜ 0 < turns ⌝ }
+    ensures { λ r. ⌜ r ≡ turnsAfter turns ends ⌝ }
+{
+    if ends {
+        return 0;
+    }
+    turns - 1
+}
+
+// A record with no table: a TB is read, and any other is a bad record. A table that was read has slots,
+// and the blank one of a refusal has none.
+fn open_record(asks: Mark, body: &[u8]) -> DecodedTable
+    ensures { λ r. ⌜ (openedTo (r .answer) (r .table) ≡ opening asks (now (body .entry))) × ValidStanding (standing (brings (r .table)) (r .table)) ⌝ }
+{
+    match asks {
+        Mark::Tb => decode_voter_slot_table(body),
+        Mark::Mk => bad_record(),
+        Mark::Ad => bad_record(),
+        Mark::Bg => bad_record(),
+        Mark::Ob => bad_record(),
+        Mark::Unknown => bad_record(),
+    }
+}
+
+fn bad_record() -> DecodedTable
+    ensures { λ r. ⌜ (r .answer ≡ BadRecord) × (r .table ≡ blankVoterSlotTable) ⌝ }
+{
+    let table = blank_voter_slot_table();
+    DecodedTable {
+        answer: Answer::BadRecord,
+        table,
+    }
+}
+
+// Validity's number of a start with a table.
+fn start_answer(stands: bool, table: VoterSlotTable) -> Answer
+    ensures { λ r. ⌜ r ≡ startAnswer stands table ⌝ }
+{
+    if stands {
+        return validate_table(table);
+    }
+    Answer::Accepted
+}
+
+// Nothing is read yet. There are as many turns as lines have room, and the count of records too.
+fn start_place(answer: Answer, from: Journal, room: usize) -> Place
+    ensures { λ r. ⌜ (r ≡ startPlace answer from room) × (from .count ≤ full) ⌝ }
+{
+    let count = from.count;
+    let turns = start_turns(from.ended | !accepted(answer), count, room);
+    Place {
+        read: 0,
+        written: 0,
+        count,
+        turns,
+        ended: from.ended,
+    }
+}
+
+fn start_turns(stops: bool, count: u64, room: usize) -> u64
+    ensures { λ r. ⌜ (r ≡ cond stops 0 (min (room / longestLine) (full - count))) × (count ≤ full) ⌝ }
+{
+    let lines = (room / LONGEST_LINE) as u64;
+    let counts = u64::MAX - count;
+    if stops {
+        return 0;
+    }
+    if counts < lines {
+        return counts;
+    }
+    lines
+}
+
+// "revision afterwards (0 if no table)"
+fn revision_of(stands: bool, revision: u64) -> u64
+    ensures { λ r. ⌜ r ≡ cond stands revision 0 ⌝ }
+{
+    if stands {
+        return revision;
+    }
+    0
+}
+
+fn played_to(answer: Answer, to: Opened) -> Played
+    ensures { λ r. ⌜ (r .answer, (r .read, (r .written, r .journal))) ≡ playedTo answer to ⌝ }
+{
+    let table = to.table;
+    let journal = Journal {
+        stands: to.stands,
+        count: to.place.count,
+        ended: to.place.ended,
+        table,
+    };
+    Played {
+        answer,
+        read: to.place.read,
+        written: to.place.written,
+        journal,
+    }
+}
