@@ -4,15 +4,28 @@
 // the crate `journal`, which is proved; this program moves the bytes. It reads what there is, plays
 // the whole records in it, and writes what is due before it reads again, so that it works through a
 // pipe by hand. Memory is constant: the buffers below hold the longest record.
+ghost use Prim.Native.Nat.{_+_, _≤_};
+ghost use mathlib.Core.Path.{_≡_};
+ghost use lib.ListN.{length};
+ghost use Rattle.journal.specs.Play.{playOf};
 use journal::play::Journal;
+use journal::play::Played;
 use journal::play::new_journal;
 use journal::play::play;
 
-// The bytes that are read and not played yet lie from `start` to `held`; `last`: no more will come.
+// The bytes that are read and not played yet lie from `start` to `held`; `last`: no more will come;
+// `failed`: a read failed, so that what is cut short by it is not played.
 struct Input {
     start: usize,
     held: usize,
     last: bool,
+    failed: bool,
+}
+
+// How many bytes a read brought, and whether it failed.
+struct Got {
+    more: usize,
+    failed: bool,
 }
 
 fn main() {
@@ -32,43 +45,83 @@ fn run(input: &mut [u8; 131072], output: &mut [u8; 65536]) {
         start: 0,
         held: 0,
         last: false,
+        failed: false,
     };
     let mut turns = u64::MAX;
     while 0 < turns {
-        let start = at.start;
-        let held = at.held;
-        let played = play(journal, &input[start..held], at.last, output);
-        let written = played.written;
-        if !io::write_all(1, &output[..written]) {
+        let played = play_part(journal, input, at, output);
+        if !write_part(output, played.written) {
             break;
         }
         journal = played.journal;
-        at.start = start + played.read;
+        at.start = at.start + played.read;
         if journal.ended | (at.last & (played.read == 0)) {
             break;
         }
         if played.read == 0 {
             at = refill(input, at);
         }
+        if at.failed {
+            break;
+        }
         turns -= 1;
     }
 }
 
-// Moves what is left to the front, and reads once. A read that fails ends the input: what is cut short
-// by it is not played.
-fn refill(input: &mut [u8; 131072], at: Input) -> Input {
+fn play_part(journal: Journal, input: &[u8], at: Input, output: &mut [u8]) -> Played
+    requires { ⌜ (at .start ≤ at .held) × (at .held ≤ length (now input)) ⌝ }
+    ensures { λ r. ⌜ (at .start + r .read ≤ at .held) × (r .written ≤ length (now (output .exit))) ⌝ }
+{
+    let start = at.start;
+    let held = at.held;
+    play(journal, &input[start..held], at.last, output)
+}
+
+// A closed or full output ends the program, quietly.
+fn write_part(output: &[u8], written: usize) -> bool
+    requires { ⌜ written ≤ length (now output) ⌝ }
+{
+    io::write_all(1, &output[..written])
+}
+
+// Moves what is left to the front, and reads once. A read that is interrupted brings nothing, and is
+// tried again after a turn in which nothing is ready.
+fn refill(input: &mut [u8; 131072], at: Input) -> Input
+    requires { ⌜ (at .start ≤ at .held) × (at .held ≤ 131072) ⌝ }
+    ensures { λ r. ⌜ (r .start ≤ r .held) × (r .held ≤ 131072) ⌝ }
+{
     let held = shift(input, at.start, at.held);
-    let got = libc::read(0, &mut input[held..]);
-    let more = io::count(got, &input[held..]);
+    let got = read_more(input, held);
+    let interrupted = got.failed & (os::errno() == libc::EINTR);
+    let failed = got.failed & !interrupted;
+    if failed {
+        os::fail(b"replay: standard input");
+    }
     Input {
         start: 0,
-        held: held + more,
-        last: more == 0,
+        held: held + got.more,
+        last: (got.more == 0) & !got.failed,
+        failed,
+    }
+}
+
+fn read_more(input: &mut [u8], held: usize) -> Got
+    requires { ⌜ held ≤ length (now input) ⌝ }
+    ensures { λ r. ⌜ held + r .more ≤ length (now (input .exit)) ⌝ }
+{
+    let got = libc::read(0, &mut input[held..]);
+    let more = io::count(got, &input[held..]);
+    Got {
+        more,
+        failed: got < 0,
     }
 }
 
 // The bytes from start to end, at the front: how many.
-fn shift(input: &mut [u8; 131072], start: usize, end: usize) -> usize {
+fn shift(input: &mut [u8; 131072], start: usize, end: usize) -> usize
+    requires { ⌜ (start ≤ end) × (end ≤ 131072) ⌝ }
+    ensures { λ r. ⌜ r ≤ 131072 ⌝ }
+{
     let mut from = start;
     let mut to = 0;
     while from < end {
