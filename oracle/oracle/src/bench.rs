@@ -99,7 +99,7 @@ fn measured(subjects: &[Box<dyn Subject>], task: &Task) -> String {
             times.extend(subject.batch(task));
         }
     }
-    let medians: Vec<Option<f64>> = times.iter_mut().map(|times| median(times)).collect();
+    let medians: Vec<Option<f64>> = times.iter_mut().map(|times| median(times, CALLS)).collect();
     let slots = task.table.slots.len();
     let mut line = format!("{:<22}{slots:>6}  {:<26}", task.name, task.state);
     for median in &medians {
@@ -116,10 +116,10 @@ fn measured(subjects: &[Box<dyn Subject>], task: &Task) -> String {
 }
 
 /// Of one call; none where the subject has no such call.
-fn median(times: &mut [u128]) -> Option<f64> {
+pub fn median(times: &mut [u128], calls: usize) -> Option<f64> {
     times.sort_unstable();
     let middle = times.get(times.len() / 2)?;
-    Some(*middle as f64 / CALLS as f64)
+    Some(*middle as f64 / calls as f64)
 }
 
 /// What the size of the port's value costs, whatever its table.

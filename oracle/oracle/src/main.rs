@@ -5,6 +5,8 @@ mod answer;
 mod bench;
 mod bench_control;
 mod bench_logs;
+#[cfg(feature = "service")]
+mod bench_service;
 mod call;
 mod cases;
 mod compare;
@@ -37,6 +39,7 @@ use std::process::ExitCode;
 const USAGE: &str = "usage:
   oracle replay < log > lines
   oracle phases < log
+  oracle tables < log > tables
   oracle cases < questions > answers
   oracle fixed > questions
   oracle generate SEED COUNT KIND > questions-or-log
@@ -51,6 +54,7 @@ const USAGE: &str = "usage:
   oracle bench-control SUPPORT LIBRARY...
   oracle once-control SUPPORT LIBRARY
   oracle bench-log KIND COUNT > log
+  oracle bench-service
 kinds:";
 
 fn main() -> ExitCode {
@@ -70,6 +74,7 @@ fn run(words: &[&str]) -> Result<ExitCode, String> {
         ["cases"] => print(cases::answers(&input()?).as_bytes()),
         ["replay"] => print(replay::lines(&input()?).as_bytes()),
         ["phases"] => print(replay::phases(&input()?).as_bytes()),
+        ["tables"] => print(replay::tables(&input()?).as_bytes()),
         ["fixed"] => print(&fixed::questions()),
         ["histogram"] => print(histogram::histogram(&text_input()?).as_bytes()),
         ["show"] => print(show::file(&input()?).as_bytes()),
@@ -106,6 +111,11 @@ fn run(words: &[&str]) -> Result<ExitCode, String> {
             print(format!("{line}\n").as_bytes()).map(drop)
         })
         .map(|()| ExitCode::SUCCESS),
+        #[cfg(feature = "service")]
+        ["bench-service"] => {
+            bench_service::run(|line| print(format!("{line}\n").as_bytes()).map(drop))
+                .map(|()| ExitCode::SUCCESS)
+        }
         _ => Err(format!("{USAGE}{}", kinds())),
     }
 }

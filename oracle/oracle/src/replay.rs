@@ -1,7 +1,7 @@
 //! `oracle replay`: document 01's replay program, decided by the original functions.
 //! One record's order: 33, the reader's number, 30, 31, the original.
 
-use original::{decode_voter_slot_table, VoterSlotTable};
+use original::{decode_voter_slot_table, encode_voter_slot_table, VoterSlotTable};
 
 use crate::answer::{self, ACCEPTED, BAD_FORM};
 use crate::call;
@@ -62,6 +62,29 @@ fn rows(log: &[u8], row: impl Fn(Option<Mark>, u8, &Run) -> String) -> String {
     rows
 }
 
+/// The tables of a whole run: a line for each record, with its number, mark, answer and the bytes of
+/// the table afterwards, in hex; `-` where none stands, `=` where they are those of the line before.
+pub fn tables(log: &[u8]) -> String {
+    let mut lines = String::new();
+    let mut run = Run::default();
+    let mut before = None;
+    for (index, item) in items(log).into_iter().enumerate() {
+        let (mark, answer) = match item {
+            Item::Whole(mark, body) => (Some(mark), run.step(mark, body)),
+            Item::Bad(mark) => (mark, BAD_FORM),
+        };
+        let bytes = run.bytes();
+        let shown = match &bytes {
+            None => "-".to_owned(),
+            Some(_) if bytes == before => "=".to_owned(),
+            Some(bytes) => bytes.iter().map(|byte| format!("{byte:02x}")).collect(),
+        };
+        lines += &format!("{} {} {answer} {shown}\n", index + 1, mark_text(mark));
+        before = bytes;
+    }
+    lines
+}
+
 fn mark_text(mark: Option<Mark>) -> String {
     mark.map_or("??".to_owned(), |mark| {
         String::from_utf8_lossy(&mark).into_owned()
@@ -100,6 +123,12 @@ impl Run {
             }
             Err(error) => answer::of_slot_error(error),
         }
+    }
+
+    /// The bytes of the table, as the original writes them. What stands is valid.
+    fn bytes(&self) -> Option<Vec<u8>> {
+        let table = self.table.as_ref()?;
+        Some(encode_voter_slot_table(table).expect("a table that stands is valid"))
     }
 
     pub fn revision(&self) -> u64 {

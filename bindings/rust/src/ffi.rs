@@ -1,0 +1,88 @@
+//! The functions of the archive, made safe. All of the crate's `unsafe` is here.
+
+/// What a call gives; see `voter_slots_result` in `bindings/c/voter_slots.h`.
+#[derive(Clone, Copy, Debug, PartialEq, Eq)]
+#[repr(C)]
+pub(crate) struct Outcome {
+    pub answer: u32,
+    pub slots: u32,
+    pub count: u64,
+    pub revision: u64,
+    pub epoch: u64,
+    pub open_slot: u32,
+    pub open_phase: u32,
+}
+
+/// The answers of the retired test that are no refusals.
+pub(crate) const NOT_RETIRED: u32 = 100;
+pub(crate) const RETIRED: u32 = 101;
+
+extern "C" {
+    fn voter_slots_read(table: *const u8, table_len: usize) -> Outcome;
+    fn voter_slots_write(
+        table: *const u8,
+        table_len: usize,
+        out: *mut u8,
+        out_len: usize,
+    ) -> Outcome;
+    fn voter_slots_apply(
+        table: *const u8,
+        table_len: usize,
+        mark: u32,
+        body: *const u8,
+        body_len: usize,
+        out: *mut u8,
+        out_len: usize,
+    ) -> Outcome;
+    fn voter_slots_observe(
+        table: *const u8,
+        table_len: usize,
+        body: *const u8,
+        body_len: usize,
+        out: *mut u8,
+        out_len: usize,
+    ) -> Outcome;
+    fn voter_slots_retired(table: *const u8, table_len: usize, node: u64) -> u32;
+}
+
+// SAFETY, of each call: every pointer and length is that of a slice that lives throughout it, and the
+// slice that is written is borrowed `&mut`, so that it overlaps no other. The archive keeps no pointer.
+
+pub(crate) fn read(table: &[u8]) -> Outcome {
+    unsafe { voter_slots_read(table.as_ptr(), table.len()) }
+}
+
+pub(crate) fn write(table: &[u8], out: &mut [u8]) -> Outcome {
+    unsafe { voter_slots_write(table.as_ptr(), table.len(), out.as_mut_ptr(), out.len()) }
+}
+
+pub(crate) fn apply(table: &[u8], mark: u32, body: &[u8], out: &mut [u8]) -> Outcome {
+    unsafe {
+        voter_slots_apply(
+            table.as_ptr(),
+            table.len(),
+            mark,
+            body.as_ptr(),
+            body.len(),
+            out.as_mut_ptr(),
+            out.len(),
+        )
+    }
+}
+
+pub(crate) fn observe(table: &[u8], body: &[u8], out: &mut [u8]) -> Outcome {
+    unsafe {
+        voter_slots_observe(
+            table.as_ptr(),
+            table.len(),
+            body.as_ptr(),
+            body.len(),
+            out.as_mut_ptr(),
+            out.len(),
+        )
+    }
+}
+
+pub(crate) fn retired(table: &[u8], node: u64) -> u32 {
+    unsafe { voter_slots_retired(table.as_ptr(), table.len(), node) }
+}

@@ -1,0 +1,272 @@
+use std::fmt;
+use std::num::NonZeroU16;
+
+use crate::bytes::Writer;
+use crate::ffi::{self, Outcome};
+use crate::{Command, CommandKind, Observation, Record, Refusal};
+
+/// Most bytes of a table.
+pub const MAX_TABLE_BYTES: usize = 8072;
+
+/// How far an open request has come.
+#[derive(Clone, Copy, Debug, PartialEq, Eq, Hash, PartialOrd, Ord)]
+#[repr(u8)]
+pub enum Phase {
+    Prepared = 0,
+    SnapshotInstalled = 1,
+    LearnerAdded = 2,
+    CaughtUp = 3,
+    Fenced = 4,
+    Joint = 5,
+    Uniform = 6,
+}
+
+impl Phase {
+    const fn from_number(number: u32) -> Option<Self> {
+        match number {
+            0 => Some(Phase::Prepared),
+            1 => Some(Phase::SnapshotInstalled),
+            2 => Some(Phase::LearnerAdded),
+            3 => Some(Phase::CaughtUp),
+            4 => Some(Phase::Fenced),
+            5 => Some(Phase::Joint),
+            6 => Some(Phase::Uniform),
+            _ => None,
+        }
+    }
+}
+
+/// The request that is open in a table.
+#[derive(Clone, Copy, Debug, PartialEq, Eq, Hash)]
+pub struct OpenRequest {
+    /// The slot whose voter is replaced.
+    pub slot: NonZeroU16,
+    pub phase: Phase,
+}
+
+/// What a call that was accepted did.
+#[derive(Clone, Copy, Debug, PartialEq, Eq, Hash)]
+#[must_use]
+pub enum Change {
+    /// The table is as it was: the call repeats what was done before, or asks for no change.
+    Unchanged,
+    /// The table was changed, and its revision is one higher. A service stores it before it confirms.
+    Changed,
+}
+
+/// The table of voter slots.
+///
+/// It is made by reading bytes and in no other way, so it is always valid. Two tables are equal exactly
+/// where their bytes are.
+#[derive(Clone)]
+pub struct Table {
+    bytes: Vec<u8>,
+    said: Outcome,
+}
+
+impl Table {
+    /// Reads a table.
+    ///
+    /// # Errors
+    /// The reader's: [`InvalidSlot`](Refusal::InvalidSlot),
+    /// [`InvalidIncarnation`](Refusal::InvalidIncarnation),
+    /// [`IncarnationExhausted`](Refusal::IncarnationExhausted),
+    /// [`FreshInstallationRequired`](Refusal::FreshInstallationRequired),
+    /// [`TooLarge`](Refusal::TooLarge), [`InvalidRecord`](Refusal::InvalidRecord).
+    pub fn decode(bytes: &[u8]) -> Result<Self, Refusal> {
+        let said = accepted(ffi::read(bytes))?;
+        let bytes = bytes.to_vec();
+        Ok(Table { bytes, said })
+    }
+
+    /// Its bytes. [`Table::decode`] of them gives the same table.
+    #[must_use]
+    pub fn as_bytes(&self) -> &[u8] {
+        &self.bytes
+    }
+
+    /// Its bytes, to keep.
+    #[must_use]
+    pub fn encode(&self) -> Vec<u8> {
+        self.bytes.clone()
+    }
+
+    /// Writes its bytes to the start of a buffer, and gives their count.
+    ///
+    /// # Errors
+    /// [`BufferTooShort`](Refusal::BufferTooShort): nothing is written then.
+    pub fn encode_into(&self, out: &mut [u8]) -> Result<usize, Refusal> {
+        accepted(ffi::write(&self.bytes, out)).map(count)
+    }
+
+    /// Applies a command.
+    ///
+    /// # Errors
+    /// The first refusal in document 01's order. The table is as it was.
+    pub fn apply(&mut self, command: &Command) -> Result<Change, Refusal> {
+        self.apply_body(command.kind(), command.body())
+    }
+
+    fn apply_body(&mut self, kind: CommandKind, body: &[u8]) -> Result<Change, Refusal> {
+        let mark = u32::from(u16::from_be_bytes(kind.mark()));
+        self.call(|table, out| ffi::apply(table, mark, body, out))
+    }
+
+    /// Applies an observation of the engine's membership.
+    ///
+    /// # Errors
+    /// The first refusal in document 01's order. The table is as it was.
+    pub fn observe(&mut self, observation: &Observation) -> Result<Change, Refusal> {
+        self.observe_body(observation.body())
+    }
+
+    fn observe_body(&mut self, body: &[u8]) -> Result<Change, Refusal> {
+        self.call(|table, out| ffi::observe(table, body, out))
+    }
+
+    /// Applies a record of a log: a command or an observation.
+    ///
+    /// # Errors
+    /// [`BadRecord`](Refusal::BadRecord) for any other mark, a TB too; else as [`Table::apply`] and
+    /// [`Table::observe`]. The table is as it was.
+    pub fn play(&mut self, record: Record<'_>) -> Result<Change, Refusal> {
+        match CommandKind::from_mark(record.mark) {
+            Some(kind) => self.apply_body(kind, record.body),
+            None if record.mark == *b"OB" => self.observe_body(record.body),
+            None => Err(Refusal::BadRecord),
+        }
+    }
+
+    fn call(&mut self, made: impl FnOnce(&[u8], &mut [u8]) -> Outcome) -> Result<Change, Refusal> {
+        let mut out = [0; MAX_TABLE_BYTES];
+        let said = accepted(made(&self.bytes, &mut out))?;
+        if said.revision == self.said.revision {
+            return Ok(Change::Unchanged);
+        }
+        self.bytes.clear();
+        self.bytes.extend_from_slice(&out[..count(said)]);
+        self.said = said;
+        Ok(Change::Changed)
+    }
+
+    /// Whether a node must not count any more. A number that is no node's id is not retired.
+    #[must_use]
+    pub fn is_retired(&self, node: u64) -> bool {
+        match ffi::retired(&self.bytes, node) {
+            ffi::RETIRED => true,
+            ffi::NOT_RETIRED => false,
+            number => unreachable!("the retired test of a valid table answered {number}"),
+        }
+    }
+
+    /// Raised by one with each change, and by nothing else.
+    #[must_use]
+    pub fn revision(&self) -> u64 {
+        self.said.revision
+    }
+
+    /// The configuration's epoch.
+    #[must_use]
+    pub fn epoch(&self) -> u64 {
+        self.said.epoch
+    }
+
+    /// How many slots there are: 1, 3, 5, 7 or 9.
+    #[must_use]
+    pub fn slots(&self) -> usize {
+        self.said.slots as usize
+    }
+
+    /// The open request, if there is one.
+    #[must_use]
+    pub fn open_request(&self) -> Option<OpenRequest> {
+        let slot = u16::try_from(self.said.open_slot).ok()?;
+        Some(OpenRequest {
+            slot: NonZeroU16::new(slot)?,
+            phase: Phase::from_number(self.said.open_phase)?,
+        })
+    }
+}
+
+fn accepted(said: Outcome) -> Result<Outcome, Refusal> {
+    match Refusal::from_number(said.answer) {
+        Some(refusal) => Err(refusal),
+        None => Ok(said),
+    }
+}
+
+fn count(said: Outcome) -> usize {
+    usize::try_from(said.count).expect("a table has at most MAX_TABLE_BYTES")
+}
+
+impl PartialEq for Table {
+    fn eq(&self, other: &Self) -> bool {
+        self.bytes == other.bytes
+    }
+}
+
+impl Eq for Table {}
+
+impl AsRef<[u8]> for Table {
+    fn as_ref(&self) -> &[u8] {
+        &self.bytes
+    }
+}
+
+impl TryFrom<&[u8]> for Table {
+    type Error = Refusal;
+
+    fn try_from(bytes: &[u8]) -> Result<Self, Refusal> {
+        Table::decode(bytes)
+    }
+}
+
+impl fmt::Debug for Table {
+    fn fmt(&self, f: &mut fmt::Formatter<'_>) -> fmt::Result {
+        f.debug_struct("Table")
+            .field("revision", &self.revision())
+            .field("epoch", &self.epoch())
+            .field("slots", &self.slots())
+            .field("open_request", &self.open_request())
+            .finish_non_exhaustive()
+    }
+}
+
+/// A voter of a first installation, in incarnation 1.
+#[derive(Clone, Debug, PartialEq, Eq, Hash)]
+pub struct FirstVoter {
+    pub slot: u16,
+    pub key_digest: [u8; 32],
+    pub descriptor_digest: [u8; 32],
+    pub admission_generation: u64,
+}
+
+/// The bytes of a first installation's table: revision 1, epoch 1, every slot in its first incarnation
+/// and voting, no request open. Nothing is judged here; [`Table::decode`] does that.
+#[must_use]
+pub fn first_table(
+    cluster_instance: &[u8; 32],
+    manifest_digest: &[u8; 32],
+    voters: &[FirstVoter],
+) -> Vec<u8> {
+    let mut out = Writer::default();
+    out.bytes(b"OPVI");
+    out.u16(1);
+    out.bytes(cluster_instance);
+    out.bytes(manifest_digest);
+    out.u64(1);
+    out.u64(1);
+    out.count8(voters.len());
+    for voter in voters {
+        out.u16(voter.slot);
+        out.u64(1);
+        out.u64(0);
+        out.bytes(&voter.key_digest);
+        out.bytes(&voter.descriptor_digest);
+        out.u64(voter.admission_generation);
+        out.u8(2);
+        out.u8(0);
+    }
+    out.u8(0);
+    out.end()
+}

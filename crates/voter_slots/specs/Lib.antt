@@ -1,0 +1,4 @@
+pub mod Export
+pub mod Calls
+pub mod ExportLaws
+pub mod CallLaws
