@@ -15,3 +15,4 @@ pub mod RunHistoryLaws
 pub mod BodyLaws
 pub mod StepLaws
 pub mod PlayLaws
+pub mod PieceLaws

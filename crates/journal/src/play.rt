@@ -120,6 +120,7 @@ fn open_log(from: Opened, input: &[u8], last: bool, out: &mut [u8]) -> Opened
         let end = found.end;
         let opened = open_record(asks, &input[begin..end]);
         let answer = opened.answer;
+        // A table that was read has slots, and the blank that is returned with a refusal has none.
         stands = 0 < opened.table.count;
         if stands {
             table = opened.table;

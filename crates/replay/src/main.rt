@@ -5,9 +5,7 @@
 // the whole records in it, and writes what is due before it reads again, so that it works through a
 // pipe by hand. Memory is constant: the buffers below hold the longest record.
 ghost use Prim.Native.Nat.{_+_, _≤_};
-ghost use mathlib.Core.Path.{_≡_};
 ghost use lib.ListN.{length};
-ghost use Rattle.journal.specs.Play.{playOf};
 use journal::play::Journal;
 use journal::play::Played;
 use journal::play::new_journal;
