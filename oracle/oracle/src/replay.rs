@@ -143,3 +143,33 @@ impl Run {
         open.map_or("none".to_owned(), |open| format!("{:?}", open.phase))
     }
 }
+
+#[cfg(test)]
+mod tests {
+    use super::*;
+    use crate::generate;
+
+    /// The revision in a table's bytes, in hex.
+    fn revision(hex: &str) -> u64 {
+        u64::from_str_radix(&hex[140..156], 16).expect("a revision")
+    }
+
+    #[test]
+    fn the_tables_have_the_answers_and_revisions_of_the_lines() {
+        for seed in 1..=5 {
+            let log = generate::generate(seed, 300, "log").expect("a log");
+            let (lines, tables) = (lines(&log), tables(&log));
+            assert_eq!(lines.lines().count(), tables.lines().count() + 1);
+            let mut stands = 0;
+            for (line, table) in lines.lines().skip(1).zip(tables.lines()) {
+                let (head, shown) = table.rsplit_once(' ').expect("four words");
+                match shown {
+                    "-" => stands = 0,
+                    "=" => {}
+                    hex => stands = revision(hex),
+                }
+                assert_eq!(line, format!("{head} {stands}"));
+            }
+        }
+    }
+}
