@@ -27,7 +27,7 @@ returns : tie.Need-returns
 returns c =
     let a = c .before .before .before .before .before .before .before .args in
     let r = c .before .before .play .result in
-    let f = play-fits (a .journal) _ (a .at .last) (a .output .now) _ (r .answer) (r .read) (r .written) (r .journal) (c .before .before .play .ensures) (same-length c) in
+    let f = play-fits (a .journal) _ (a .at .last) (a .output .now) _ (r .answer) (r .read) (r .written) (r .journal) (c .before .before .play .ensures .0) (same-length c) in
     let t = length-take (a .at .held - a .at .start) (drop (a .at .start) (a .input .now)) in
     let d = length-drop (a .at .start) (a .input .now) in
     let x = f .0 in
