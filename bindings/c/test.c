@@ -1,4 +1,5 @@
 /* Every function of voter_slots.h: answers, numbers and lent bytes. Ends with 0 where all holds. */
+#include "values.h"
 #include "voter_slots.h"
 
 #include <stdbool.h>
@@ -17,176 +18,6 @@ static int checks = 0;
             printf("%s:%d: %s does not hold\n", __FILE__, __LINE__, #holds); \
         }                                                                 \
     } while (0)
-
-/* Bytes so far. */
-typedef struct {
-    uint8_t bytes[70000];
-    size_t len;
-} buffer;
-
-static void put(buffer *b, const void *bytes, size_t len) {
-    memcpy(b->bytes + b->len, bytes, len);
-    b->len += len;
-}
-
-static void put_number(buffer *b, uint64_t number, size_t width) {
-    for (size_t i = 0; i < width; i++) {
-        b->bytes[b->len++] = (uint8_t)(number >> (8 * (width - 1 - i)));
-    }
-}
-
-static void put_filled(buffer *b, uint8_t byte, size_t len) {
-    memset(b->bytes + b->len, byte, len);
-    b->len += len;
-}
-
-static void put_text(buffer *b, const char *text) {
-    put_number(b, strlen(text), 2);
-    put(b, text, strlen(text));
-}
-
-static void put_cut(buffer *b, uint64_t term, uint64_t index) {
-    put_number(b, term, 8);
-    put_number(b, index, 8);
-}
-
-/* ---- values: request 1 has the id and the digest of ones */
-
-enum { REVISION = 70, EPOCH = 78, SLOTS = 87, SLOT_BYTES = 92 };
-
-/* No request open, every slot in its first incarnation. */
-static buffer idle_table(unsigned slots) {
-    buffer b = {.len = 0};
-    put(&b, "OPVI", 4);
-    put_number(&b, 1, 2);
-    put_filled(&b, 3, 32);
-    put_filled(&b, 9, 32);
-    put_number(&b, 1, 8);
-    put_number(&b, 1, 8);
-    put_number(&b, slots, 1);
-    for (unsigned slot = 1; slot <= slots; slot++) {
-        put_number(&b, slot, 2);
-        put_number(&b, 1, 8);
-        put_number(&b, 0, 8);
-        put_filled(&b, (uint8_t)slot, 32);
-        put_filled(&b, (uint8_t)(100 + slot), 32);
-        put_number(&b, 1, 8);
-        put_number(&b, 2, 1);
-        put_number(&b, 0, 1);
-    }
-    put_number(&b, 0, 1);
-    return b;
-}
-
-static void put_attestation(buffer *b, unsigned slot, uint8_t request, uint8_t digest) {
-    put_number(b, 1, 2);
-    put_filled(b, request, 16);
-    put_filled(b, digest, 32);
-    put_filled(b, 3, 32);
-    put_number(b, slot, 2);
-    put_number(b, 1, 8);
-    put_filled(b, (uint8_t)(100 + slot), 32);
-    put_filled(b, (uint8_t)(50 + request), 32);
-    put_number(b, 2, 8);
-    put_text(b, "spiffe://example/voter");
-    put_text(b, "spiffe://example/controller");
-    put_filled(b, 6, 32);
-    put_number(b, 1, 1);
-    put_filled(b, 7, 32);
-    put_number(b, 1, 8);
-    put_number(b, 2, 8);
-    put_number(b, 3, 8);
-    put_number(b, 4, 8);
-    put_filled(b, 8, 64);
-}
-
-/* A Begin that fits a table of this revision and epoch. */
-typedef struct {
-    uint64_t index, revision, epoch;
-    unsigned slot, candidate_slot;
-    uint8_t request, digest, supplied;
-    bool signed_well;
-} begin;
-
-static begin fitting(void) {
-    begin b = {10, 1, 1, 2, 2, 1, 1, 1, true};
-    return b;
-}
-
-static buffer begin_body(begin v) {
-    buffer b = {.len = 0};
-    buffer claims = {.len = 0};
-    put_attestation(&claims, v.slot, v.request, v.digest);
-    if (!v.signed_well) {
-        claims.len--;
-    }
-    put_cut(&b, 2, v.index);
-    put_number(&b, v.revision, 8);
-    put_filled(&b, 3, 32);
-    put_filled(&b, 0x55, 32);
-    put_number(&b, v.epoch, 8);
-    put_number(&b, v.candidate_slot, 2);
-    put_number(&b, 2, 8);
-    put_filled(&b, (uint8_t)(50 + v.request), 32);
-    put_filled(&b, (uint8_t)(200 + v.request), 32);
-    put_number(&b, 2, 8);
-    put_number(&b, claims.len, 2);
-    put(&b, claims.bytes, claims.len);
-    put_filled(&b, v.supplied, 32);
-    put_filled(&b, 0x55, 32);
-    return b;
-}
-
-static buffer marker_body(uint64_t term, uint64_t index, uint8_t request) {
-    buffer b = {.len = 0};
-    put_cut(&b, term, index);
-    put_filled(&b, request, 16);
-    put_filled(&b, request, 32);
-    return b;
-}
-
-/* Steps: 0 snapshot, 1 caught up, 2 continuation, 3 fence, 4 finalize. */
-static buffer advance_body(uint64_t index, unsigned step, size_t id_len) {
-    buffer b = marker_body(2, index, 1);
-    put_number(&b, step, 1);
-    if (step == 0) {
-        put_cut(&b, 2, 10);
-        put_number(&b, id_len, 2);
-        put_filled(&b, 's', id_len);
-        put_filled(&b, 0x5A, 32);
-    }
-    if (step == 1) {
-        put_cut(&b, 2, 16);
-    }
-    return b;
-}
-
-static void put_ids(buffer *b, const uint64_t *ids, size_t count) {
-    put_number(b, count, 2);
-    for (size_t i = 0; i < count; i++) {
-        put_number(b, ids[i], 8);
-    }
-}
-
-static const uint64_t OLD[] = {1, 2, 3};
-static const uint64_t NEW[] = {1, 3, 65538};
-static const uint64_t BOTH[] = {1, 2, 3, 65538};
-
-/* One set, or both, and the nodes. */
-static buffer observation_body(uint64_t index, bool old, bool new, const uint64_t *nodes,
-                               size_t count) {
-    buffer b = {.len = 0};
-    put_cut(&b, 2, index);
-    put_number(&b, (uint64_t)old + (uint64_t)new, 1);
-    if (old) {
-        put_ids(&b, OLD, 3);
-    }
-    if (new) {
-        put_ids(&b, NEW, 3);
-    }
-    put_ids(&b, nodes, count);
-    return b;
-}
 
 /* ---- calls with lent memory of exact length, so that a sanitizer sees a byte too far */
 
@@ -213,6 +44,66 @@ static bool all_are(const uint8_t *bytes, size_t len, uint8_t byte) {
 static bool is_refused(voter_slots_result r, uint32_t answer) {
     return r.answer == answer && r.slots == 0 && r.count == 0 && r.revision == 0 && r.epoch == 0 &&
            r.open_slot == 0 && r.open_phase == VOTER_SLOTS_NO_PHASE;
+}
+
+/* The same call on a table that is kept in memory: it answers what the call over bytes does (`told`), and the
+ * table afterwards has the bytes that were written (`out`). There is no buffer that could be too short. */
+static void check_kept(const buffer *table, uint32_t mark, const buffer *body,
+                       voter_slots_result told, const uint8_t *out) {
+    voter_slots_table *kept = calloc(1, sizeof *kept);
+    uint8_t before[VOTER_SLOTS_TABLE_BYTES], after[VOTER_SLOTS_TABLE_BYTES];
+    if (kept == NULL) {
+        exit(2);
+    }
+    voter_slots_result read = voter_slots_table_read(kept, table->bytes, table->len);
+    voter_slots_result by_bytes = voter_slots_read(table->bytes, table->len);
+    CHECK(memcmp(&read, &by_bytes, sizeof read) == 0);
+    voter_slots_result first = voter_slots_table_write(kept, before, sizeof before);
+    CHECK(read.answer == 0 ? memcmp(&first, &read, sizeof read) == 0
+                           : is_refused(first, VOTER_SLOTS_UNREPRESENTABLE));
+    voter_slots_result r = first;
+    if (mark == 0) {
+        r = voter_slots_table_observe(kept, body->bytes, body->len);
+    } else if (mark != 1) {
+        r = voter_slots_table_apply(kept, mark, body->bytes, body->len);
+    }
+    if (read.answer != 0) {
+        /* refused: the blank table, as it was */
+        CHECK(is_refused(r, r.answer));
+        CHECK(is_refused(voter_slots_table_write(kept, after, sizeof after),
+                         VOTER_SLOTS_UNREPRESENTABLE));
+        CHECK(voter_slots_table_retired(kept, 2) == VOTER_SLOTS_UNREPRESENTABLE);
+        free(kept);
+        return;
+    }
+    CHECK(first.count == table->len && memcmp(before, table->bytes, table->len) == 0);
+    voter_slots_result last = voter_slots_table_write(kept, after, sizeof after);
+    CHECK(last.answer == 0);
+    if (r.answer != 0) {
+        CHECK(is_refused(r, told.answer));
+        CHECK(last.count == first.count && memcmp(after, before, (size_t)first.count) == 0);
+    } else if (told.answer != VOTER_SLOTS_BUFFER_TOO_SHORT) {
+        CHECK(r.count == (mark == 1 ? last.count : 0));
+        CHECK(memcmp(&last, &told, sizeof told) == 0);
+        CHECK(memcmp(after, out, (size_t)told.count) == 0);
+        CHECK(r.revision == last.revision && r.epoch == last.epoch && r.slots == last.slots);
+        CHECK(r.open_slot == last.open_slot && r.open_phase == last.open_phase);
+    }
+    static const uint64_t nodes[] = {0, 1, 2, 3, 65537, 65538, UINT64_MAX};
+    for (size_t i = 0; i < sizeof nodes / sizeof nodes[0]; i++) {
+        CHECK(voter_slots_table_retired(kept, nodes[i]) ==
+              voter_slots_retired(after, (size_t)last.count, nodes[i]));
+    }
+    /* a buffer of the exact length, one short, none */
+    memset(before, 0xA5, sizeof before);
+    CHECK(voter_slots_table_write(kept, before, (size_t)last.count).answer == 0);
+    CHECK(memcmp(before, after, (size_t)last.count) == 0);
+    memset(before, 0xA5, sizeof before);
+    CHECK(is_refused(voter_slots_table_write(kept, before, (size_t)last.count - 1),
+                     VOTER_SLOTS_BUFFER_TOO_SHORT));
+    CHECK(is_refused(voter_slots_table_write(kept, NULL, 0), VOTER_SLOTS_BUFFER_TOO_SHORT));
+    CHECK(all_are(before, sizeof before, 0xA5));
+    free(kept);
 }
 
 /* Mark 0 is an observation, mark 1 the writer. A refusal must leave `out` alone, and what is written must be
@@ -248,6 +139,7 @@ static voter_slots_result call(const buffer *table, uint32_t mark, const buffer 
             put(next, out, (size_t)r.count);
         }
     }
+    check_kept(table, mark, body, r, out);
     free(t);
     free(b);
     free(out);
@@ -441,6 +333,13 @@ static void test_forms(void) {
     CHECK(is_refused(voter_slots_apply(NULL, 0, VOTER_SLOTS_BEGIN, body.bytes, body.len, NULL, 0),
                      VOTER_SLOTS_INVALID_RECORD));
     CHECK(voter_slots_retired(NULL, 0, 1) == VOTER_SLOTS_INVALID_RECORD);
+    voter_slots_table kept = {{0}};
+    CHECK(is_refused(voter_slots_table_apply(&kept, VOTER_SLOTS_BEGIN, NULL, 0),
+                     VOTER_SLOTS_BAD_RECORD));
+    CHECK(is_refused(voter_slots_table_apply(&kept, VOTER_SLOTS_BEGIN, body.bytes, body.len),
+                     VOTER_SLOTS_UNREPRESENTABLE));
+    CHECK(is_refused(voter_slots_table_observe(&kept, NULL, 0), VOTER_SLOTS_BAD_RECORD));
+    CHECK(is_refused(voter_slots_table_read(&kept, NULL, 0), VOTER_SLOTS_INVALID_RECORD));
     for (size_t len = 0; len < body.len; len++) {
         buffer cut_short = body;
         cut_short.len = len;

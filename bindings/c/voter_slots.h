@@ -22,7 +22,7 @@ extern "C" {
 #define VOTER_SLOTS_TABLE_BYTES 8072
 #define VOTER_SLOTS_BODY_BYTES 65535
 
-/* Answers. VOTER_SLOTS_NOT_RETIRED and VOTER_SLOTS_RETIRED come from voter_slots_retired alone. */
+/* Answers. VOTER_SLOTS_NOT_RETIRED and VOTER_SLOTS_RETIRED come from the retired test alone. */
 enum {
     VOTER_SLOTS_ACCEPTED = 0,
     VOTER_SLOTS_INVALID_SLOT = 1,
@@ -71,7 +71,7 @@ enum {
 typedef struct voter_slots_result {
     uint32_t answer;
     uint32_t slots;      /* how many slots the table has */
-    uint64_t count;      /* how many bytes the table takes */
+    uint64_t count;      /* how many bytes of the table were read or written */
     uint64_t revision;
     uint64_t epoch;
     uint32_t open_slot;  /* the slot that the open request replaces; 0: no request is open */
@@ -99,6 +99,37 @@ voter_slots_result voter_slots_observe(const uint8_t *table, size_t table_len, c
 /* Whether a node must not count any more: VOTER_SLOTS_NOT_RETIRED, VOTER_SLOTS_RETIRED, or the answer
  * of a table that is refused. A number that is no node's id is not retired. */
 uint32_t voter_slots_retired(const uint8_t *table, size_t table_len, uint64_t node);
+
+/* ---- a table that is kept in memory
+ *
+ * The same calls on a table value, for a service that makes many: no bytes are read or written but by
+ * voter_slots_table_read and voter_slots_table_write. The value is opaque. It is all zero before its first
+ * reading (`voter_slots_table table = {{0}};`), and only these functions write it: bytes of another
+ * origin are undefined. It may be copied and moved. A call that is refused leaves it as it was. It is
+ * changed by one thread at a time.
+ */
+typedef struct voter_slots_table {
+    uint64_t words[1057];
+} voter_slots_table;
+
+/* Reads a table. */
+voter_slots_result voter_slots_table_read(voter_slots_table *table, const uint8_t *bytes,
+                                          size_t bytes_len);
+
+/* Writes the table to the start of `out`. Refused, no byte of `out` is written. */
+voter_slots_result voter_slots_table_write(const voter_slots_table *table, uint8_t *out,
+                                           size_t out_len);
+
+/* Applies a command, of which `mark` is the mark; `count` is 0. */
+voter_slots_result voter_slots_table_apply(voter_slots_table *table, uint32_t mark,
+                                           const uint8_t *body, size_t body_len);
+
+/* Applies an observation (the body of an OB); `count` is 0. */
+voter_slots_result voter_slots_table_observe(voter_slots_table *table, const uint8_t *body,
+                                             size_t body_len);
+
+/* As voter_slots_retired. A table that was never read is VOTER_SLOTS_UNREPRESENTABLE. */
+uint32_t voter_slots_table_retired(const voter_slots_table *table, uint64_t node);
 
 #ifdef __cplusplus
 }

@@ -38,6 +38,11 @@ impl CommandKind {
         }
     }
 
+    /// Its mark as the functions of the archive take it.
+    pub(crate) fn number(self) -> u32 {
+        u32::from(u16::from_be_bytes(self.mark()))
+    }
+
     /// The kind that has this mark.
     #[must_use]
     pub const fn from_mark(mark: [u8; 2]) -> Option<Self> {

@@ -3,7 +3,8 @@
 //! and a retired voter never counts again.
 //!
 //! A service keeps one [`Table`] for each group, applies committed [`Command`]s and [`Observation`]s of
-//! the engine's membership to it in the order of the log, and stores its bytes with each change.
+//! the engine's membership to it in the order of the log, and stores its bytes with each change. A
+//! [`LiveTable`] answers the same and spares the reading and writing of the bytes in each call.
 //!
 //! ```
 //! use voter_slots::{first_table, Change, FirstVoter, LogId, Marker, Observation, Refusal, Table};
@@ -42,6 +43,7 @@ mod attestation;
 mod bytes;
 mod command;
 mod ffi;
+mod live;
 mod observation;
 mod record;
 mod refusal;
@@ -49,6 +51,7 @@ mod table;
 
 pub use attestation::{LossReason, LostVoterAttestation};
 pub use command::{Advance, Begin, Candidate, Command, CommandKind, LogId, Marker, Step};
+pub use live::LiveTable;
 pub use observation::Observation;
 pub use record::Record;
 pub use refusal::Refusal;

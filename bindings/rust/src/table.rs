@@ -44,6 +44,16 @@ pub struct OpenRequest {
     pub phase: Phase,
 }
 
+impl OpenRequest {
+    pub(crate) fn said(said: Outcome) -> Option<Self> {
+        let slot = u16::try_from(said.open_slot).ok()?;
+        Some(OpenRequest {
+            slot: NonZeroU16::new(slot)?,
+            phase: Phase::from_number(said.open_phase)?,
+        })
+    }
+}
+
 /// What a call that was accepted did.
 #[derive(Clone, Copy, Debug, PartialEq, Eq, Hash)]
 #[must_use]
@@ -108,8 +118,7 @@ impl Table {
     }
 
     fn apply_body(&mut self, kind: CommandKind, body: &[u8]) -> Result<Change, Refusal> {
-        let mark = u32::from(u16::from_be_bytes(kind.mark()));
-        self.call(|table, out| ffi::apply(table, mark, body, out))
+        self.call(|table, out| ffi::apply(table, kind.number(), body, out))
     }
 
     /// Applies an observation of the engine's membership.
@@ -152,11 +161,7 @@ impl Table {
     /// Whether a node must not count any more. A number that is no node's id is not retired.
     #[must_use]
     pub fn is_retired(&self, node: u64) -> bool {
-        match ffi::retired(&self.bytes, node) {
-            ffi::RETIRED => true,
-            ffi::NOT_RETIRED => false,
-            number => unreachable!("the retired test of a valid table answered {number}"),
-        }
+        is_retired(ffi::retired(&self.bytes, node))
     }
 
     /// Raised by one with each change, and by nothing else.
@@ -180,23 +185,27 @@ impl Table {
     /// The open request, if there is one.
     #[must_use]
     pub fn open_request(&self) -> Option<OpenRequest> {
-        let slot = u16::try_from(self.said.open_slot).ok()?;
-        Some(OpenRequest {
-            slot: NonZeroU16::new(slot)?,
-            phase: Phase::from_number(self.said.open_phase)?,
-        })
+        OpenRequest::said(self.said)
     }
 }
 
-fn accepted(said: Outcome) -> Result<Outcome, Refusal> {
+pub(crate) fn accepted(said: Outcome) -> Result<Outcome, Refusal> {
     match Refusal::from_number(said.answer) {
         Some(refusal) => Err(refusal),
         None => Ok(said),
     }
 }
 
-fn count(said: Outcome) -> usize {
+pub(crate) fn count(said: Outcome) -> usize {
     usize::try_from(said.count).expect("a table has at most MAX_TABLE_BYTES")
+}
+
+pub(crate) fn is_retired(answer: u32) -> bool {
+    match answer {
+        ffi::RETIRED => true,
+        ffi::NOT_RETIRED => false,
+        number => unreachable!("the retired test of a valid table answered {number}"),
+    }
 }
 
 impl PartialEq for Table {

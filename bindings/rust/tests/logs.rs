@@ -4,7 +4,42 @@
 use std::fs;
 use std::path::{Path, PathBuf};
 
-use voter_slots::{Record, Refusal, Table};
+use voter_slots::{LiveTable, Record, Refusal, Table};
+
+/// The same table as bytes and as a value: both must answer the same and stay equal.
+struct Both {
+    table: Table,
+    live: LiveTable,
+}
+
+impl Both {
+    fn decode(bytes: &[u8]) -> Result<Self, Refusal> {
+        let live = LiveTable::decode(bytes);
+        let table = Table::decode(bytes);
+        assert_eq!(table.as_ref().err(), live.as_ref().err());
+        let both = Both { table: table?, live: live? };
+        both.check();
+        Ok(both)
+    }
+
+    fn play(&mut self, record: Record<'_>) -> Result<(), Refusal> {
+        let told = self.table.play(record);
+        assert_eq!(self.live.play(record), told);
+        self.check();
+        told.map(drop)
+    }
+
+    fn check(&self) {
+        assert!(self.live.encode() == self.table.as_bytes(), "the value's bytes differ");
+        assert_eq!(
+            (self.live.revision(), self.live.epoch(), self.live.slots(), self.live.open_request()),
+            (self.table.revision(), self.table.epoch(), self.table.slots(), self.table.open_request())
+        );
+        for node in [0, 1, 2, 3, 65_536, 65_537, 65_538, 131_074, u64::MAX] {
+            assert_eq!(self.live.is_retired(node), self.table.is_retired(node), "node {node}");
+        }
+    }
+}
 
 /// What a record did: the mark that is shown, its answer, and the table afterwards.
 struct Turn {
@@ -17,10 +52,10 @@ fn is_known(mark: [u8; 2]) -> bool {
     [*b"TB", *b"MK", *b"AD", *b"BG", *b"OB"].contains(&mark)
 }
 
-fn step(table: &mut Option<Table>, record: Record<'_>) -> Result<(), Refusal> {
+fn step(table: &mut Option<Both>, record: Record<'_>) -> Result<(), Refusal> {
     match table {
-        Some(table) => table.play(record).map(drop),
-        None if record.mark == *b"TB" => Table::decode(record.body).map(|read| *table = Some(read)),
+        Some(both) => both.play(record),
+        None if record.mark == *b"TB" => Both::decode(record.body).map(|read| *table = Some(read)),
         None => Err(Refusal::BadRecord),
     }
 }
@@ -38,7 +73,7 @@ fn play(mut log: &[u8]) -> Vec<Turn> {
         turns.push(Turn {
             mark: if is_known(shown) { shown } else { *b"??" },
             answer,
-            table: table.clone(),
+            table: table.as_ref().map(|both: &Both| both.table.clone()),
         });
         log = whole.map_or(&[], |(_, rest)| rest);
     }

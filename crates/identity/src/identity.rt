@@ -42,6 +42,7 @@ pub struct ConsensusIdentity {
 }
 
 // One incarnation of one slot.
+#[repr(C)]
 pub struct VoterSlotIdentity {
     pub slot: SlotId,
     pub incarnation: VoterIncarnation,

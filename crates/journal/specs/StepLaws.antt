@@ -291,7 +291,7 @@ module _ (t : VoterSlotTable) where
 -- ---- judged and made is `step`
 
 -- what a body under each mark asks
-abbrev observes : Asking → Bool
+abbrev pub observes : Asking → Bool
 observes bad = false
 observes (refused k) = false
 observes (asks (command c cut)) = false
@@ -303,7 +303,7 @@ commands (refused k) = false
 commands (asks (command c cut)) = true
 commands (asks (observation ids counts nodes cut)) = false
 
-no-observation : (mark : Mark) (body : List ℕ) → (mark ≡ Ob → ⊥) → observes (asking mark body) ≡ false
+pub no-observation : (mark : Mark) (body : List ℕ) → (mark ≡ Ob → ⊥) → observes (asking mark body) ≡ false
 unfolding asking markerAsked advanceAsked beginAsked
 no-observation Tb body n = refl
 no-observation Mk body n = by-formed (λ (a : Asking). observes a ≡ false) (whole markerBody body) (λ b. asks (markerAsked b)) refl (λ b. refl)

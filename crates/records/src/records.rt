@@ -47,29 +47,34 @@ pub const STORAGE_LOST: u8 = 1;
 pub const TIME_BOUND_LOSS: u8 = 2;
 
 // The name of a controller or a candidate: so many bytes, zero behind them.
+#[repr(C)]
 pub struct SpiffeId {
     pub len: usize,
     pub bytes: [u8; 2048],
 }
 
 // The id of a snapshot: so many bytes, zero behind them.
+#[repr(C)]
 pub struct SnapshotId {
     pub len: usize,
     pub bytes: [u8; 256],
 }
 
 // A cut: a position in the log.
+#[repr(C)]
 pub struct VoterSlotLogId {
     pub term: u64,
     pub index: u64,
 }
 
 // A cut that may be absent; it is 0, 0 then.
+#[repr(C)]
 pub struct OptionalLogId {
     pub is_some: bool,
     pub cut: VoterSlotLogId,
 }
 
+#[repr(C)]
 pub struct VoterSlotMember {
     pub identity: VoterSlotIdentity,
     pub key_digest: [u8; 32],
@@ -77,6 +82,7 @@ pub struct VoterSlotMember {
     pub admission_generation: u64,
 }
 
+#[repr(C)]
 pub struct VoterReplacementResult {
     pub request_id: ConsensusRequestId,
     pub request_digest: [u8; 32],
@@ -87,6 +93,7 @@ pub struct VoterReplacementResult {
     pub terminal: VoterSlotLogId,
 }
 
+#[repr(C)]
 pub struct VoterSlotRecord {
     pub member: VoterSlotMember,
     pub retired_through: u64,
@@ -95,18 +102,21 @@ pub struct VoterSlotRecord {
     pub last_result: VoterReplacementResult,
 }
 
+#[repr(C)]
 pub struct VoterSnapshotEvidence {
     pub cut: VoterSlotLogId,
     pub snapshot_id: SnapshotId,
     pub digest: [u8; 32],
 }
 
+#[repr(C)]
 pub struct VoterConfiguration {
     pub epoch: ConsensusConfigurationEpoch,
     pub members: [VoterSlotMember; 9],
     pub count: usize,
 }
 
+#[repr(C)]
 pub struct LostVoterAttestationV1 {
     pub request_id: ConsensusRequestId,
     pub request_digest: [u8; 32],
@@ -128,6 +138,7 @@ pub struct LostVoterAttestationV1 {
     pub signature: [u8; 64],
 }
 
+#[repr(C)]
 pub struct VoterReplacementEvidence {
     pub prepare: VoterSlotLogId,
     pub has_snapshot: bool,
@@ -140,6 +151,7 @@ pub struct VoterReplacementEvidence {
     pub uniform: OptionalLogId,
 }
 
+#[repr(C)]
 pub struct VoterReplacementRecord {
     pub expected_revision: u64,
     pub attestation: LostVoterAttestationV1,
@@ -149,6 +161,7 @@ pub struct VoterReplacementRecord {
     pub evidence: VoterReplacementEvidence,
 }
 
+#[repr(C)]
 pub struct VoterSlotTable {
     pub cluster_instance: ConsensusClusterId,
     pub manifest_digest: [u8; 32],

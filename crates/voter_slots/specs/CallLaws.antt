@@ -77,7 +77,7 @@ unfolding formed
 formed-never (ok a n) next h e = h a e
 formed-never (no k) next h e = not-bad 0 e
 
-never-zero : (mark : Mark) (body : List ℕ) → asking mark body ≡ refused 0 → ⊥
+pub never-zero : (mark : Mark) (body : List ℕ) → asking mark body ≡ refused 0 → ⊥
 unfolding asking
 never-zero Tb body e = not-bad 0 e
 never-zero Mk body e = formed-never (whole markerBody body) (λ b. asks (markerAsked b)) (λ b. not-asks (markerAsked b) 0) e
@@ -103,7 +103,7 @@ unfoldable tableOf : VoterSlotTable → Standing → VoterSlotTable
 tableOf t absent = t
 tableOf t (stands u) = u
 
-same-table : (t u : VoterSlotTable) → stands t ≡ stands u → t ≡ u
+pub same-table : (t u : VoterSlotTable) → stands t ≡ stands u → t ≡ u
 unfolding tableOf
 same-table t u e = ap (tableOf t) e
 
@@ -182,7 +182,7 @@ pub observation-fits : (len : ℕ) → len ≤ mostBody → observationOf len �
 unfolding observationOf
 observation-fits len h = rw (le-leb len mostBody h)
 
-observation-long : (len : ℕ) → mostBody < len → observationOf len ≡ Unknown
+pub observation-long : (len : ℕ) → mostBody < len → observationOf len ≡ Unknown
 unfolding observationOf
 observation-long len h = rw (lt-leb len mostBody h)
 

@@ -26,7 +26,9 @@ use journal::step::Called;
 use journal::step::judge_observation_body;
 
 pub mod call;
+pub mod lent;
 pub mod result;
+pub mod table;
 
 // The retired test's no and yes.
 pub const NOT_RETIRED: u32 = 100;
