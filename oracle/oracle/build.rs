@@ -6,6 +6,7 @@ fn main() {
     let folder = concat!(env!("CARGO_MANIFEST_DIR"), "/../../target/staticlib");
     let libraries = [
         ("CARGO_FEATURE_PORT", "bench"),
+        ("CARGO_FEATURE_PORT", "bench_reading"),
         ("CARGO_FEATURE_SERVICE", "voter_slots"),
     ];
     for (feature, library) in libraries {

@@ -1,15 +1,12 @@
 // What the benchmark times: calls of the layers below, exported to Rust with nothing around them.
+// `bench_reading` has reading.
 ghost use mathlib.Core.Path.{_≡_};
 ghost use Rattle.identity.specs.Text.{isUtf8, isName, isSnapshotId};
-use codec::codec::DecodedTable;
-use codec::codec::decode_voter_slot_table;
 use codec::codec::encode_voter_slot_table;
 use identity::answer::Answer;
-use identity::answer::accepted;
 use identity::answer::number;
 use layout::reading::Reading;
 use raw::table::table_of;
-use records::blank::blank_voter_slot_table;
 use records::records::VoterSlotTable;
 use records::representable::is_representable;
 use records::successor::validate_successor_of;
@@ -37,8 +34,8 @@ pub extern "C" fn bench_is_snapshot_id(bytes: &[u8]) -> bool
     identity::text::is_snapshot_id(bytes)
 }
 
-// So many bytes are looked at, so many times, as the test for 30 does with most of a table. One of
-// them is left out in every second turn, so that no turn's result is kept for the next.
+// So many bytes are looked at, so many times, as the representability check does with most of a
+// table. One of them is left out in every second turn, so that no turn's result is kept for the next.
 #[no_mangle]
 pub extern "C" fn bench_zeros(bytes: &[u8], turns: u64) -> u64 {
     let mut refused = 0;
@@ -67,7 +64,7 @@ pub extern "C" fn bench_validity(raw: &[u8], turns: u64) -> u64 {
     answers
 }
 
-// The test for 30 of a table, given in its raw form, so many times: 0 where it passes.
+// The representability check of a table, given in its raw form, so many times: 0 where it passes.
 #[no_mangle]
 pub extern "C" fn bench_representable(raw: &[u8], turns: u64) -> u64 {
     let even = table_of_bytes(raw);
@@ -107,63 +104,6 @@ fn turned(revision: u64, i: u64) -> u64 {
         return revision + 1;
     }
     revision
-}
-
-// Reading a table's bytes, so many times. The last table is asked for the phase of a slot, 0 to 2, by
-// a number that the compiler does not know: so each table is kept, and kept whole.
-#[no_mangle]
-pub extern "C" fn bench_decode(bytes: &[u8], turns: u64) -> u64 {
-    let mut kept = blank_voter_slot_table();
-    let mut answers = 0;
-    let mut i = 0;
-    while i < turns {
-        let decoded = decode_voter_slot_table(bytes);
-        let answer = decoded.answer;
-        answers = answers | number_of(answer);
-        let table = decoded.table;
-        kept = table;
-        i += 1;
-    }
-    let place = (turns % 9) as usize;
-    answers | third(kept.slots[place].phase)
-}
-
-// The least that a reading of this form does, so many times: a table is handed back beside an answer,
-// the blank one beside a refusal, and kept where it is accepted. Nothing is read.
-#[no_mangle]
-pub extern "C" fn bench_handed_back(turns: u64) -> u64 {
-    let mut kept = blank_voter_slot_table();
-    let mut i = 0;
-    while i < turns {
-        let given = handed_back(i);
-        let answer = given.answer;
-        if accepted(answer) {
-            let table = given.table;
-            kept = table;
-        }
-        i += 1;
-    }
-    let place = (turns % 9) as usize;
-    third(kept.slots[place].phase)
-}
-
-fn handed_back(revision: u64) -> DecodedTable {
-    let mut table = blank_voter_slot_table();
-    if revision == u64::MAX {
-        return DecodedTable {
-            answer: Answer::InvalidRecord,
-            table,
-        };
-    }
-    table.revision = revision;
-    DecodedTable {
-        answer: Answer::Accepted,
-        table,
-    }
-}
-
-fn third(x: u8) -> u64 {
-    (x / 3) as u64
 }
 
 // Writing a table, given in its raw form, to the same buffer so many times.

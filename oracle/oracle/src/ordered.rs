@@ -1,6 +1,6 @@
 //! `oracle ordered`: a table with an open request, and its attestation, in which no two fields hold
 //! the same unless validity asks for it, as bytes of the original's own writers. The text is
-//! `crates/cases/specs/OrderBytes.antt`, from which the port reads the record field by field: two
+//! `crates/proved_cases/specs/OrderBytes.antt`, from which the port reads the record field by field: two
 //! fields that changed places in its format, its reader and its writer alike are seen there.
 
 use original::{
@@ -215,7 +215,7 @@ mod tests {
     /// The stored file is what the original writes now.
     #[test]
     fn stored_bytes_are_the_originals() {
-        let stored = include_str!("../../../crates/cases/specs/OrderBytes.antt");
+        let stored = include_str!("../../../crates/proved_cases/specs/OrderBytes.antt");
         assert_eq!(super::text(), stored);
     }
 }

@@ -32,12 +32,12 @@ use Rattle.control.specs.Retired.{isRetiredIdentity, retiredTest}
 use Rattle.control.specs.Quorum.{countsIn, among, isMajority, isQuorum}
 use Rattle.journal.specs.Records.{sizedBytes, counted, markerBody, noSnapshotPart, snapshotPart, stepBody, advanceBody, anyIdentity, candidate, expected, beginHead, beginBody, nodeIds, nodeSets, observationBody, markOf, knownMark, frame}
 use Rattle.journal.specs.Replay.{markerControl, markerAsked, snapshotIdOf, snapshotOf, stepOf, advanceOf, advanceControl, advanceAsked, beginOf, beginControl, beginAsked, observationAsked, formed, attested, asking, answered as answered-call, called, opened, opening, step, firstEntry, entriesIn, entries, run, ended, decimalIn, decimal, revisionOf, lineOf, lines, replayFrom, replay}
-use Rattle.cases.specs.Row.{Row, Every, every as every-row}
-use Rattle.cases.specs.Row.Row.{is-number, is-yes, is-no}
-use Rattle.cases.specs.Tables.{cut, tableOf}
-use Rattle.cases.specs.Calls.{around, candidateIn, attestedLast}
-use Rattle.cases.specs.LogRows.{replayRows}
-use Rattle.cases.specs.ControlRows.{wholeReplacement, supersession, beginOrder, advanceOrder, observationOrder, invalidTables, retiredRows, quorumRows}
+use Rattle.proved_cases.specs.Row.{Row, Every, every as every-row}
+use Rattle.proved_cases.specs.Row.Row.{is-number, is-yes, is-no}
+use Rattle.proved_cases.specs.Tables.{cut, tableOf}
+use Rattle.proved_cases.specs.Calls.{around, candidateIn, attestedLast}
+use Rattle.proved_cases.specs.LogRows.{replayRows}
+use Rattle.proved_cases.specs.ControlRows.{wholeReplacement, supersession, beginOrder, advanceOrder, observationOrder, invalidTables, retiredRows, quorumRows}
 
 -- ---- what the rows of bytes speak of
 

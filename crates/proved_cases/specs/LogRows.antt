@@ -9,8 +9,8 @@ use Rattle.records.specs.Equality.{eqBytes}
 use Rattle.journal.specs.Records.{markText}
 use Rattle.journal.specs.Replay.{Turn, entries, replay, revisionOf, run}
 use Rattle.journal.specs.Replay.Standing.{absent}
-use Rattle.cases.specs.Row.{Row}
-use Rattle.cases.specs.Row.Row.{is-yes}
+use Rattle.proved_cases.specs.Row.{Row}
+use Rattle.proved_cases.specs.Row.Row.{is-yes}
 
 -- the program prints this text of this log
 abbrev prints : (input output : List ℕ) → Row

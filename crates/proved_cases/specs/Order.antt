@@ -23,8 +23,8 @@ use Rattle.records.specs.declared.records.LostVoterAttestationV1.{LostVoterAtte
 use Rattle.records.specs.declared.records.VoterReplacementEvidence.{VoterReplacementEvidence}
 use Rattle.records.specs.declared.records.VoterReplacementRecord.{VoterReplacementRecord}
 use Rattle.records.specs.declared.records.VoterSlotTable.{VoterSlotTable}
-use Rattle.cases.specs.Tables.{cut}
-use Rattle.cases.specs.OrderBytes.{filled}
+use Rattle.proved_cases.specs.Tables.{cut}
+use Rattle.proved_cases.specs.OrderBytes.{filled}
 
 -- ---- members and receipts
 

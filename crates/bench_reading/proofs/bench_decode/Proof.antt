@@ -1,8 +1,8 @@
--- `bench::bench_decode` is safe and ends. Assumes nothing.
+-- `bench_reading::bench_decode` is safe and ends. Assumes nothing.
 use Prim.Native.Nat.{_<_, _-_, _^_}
 use borrow.Author.Needs.{needs}
-use Rattle.bench.proofs.bench_decode.Statement.{statement}
-use Rattle.bench.proofs.bench_decode.Tie as tie
+use Rattle.bench_reading.proofs.bench_decode.Statement.{statement}
+use Rattle.bench_reading.proofs.bench_decode.Tie as tie
 
 abbrev Inv-loop : tie.InvT-loop
 Inv-loop bytes turns kept₀ answers₀ i₀ kept answers i = turns < 2 ^ 64

@@ -1,8 +1,8 @@
--- `bench::bench_handed_back` is safe and ends. Assumes nothing.
+-- `bench_reading::bench_handed_back` is safe and ends. Assumes nothing.
 use Prim.Native.Nat.{_<_, _-_, _^_}
 use borrow.Author.Needs.{needs}
-use Rattle.bench.proofs.bench_handed_back.Statement.{statement}
-use Rattle.bench.proofs.bench_handed_back.Tie as tie
+use Rattle.bench_reading.proofs.bench_handed_back.Statement.{statement}
+use Rattle.bench_reading.proofs.bench_handed_back.Tie as tie
 
 abbrev Inv-loop : tie.InvT-loop
 Inv-loop turns kept₀ i₀ kept i = turns < 2 ^ 64

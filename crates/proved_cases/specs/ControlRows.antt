@@ -18,12 +18,12 @@ use Rattle.control.specs.Blank.{blankVoterReplacementStep}
 use Rattle.control.specs.Control.{beginKind, advanceKind, markerKind, recordCaughtUpKind, finalizeKind, full}
 use Rattle.control.specs.Quorum.{countsIn, isQuorum}
 use Rattle.control.specs.Retired.{retiredTest, retiredNumber}
-use Rattle.cases.specs.Row.{Row}
-use Rattle.cases.specs.Row.Row.{is-number, is-yes, is-no}
-use Rattle.cases.specs.Tables.{cut, memberOf, slotOf, placesOf, idleWith, tableOf}
-use Rattle.cases.specs.Calls.{attestOf, requestOf, candidateOf, request, unchecked, Act, begins, names, mixed, marks, bare, stepOf, snapshotAt, snapshots, catches, continues, fences, finalizes, line, start, first, old, new, both, around, openSecond, isPrepared, isInstalled, hasLearnerAt, hasLearner, isCaughtUp, isContinued, isFenced, isJoint, isUniform, isFinalizedAt, isFinalized, next, isNext, isReplacedAgain, isFencedAlone, second, otherSlot, third, bothNext, isSuperseded, isSecondInstalled, hasSecondLearner, isSupersededAgain, preparedWith, candidateIn, pendingOf, attestedLast, epochFull}
-use Rattle.cases.specs.Calls.Act.{observes}
-use Rattle.cases.specs.Calls.Turn.{gives, makes}
+use Rattle.proved_cases.specs.Row.{Row}
+use Rattle.proved_cases.specs.Row.Row.{is-number, is-yes, is-no}
+use Rattle.proved_cases.specs.Tables.{cut, memberOf, slotOf, placesOf, idleWith, tableOf}
+use Rattle.proved_cases.specs.Calls.{attestOf, requestOf, candidateOf, request, unchecked, Act, begins, names, mixed, marks, bare, stepOf, snapshotAt, snapshots, catches, continues, fences, finalizes, line, start, first, old, new, both, around, openSecond, isPrepared, isInstalled, hasLearnerAt, hasLearner, isCaughtUp, isContinued, isFenced, isJoint, isUniform, isFinalizedAt, isFinalized, next, isNext, isReplacedAgain, isFencedAlone, second, otherSlot, third, bothNext, isSuperseded, isSecondInstalled, hasSecondLearner, isSupersededAgain, preparedWith, candidateIn, pendingOf, attestedLast, epochFull}
+use Rattle.proved_cases.specs.Calls.Act.{observes}
+use Rattle.proved_cases.specs.Calls.Turn.{gives, makes}
 
 -- A request from its Begin to Finalize, with what is refused and what is repeated in each phase. It
 -- shuts out a program that accepts everything and changes nothing, one with a fixed answer, one

@@ -26,8 +26,8 @@ use Rattle.layout.specs.Format.{maxAttestationBytes, table, magicAndVersion, he
 use Rattle.layout.specs.Parts.{tableOf, replacementOf, tableHeadOf, changeOf}
 use Rattle.codec.specs.Codec.{decodeVoterSlotTable, decodeLostVoterAttestation, bounded}
 use Rattle.codec.specs.EntryLaws.{decode-judged}
-use Rattle.cases.specs.OrderBytes.{orderedTableBytes, orderedAttestationBytes}
-use Rattle.cases.specs.Order.{orderedAttestation, orderedEvidence, orderedRequest, orderedTable}
+use Rattle.proved_cases.specs.OrderBytes.{orderedTableBytes, orderedAttestationBytes}
+use Rattle.proved_cases.specs.Order.{orderedAttestation, orderedEvidence, orderedRequest, orderedTable}
 
 -- The attestation is read from its bytes, each field from its place.
 pub attestation-ordered : decodeLostVoterAttestation orderedAttestationBytes ≡ ok orderedAttestation 351

@@ -29,9 +29,9 @@ use Rattle.control.specs.declared.control.VoterSlotControl.{VoterSlotControl}
 use Rattle.control.specs.Blank.{blankVoterReplacementRequest, blankVoterReplacementStep, blankRequestId, blankRequestDigest}
 use Rattle.control.specs.Control.{beginKind, advanceKind, markerKind, recordSnapshotKind, recordCaughtUpKind, recordContinuationKind, fenceKind, finalizeKind, full, applyControl}
 use Rattle.control.specs.Observation.{observeMembership}
-use Rattle.cases.specs.Row.{Row}
-use Rattle.cases.specs.Row.Row.{is-outcome}
-use Rattle.cases.specs.Tables.{cut, key, memberOf, slotOf, idleWith, tableOf}
+use Rattle.proved_cases.specs.Row.{Row}
+use Rattle.proved_cases.specs.Row.Row.{is-outcome}
+use Rattle.proved_cases.specs.Tables.{cut, key, memberOf, slotOf, idleWith, tableOf}
 
 -- ---- requests
 
