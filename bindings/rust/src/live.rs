@@ -2,8 +2,8 @@ use std::fmt;
 
 use crate::ffi::{self, Outcome, Value};
 use crate::table::{accepted, count, is_retired};
-use crate::{Change, Command, CommandKind, Observation, OpenRequest, Record, Refusal, Table};
 use crate::MAX_TABLE_BYTES;
+use crate::{Change, Command, CommandKind, Observation, OpenRequest, Record, Refusal, Table};
 
 /// A table that is kept as a value: a call changes it in place, and no byte is read or written.
 ///
@@ -48,7 +48,9 @@ impl LiveTable {
     #[must_use]
     pub fn encode(&self) -> Vec<u8> {
         let mut out = [0; MAX_TABLE_BYTES];
-        let len = self.encode_into(&mut out).expect("a table is valid, and has room");
+        let len = self
+            .encode_into(&mut out)
+            .expect("a table is valid, and has room");
         out[..len].to_vec()
     }
 

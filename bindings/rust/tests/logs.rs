@@ -17,7 +17,10 @@ impl Both {
         let live = LiveTable::decode(bytes);
         let table = Table::decode(bytes);
         assert_eq!(table.as_ref().err(), live.as_ref().err());
-        let both = Both { table: table?, live: live? };
+        let both = Both {
+            table: table?,
+            live: live?,
+        };
         both.check();
         Ok(both)
     }
@@ -30,13 +33,30 @@ impl Both {
     }
 
     fn check(&self) {
-        assert!(self.live.encode() == self.table.as_bytes(), "the value's bytes differ");
+        assert!(
+            self.live.encode() == self.table.as_bytes(),
+            "the value's bytes differ"
+        );
         assert_eq!(
-            (self.live.revision(), self.live.epoch(), self.live.slots(), self.live.open_request()),
-            (self.table.revision(), self.table.epoch(), self.table.slots(), self.table.open_request())
+            (
+                self.live.revision(),
+                self.live.epoch(),
+                self.live.slots(),
+                self.live.open_request()
+            ),
+            (
+                self.table.revision(),
+                self.table.epoch(),
+                self.table.slots(),
+                self.table.open_request()
+            )
         );
         for node in [0, 1, 2, 3, 65_536, 65_537, 65_538, 131_074, u64::MAX] {
-            assert_eq!(self.live.is_retired(node), self.table.is_retired(node), "node {node}");
+            assert_eq!(
+                self.live.is_retired(node),
+                self.table.is_retired(node),
+                "node {node}"
+            );
         }
     }
 }
