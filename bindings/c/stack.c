@@ -14,6 +14,7 @@ enum { STACK_BYTES = 4 << 20, MOST_BYTES = 256 << 10, PAINT = 0xA5 };
 /* Nothing of the logs lies on the stack. */
 static uint8_t table[VOTER_SLOTS_TABLE_BYTES];
 static size_t table_len;
+static voter_slots_table kept;
 static uint8_t next[VOTER_SLOTS_TABLE_BYTES];
 static uint8_t record[4 + VOTER_SLOTS_BODY_BYTES];
 static unsigned long calls;
@@ -28,6 +29,20 @@ static void keep(voter_slots_result r) {
     }
 }
 
+/* The same on a table that is kept in memory. */
+static void play_kept(unsigned mark, const uint8_t *body, size_t len) {
+    if (mark == 0x5442) {
+        voter_slots_table_read(&kept, body, len);
+    } else if (mark == 0x4F42) {
+        voter_slots_table_observe(&kept, body, len);
+    } else {
+        voter_slots_table_apply(&kept, mark, body, len);
+    }
+    voter_slots_table_write(&kept, next, sizeof next);
+    voter_slots_table_retired(&kept, 2);
+    calls++;
+}
+
 static void play(unsigned mark, const uint8_t *body, size_t len) {
     if (mark == 0x5442) {
         if (table_len == 0) {
@@ -40,6 +55,7 @@ static void play(unsigned mark, const uint8_t *body, size_t len) {
     }
     voter_slots_read(table, table_len);
     voter_slots_retired(table, table_len, 2);
+    play_kept(mark, body, len);
 }
 
 static void *play_logs(void *paths) {
@@ -50,6 +66,7 @@ static void *play_logs(void *paths) {
             exit(2);
         }
         table_len = 0;
+        memset(&kept, 0, sizeof kept);
         while (fread(record, 1, 4, log) == 4) {
             size_t len = number16(record + 2);
             if (fread(record + 4, 1, len, log) != len) {

@@ -1,7 +1,9 @@
 //! `oracle bench-service`: nanoseconds of a call over bytes, as the service's library has it (the table
 //! is read, the command's body is read and applied, the table is written), next to the original's
-//! `decode_voter_slot_table`, the call, `encode_voter_slot_table`, to which the command is handed as a
-//! value. The bytes that both write must be equal.
+//! `decode_voter_slot_table`, the call, `encode_voter_slot_table`, to which the command is given as a
+//! value. The bytes that both write must be equal. Then the same call on a table value that is kept in
+//! memory, next to the original's call alone: each call has a fresh copy of the table, made before the
+//! clock starts.
 
 use std::hint::black_box;
 use std::time::Instant;
@@ -56,7 +58,21 @@ extern "C" {
         out_len: usize,
     ) -> Outcome;
     fn voter_slots_retired(table: *const u8, table_len: usize, node: u64) -> u32;
+    fn voter_slots_table_read(table: *mut Value, bytes: *const u8, bytes_len: usize) -> Outcome;
+    fn voter_slots_table_write(table: *const Value, out: *mut u8, out_len: usize) -> Outcome;
+    fn voter_slots_table_apply(
+        table: *mut Value,
+        mark: u32,
+        body: *const u8,
+        body_len: usize,
+    ) -> Outcome;
+    fn voter_slots_table_observe(table: *mut Value, body: *const u8, body_len: usize) -> Outcome;
 }
+
+/// A table value, opaque.
+#[derive(Clone)]
+#[repr(C)]
+struct Value([u64; 1057]);
 
 /// Hands over a line for each call as soon as it is measured.
 pub fn run(mut line: impl FnMut(&str) -> Result<(), String>) -> Result<(), String> {
@@ -78,6 +94,9 @@ pub fn run(mut line: impl FnMut(&str) -> Result<(), String>) -> Result<(), Strin
         }
         for (name, state, table, body) in commands(count) {
             line(&called(name, &state, &table, &body))?;
+        }
+        for (name, state, table, body) in commands(count) {
+            line(&kept(name, &state, &table, &body))?;
         }
     }
     line(&read("largest", &largest()))?;
@@ -213,4 +232,69 @@ unsafe fn over_bytes(
     }
     let mark = u32::from(u16::from_be_bytes(mark));
     voter_slots_apply(bytes, len, mark, body.as_ptr(), body.len(), place, room)
+}
+
+/// The call on a value that is kept in memory.
+fn kept(name: &str, state: &str, table: &VoterSlotTable, body: &Body) -> String {
+    let Ok(call) = call::held(body) else {
+        unreachable!("values that can be held")
+    };
+    let bytes = bytes_of(table);
+    let mut value = Value([0; 1057]);
+    let said = unsafe { voter_slots_table_read(&mut value, bytes.as_ptr(), bytes.len()) };
+    assert_eq!(said.answer, 0, "a valid table");
+    let mut after = table.clone();
+    assert_eq!(call::run(&call, &mut after), 0, "an accepted call");
+    let (mark, body) = (body.mark(), body.bytes());
+    let supplied = match &call {
+        Call::Control { supplied, .. } => *supplied,
+        Call::Observation { .. } => ([0; 32], [0; 32]),
+    };
+    let mut times = [Vec::new(), Vec::new()];
+    let mut values = vec![value.clone(); CALLS];
+    with_supplied(supplied.0, supplied.1, || {
+        for _ in 0..BATCHES {
+            let mut tables = vec![table.clone(); CALLS];
+            values.fill(value.clone());
+            let start = Instant::now();
+            for table in &mut tables {
+                match &call {
+                    Call::Control { control, cut, .. } => table
+                        .apply_control(black_box(control), *cut)
+                        .expect("accepted"),
+                    Call::Observation { sets, nodes, cut } => table
+                        .observe_membership(black_box(sets), nodes, *cut)
+                        .expect("accepted"),
+                }
+            }
+            times[0].push(start.elapsed().as_nanos());
+            let start = Instant::now();
+            for value in &mut values {
+                let said = unsafe { in_memory(value, mark, &body) };
+                assert_eq!(said.answer, 0);
+            }
+            times[1].push(start.elapsed().as_nanos());
+        }
+    });
+    let mut out = vec![0; 8072];
+    let said = unsafe { voter_slots_table_write(&values[0], out.as_mut_ptr(), out.len()) };
+    assert_eq!(said.answer, 0);
+    assert_eq!(
+        &out[..said.count as usize],
+        &bytes_of(&after)[..],
+        "the port's table has other bytes"
+    );
+    let slots = table.slots.len();
+    let [first, second] = times.map(|mut times| median(&mut times, CALLS).unwrap_or(0.0));
+    let ratio = second / first;
+    let name = format!("kept: {name}");
+    format!("{name:<22}{slots:>6}  {state:<26}{first:>10.1}{second:>10.1}  ratio {ratio:.2}")
+}
+
+unsafe fn in_memory(value: &mut Value, mark: [u8; 2], body: &[u8]) -> Outcome {
+    if mark == *b"OB" {
+        return voter_slots_table_observe(value, body.as_ptr(), body.len());
+    }
+    let mark = u32::from(u16::from_be_bytes(mark));
+    voter_slots_table_apply(value, mark, body.as_ptr(), body.len())
 }
