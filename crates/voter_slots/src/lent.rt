@@ -112,14 +112,21 @@ fn carry_out(table: VoterSlotTable, body: &[u8], called: Called) -> Afterwards
     requires { ⌜ (Makes table (now body) called) × ((validate table ≡ Accepted) × (validate (madeBy table (now body) called) ≡ Accepted)) ⌝ }
     ensures { λ r. ⌜ (r .result, r .table) ≡ told (answerOfCalled called, madeBy table (now (body .entry)) called) ⌝ }
 {
-    let answer = answer_of_called(called);
     if is_change(called) {
-        return tell(Controlled {
-            answer,
-            table: make_record(table, body, called),
-        });
+        let next = make_record(table, body, called);
+        return Afterwards {
+            result: result_of(next, 0),
+            table: next,
+        };
     }
-    tell(Controlled { answer, table })
+    let answer = answer_of_called(called);
+    if !accepted(answer) {
+        return stay(table, answer);
+    }
+    Afterwards {
+        result: result_of(table, 0),
+        table,
+    }
 }
 
 // What a call gave, as its caller is told.

@@ -1,33 +1,18 @@
 -- `voter_slots::lent::carry_out` meets its contract. Assumes nothing.
 use Prim.Native.Nat.{_≤_}
 use mathlib.Core.Path.{sym, ap, subst, _∙_}
-use Rattle.identity.specs.declared.answer.Answer.{Answer}
+use Rattle.records.specs.ValidationLaws.{failed, held}
 use Rattle.records.specs.declared.records.VoterSlotTable.{VoterSlotTable}
+use Rattle.journal.specs.Step.{answerOfCalled, madeBy}
 use Rattle.journal.specs.StepLaws.{unchanged}
+use Rattle.voter_slots.specs.declared.result.VoterSlotsResult.{VoterSlotsResult}
+use Rattle.voter_slots.specs.CallLaws.{change-accepted}
+use Rattle.voter_slots.specs.Export.{resultOf}
 use Rattle.voter_slots.specs.Lent.{told}
-use Rattle.voter_slots.specs.LentLaws.{valid-count}
+use Rattle.voter_slots.specs.LentLaws.{tells, tells-not, valid-count}
 use borrow.Author.Needs.{needs}
 use Rattle.voter_slots.proofs.lent.carry_out.Statement.{statement}
 use Rattle.voter_slots.proofs.lent.carry_out.Tie as tie
-
-tell-requires : tie.Need-tell-requires
-tell-requires c κs = λ _. subst (λ (t : VoterSlotTable). t .count ≤ 9) (sym (c .make-record .ensures)) (valid-count _ (c .before .before .before .before .before .pre .1 .1))
-
-returns : tie.Need-returns
-returns c =
-    c .tell .ensures ∙ (λ i. told (c .before .before .before .before .answer-of-called .ensures i, c .before .make-record .ensures i))
-
-tell-requires-2 : tie.Need-tell-requires-2
-tell-requires-2 c κs = λ _. valid-count _ (c .before .before .before .before .pre .1 .0)
-
-returns-2 : tie.Need-returns-2
-returns-2 c =
-    let s = c .before .before .before .before .before .args in
-    c .tell2 .ensures
-    ∙ (λ i. told (c .before .before .before .answer-of-called .ensures i, unchanged (s .table) (s .body .now) (s .called) (sym (c .before .before .is-change .ensures) ∙ c .before .if1 .left) i))
-
-answer-of-called-requires : tie.Need-answer-of-called-requires
-answer-of-called-requires c κs = search needs
 
 is-change-requires : tie.Need-is-change-requires
 is-change-requires c κs = search needs
@@ -35,14 +20,53 @@ is-change-requires c κs = search needs
 make-record-requires : tie.Need-make-record-requires
 make-record-requires c κs = search needs
 
+result-of-requires : tie.Need-result-of-requires
+result-of-requires c κs = subst (λ (t : VoterSlotTable). t .count ≤ 9) (sym (c .make-record .ensures)) (valid-count _ (c .before .before .before .before .pre .1 .1))
+
+returns : tie.Need-returns
+returns c =
+    let s = c .before .before .before .before .before .args in
+    let e = c .before .make-record .ensures in
+    (λ i. ((c .result-of .ensures ∙ ap (λ (t : VoterSlotTable). resultOf t 0) e) i, e i))
+    ∙ tells (answerOfCalled (s .called)) (madeBy (s .table) (s .body .now) (s .called)) (change-accepted (s .called) (sym (c .before .before .before .is-change .ensures) ∙ c .before .before .if1 .taken))
+
+answer-of-called-requires : tie.Need-answer-of-called-requires
+answer-of-called-requires c κs = search needs
+
+accepted-requires : tie.Need-accepted-requires
+accepted-requires c κs = search needs
+
+stay-requires : tie.Need-stay-requires
+stay-requires c κs = search needs
+
+returns-2 : tie.Need-returns-2
+returns-2 c =
+    let s = c .before .before .before .before .before .before .before .args in
+    let a = c .before .before .before .answer-of-called .ensures in
+    let u = unchanged (s .table) (s .body .now) (s .called) (sym (c .before .before .before .before .before .is-change .ensures) ∙ c .before .before .before .before .if1 .left) in
+    c .stay .ensures ∙ tells-not (c .before .before .before .answer-of-called .result) (s .table) (failed (c .before .before .accepted .ensures) (c .before .if2 .taken)) ∙ (λ i. told (a i, u i))
+
+result-of-requires-2 : tie.Need-result-of-requires-2
+result-of-requires-2 c κs = valid-count _ (c .before .before .before .before .before .before .pre .1 .0)
+
+returns-3 : tie.Need-returns-3
+returns-3 c =
+    let s = c .before .before .before .before .before .before .before .args in
+    let a = c .before .before .before .answer-of-called .ensures in
+    let u = unchanged (s .table) (s .body .now) (s .called) (sym (c .before .before .before .before .before .is-change .ensures) ∙ c .before .before .before .before .if1 .left) in
+    ap (λ (r : VoterSlotsResult). (r, s .table)) (c .result-of2 .ensures) ∙ tells (c .before .before .before .answer-of-called .result) (s .table) (held (c .before .before .accepted .ensures) (c .before .if2 .left)) ∙ (λ i. told (a i, u i))
+
 pub carry-out-spec : {M : Type 1} → statement M
 carry-out-spec =
     tie.close
     (tie.spec
-    answer-of-called-requires
     is-change-requires
     make-record-requires
-    tell-requires
+    result-of-requires
     returns
-    tell-requires-2
-    returns-2)
+    answer-of-called-requires
+    accepted-requires
+    stay-requires
+    returns-2
+    result-of-requires-2
+    returns-3)
