@@ -34,8 +34,8 @@ extern "C" {
 type TableOf = extern "C" fn(*const u8, usize, *mut u64) -> u64;
 type RawOf = extern "C" fn(*const u64, *mut u8, usize) -> u64;
 type CommandOf = extern "C" fn(*const u8, usize, u64, *mut u64) -> u64;
-type Apply = extern "C" fn(*mut u64, *const u64, u64, u64) -> u64;
-type Observe = extern "C" fn(
+pub type Apply = extern "C" fn(*mut u64, *const u64, u64, u64) -> u64;
+pub type Observe = extern "C" fn(
     *mut u64,
     *const u64,
     usize,
@@ -46,13 +46,13 @@ type Observe = extern "C" fn(
     u64,
     u64,
 ) -> u64;
-type Retired = extern "C" fn(*const u64, u64) -> u64;
+pub type Retired = extern "C" fn(*const u64, u64) -> u64;
 
 /// A shared library, which stays open.
-struct Library(*mut c_void);
+pub struct Library(*mut c_void);
 
 impl Library {
-    fn open(path: &str) -> Result<Self, String> {
+    pub fn open(path: &str) -> Result<Self, String> {
         let name = CString::new(path).map_err(|_| "a path with a zero byte".to_owned())?;
         // RTLD_NOW.
         let handle = unsafe { dlopen(name.as_ptr(), 2) };
@@ -64,7 +64,7 @@ impl Library {
     }
 
     /// The function of this name, whose type is the caller's word.
-    unsafe fn function<F: Copy>(&self, name: &str) -> Option<F> {
+    pub unsafe fn function<F: Copy>(&self, name: &str) -> Option<F> {
         let name = CString::new(name).ok()?;
         let found = dlsym(self.0, name.as_ptr());
         (!found.is_null()).then(|| std::mem::transmute_copy(&found))
@@ -72,14 +72,14 @@ impl Library {
 }
 
 /// What makes the port's values from those of questions, and the raw form of its tables.
-struct Support {
+pub struct Support {
     table: TableOf,
     raw: RawOf,
     command: CommandOf,
 }
 
 impl Support {
-    fn open(path: &str) -> Result<Self, String> {
+    pub fn open(path: &str) -> Result<Self, String> {
         let library = Library::open(path)?;
         let missing = || format!("{path}: a function is missing");
         unsafe {
@@ -91,21 +91,21 @@ impl Support {
         }
     }
 
-    fn table(&self, table: &VoterSlotTable) -> Vec<u64> {
+    pub fn table(&self, table: &VoterSlotTable) -> Vec<u64> {
         let raw = raw::of_table(table).bytes;
         let mut value = vec![0; TABLE];
         (self.table)(raw.as_ptr(), raw.len(), value.as_mut_ptr());
         value
     }
 
-    fn raw(&self, value: &[u64]) -> Vec<u8> {
+    pub fn raw(&self, value: &[u64]) -> Vec<u8> {
         let mut raw = vec![0; 8062];
         (self.raw)(value.as_ptr(), raw.as_mut_ptr(), raw.len());
         raw
     }
 
     /// The command of a record; zeros for an observation.
-    fn command(&self, body: &Body) -> Vec<u64> {
+    pub fn command(&self, body: &Body) -> Vec<u64> {
         let bytes = body.bytes();
         let mut value = vec![0; COMMAND];
         if let Some(kind) = kind(body) {
@@ -116,7 +116,7 @@ impl Support {
 }
 
 /// Begin 0, Advance 1, Marker 2: the port's kinds.
-fn kind(body: &Body) -> Option<usize> {
+pub fn kind(body: &Body) -> Option<usize> {
     match body {
         Body::Begin(_) => Some(0),
         Body::Advance(_) => Some(1),
@@ -126,15 +126,15 @@ fn kind(body: &Body) -> Option<usize> {
 }
 
 /// One way to call the port. A call for each kind of command, or one for all of them.
-struct Port {
-    name: String,
-    apply: [Option<Apply>; 3],
-    observe: Option<Observe>,
-    retired: Option<Retired>,
+pub struct Port {
+    pub name: String,
+    pub apply: [Option<Apply>; 3],
+    pub observe: Option<Observe>,
+    pub retired: Option<Retired>,
 }
 
 impl Port {
-    fn open(path: &str) -> Result<Self, String> {
+    pub fn open(path: &str) -> Result<Self, String> {
         let library = Library::open(path)?;
         let file = path.rsplit('/').next().unwrap_or(path);
         unsafe {
@@ -287,7 +287,7 @@ fn expected(task: &Task) -> Vec<u8> {
     raw::of_table(&table).bytes
 }
 
-fn held(body: &Body) -> Call {
+pub fn held(body: &Body) -> Call {
     call::held(body).unwrap_or_else(|_| unreachable!("values that can be held"))
 }
 

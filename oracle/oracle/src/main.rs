@@ -4,6 +4,7 @@
 mod answer;
 mod bench;
 mod bench_control;
+mod bench_growth;
 mod bench_logs;
 #[cfg(feature = "service")]
 mod bench_service;
@@ -53,6 +54,8 @@ const USAGE: &str = "usage:
   oracle bench
   oracle bench-control SUPPORT LIBRARY...
   oracle once-control SUPPORT LIBRARY
+  oracle bench-growth SUPPORT BYTES LIBRARY...
+  oracle once-growth SUPPORT BYTES LIBRARY...
   oracle bench-log KIND COUNT > log
   oracle bench-service
 kinds:";
@@ -100,8 +103,9 @@ fn run(words: &[&str]) -> Result<ExitCode, String> {
         ["bench"] => bench::run(|line| print(format!("{line}\n").as_bytes()).map(drop))
             .map(|()| ExitCode::SUCCESS),
         ["bench-log", kind, count] => {
-            let log = bench_logs::log(kind, number(count)? as usize);
-            print(&log.ok_or_else(|| format!("the kinds are: {}", bench_logs::KINDS.join(" ")))?)
+            let count = number(count)? as usize;
+            bench_logs::write(kind, count, &mut |piece| print(piece).map(drop))
+                .map(|()| ExitCode::SUCCESS)
         }
         ["bench-control", support, ports @ ..] => bench_control::run(support, ports, |line| {
             print(format!("{line}\n").as_bytes()).map(drop)
@@ -111,6 +115,18 @@ fn run(words: &[&str]) -> Result<ExitCode, String> {
             print(format!("{line}\n").as_bytes()).map(drop)
         })
         .map(|()| ExitCode::SUCCESS),
+        ["bench-growth", support, bytes, ports @ ..] => {
+            bench_growth::run(support, bytes, ports, |line| {
+                print(format!("{line}\n").as_bytes()).map(drop)
+            })
+            .map(|()| ExitCode::SUCCESS)
+        }
+        ["once-growth", support, bytes, ports @ ..] => {
+            bench_growth::once(support, bytes, ports, |line| {
+                print(format!("{line}\n").as_bytes()).map(drop)
+            })
+            .map(|()| ExitCode::SUCCESS)
+        }
         #[cfg(feature = "service")]
         ["bench-service"] => {
             bench_service::run(|line| print(format!("{line}\n").as_bytes()).map(drop))
