@@ -189,7 +189,8 @@ def failing_calls(program, logs):
 
 def faulty(words, number, kind, path=None):
     """Runs a program of which one call goes wrong."""
-    environment = dict(os.environ, LD_PRELOAD=SHIM, FAULT_AT=str(number), FAULT_KIND=kind)
+    # A panic's message, without the trace that takes long to print.
+    environment = dict(os.environ, LD_PRELOAD=SHIM, FAULT_AT=str(number), FAULT_KIND=kind, RUST_BACKTRACE='0')
     with open(path or os.devnull, 'rb') as file:
         return subprocess.run(words, stdin=file, stdout=subprocess.PIPE, stderr=subprocess.PIPE, timeout=PATIENCE, env=environment, check=False)
 
@@ -355,7 +356,8 @@ def errors_at_every_call(services):
             passing = ['short'] if call[0] in ('read', 'write') else []
             # The C library's rename is not interrupted, and its callers do not ask for that.
             passing += [str(errno.EINTR)] if call[0] != 'rename' else []
-            for kind in [str(error) for error in ERRORS] + passing:
+            errors = ERRORS + (errno.EPIPE,) if call[:2] == ('write', '1') else ERRORS
+            for kind in [str(error) for error in errors] + passing:
                 service.restart()
                 asked = f'{service.name}, call {number} ({" ".join(call[:2])}), {kind}'
                 run = faulty(service.words(), number, kind)

@@ -65,10 +65,10 @@ impl Io {
             out: Vec::new(),
             err: Vec::new(),
         };
-        if random.chance(60) {
-            io.piece = random
-                .pick(&[1, 2, 3, 7, 64, 500, 5000])
-                .max(log.len() / 200);
+        if random.chance(30) {
+            // A long log in at most some fifty reads: each costs the program a turn.
+            let piece = random.pick(&[1, 2, 3, 7, 64, 500, 5000]);
+            io.piece = piece.max(log.len() / 25);
             io.interrupts = random.chance(50);
         }
         match random.below(6) {
