@@ -1,0 +1,135 @@
+//! The port's code, made safe to call: the service's library and the replay program, each built twice
+//! from the proved crates. `plain` is the code that is delivered; `guided` is the same with counters,
+//! which tell libFuzzer how far an input gets.
+
+/// What a call gives; see `voter_slots_result` in `bindings/c/voter_slots.h`.
+#[derive(Clone, Copy, Debug, PartialEq, Eq)]
+#[repr(C)]
+pub struct Outcome {
+    pub answer: u32,
+    pub slots: u32,
+    pub count: u64,
+    pub revision: u64,
+    pub epoch: u64,
+    pub open_slot: u32,
+    pub open_phase: u32,
+}
+
+type Read = unsafe extern "C" fn(*const u8, usize) -> Outcome;
+type Write = unsafe extern "C" fn(*const u8, usize, *mut u8, usize) -> Outcome;
+type Apply =
+    unsafe extern "C" fn(*const u8, usize, u32, *const u8, usize, *mut u8, usize) -> Outcome;
+type Observe = unsafe extern "C" fn(*const u8, usize, *const u8, usize, *mut u8, usize) -> Outcome;
+type Retired = unsafe extern "C" fn(*const u8, usize, u64) -> u32;
+
+extern "C" {
+    fn voter_slots_read(table: *const u8, len: usize) -> Outcome;
+    fn voter_slots_write(table: *const u8, len: usize, out: *mut u8, room: usize) -> Outcome;
+    fn voter_slots_apply(
+        table: *const u8,
+        len: usize,
+        mark: u32,
+        body: *const u8,
+        size: usize,
+        out: *mut u8,
+        room: usize,
+    ) -> Outcome;
+    fn voter_slots_observe(
+        table: *const u8,
+        len: usize,
+        body: *const u8,
+        size: usize,
+        out: *mut u8,
+        room: usize,
+    ) -> Outcome;
+    fn voter_slots_retired(table: *const u8, len: usize, node: u64) -> u32;
+
+    fn guided_voter_slots_read(table: *const u8, len: usize) -> Outcome;
+    fn guided_voter_slots_write(table: *const u8, len: usize, out: *mut u8, room: usize)
+        -> Outcome;
+    fn guided_voter_slots_apply(
+        table: *const u8,
+        len: usize,
+        mark: u32,
+        body: *const u8,
+        size: usize,
+        out: *mut u8,
+        room: usize,
+    ) -> Outcome;
+    fn guided_voter_slots_observe(
+        table: *const u8,
+        len: usize,
+        body: *const u8,
+        size: usize,
+        out: *mut u8,
+        room: usize,
+    ) -> Outcome;
+    fn guided_voter_slots_retired(table: *const u8, len: usize, node: u64) -> u32;
+
+    fn plain_replay_main() -> i32;
+    fn guided_replay_main() -> i32;
+}
+
+/// One build of the library.
+pub struct Library {
+    pub name: &'static str,
+    read: Read,
+    write: Write,
+    apply: Apply,
+    observe: Observe,
+    retired: Retired,
+}
+
+pub const LIBRARIES: [Library; 2] = [
+    Library {
+        name: "libvoter_slots.a",
+        read: voter_slots_read,
+        write: voter_slots_write,
+        apply: voter_slots_apply,
+        observe: voter_slots_observe,
+        retired: voter_slots_retired,
+    },
+    Library {
+        name: "the library with counters",
+        read: guided_voter_slots_read,
+        write: guided_voter_slots_write,
+        apply: guided_voter_slots_apply,
+        observe: guided_voter_slots_observe,
+        retired: guided_voter_slots_retired,
+    },
+];
+
+// SAFETY, of each call: every pointer and length is that of a slice that lives throughout it, and the
+// slice that is written is borrowed `&mut`, so that it overlaps no other.
+impl Library {
+    pub fn read(&self, table: &[u8]) -> Outcome {
+        unsafe { (self.read)(table.as_ptr(), table.len()) }
+    }
+
+    pub fn write(&self, table: &[u8], out: &mut [u8]) -> Outcome {
+        unsafe { (self.write)(table.as_ptr(), table.len(), out.as_mut_ptr(), out.len()) }
+    }
+
+    /// A command, or with the mark OB an observation.
+    pub fn call(&self, table: &[u8], mark: u32, body: &[u8], out: &mut [u8]) -> Outcome {
+        let (bytes, len, size, room) = (table.as_ptr(), table.len(), body.len(), out.len());
+        let (body, out) = (body.as_ptr(), out.as_mut_ptr());
+        if mark == OBSERVATION {
+            return unsafe { (self.observe)(bytes, len, body, size, out, room) };
+        }
+        unsafe { (self.apply)(bytes, len, mark, body, size, out, room) }
+    }
+
+    pub fn retired(&self, table: &[u8], node: u64) -> u32 {
+        unsafe { (self.retired)(table.as_ptr(), table.len(), node) }
+    }
+}
+
+/// The mark of an observation, as a number.
+pub const OBSERVATION: u32 = 0x4F42;
+
+/// The builds of the replay program's `main`. It reads by `fuzz_read` and writes by `fuzz_write`.
+pub const PROGRAMS: [(&str, unsafe extern "C" fn() -> i32); 2] = [
+    ("the replay program", plain_replay_main),
+    ("the replay program with counters", guided_replay_main),
+];
