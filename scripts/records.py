@@ -1,5 +1,5 @@
 #!/usr/bin/env python3
-"""Writes what each struct of crates/records/src/records.rt has beside it: equality, a blank, a test for it, and what its values hold.
+"""Writes what each struct of crates/records/src/records.rt needs: equality, a blank, a test for it, and what its values hold.
 
 Run it from the root of the repository, after a change to a struct:
 

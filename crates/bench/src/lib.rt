@@ -37,8 +37,8 @@ pub extern "C" fn bench_is_snapshot_id(bytes: &[u8]) -> bool
     identity::text::is_snapshot_id(bytes)
 }
 
-// So many bytes are looked at, so many times, as the test for 30 does with most of a table. One of
-// them is left out in every second turn, so that no turn's result is kept for the next.
+// So many bytes are looked at, so many times, as the representability check does with most of a table.
+// One of them is left out in every second turn, so that no turn's result is kept for the next.
 #[no_mangle]
 pub extern "C" fn bench_zeros(bytes: &[u8], turns: u64) -> u64 {
     let mut refused = 0;
@@ -67,7 +67,7 @@ pub extern "C" fn bench_validity(raw: &[u8], turns: u64) -> u64 {
     answers
 }
 
-// The test for 30 of a table, given in its raw form, so many times: 0 where it passes.
+// The representability check of a table, given in its raw form, so many times: 0 where it passes.
 #[no_mangle]
 pub extern "C" fn bench_representable(raw: &[u8], turns: u64) -> u64 {
     let even = table_of_bytes(raw);
@@ -128,8 +128,8 @@ pub extern "C" fn bench_decode(bytes: &[u8], turns: u64) -> u64 {
     answers | third(kept.slots[place].phase)
 }
 
-// The least that a reading of this form does, so many times: a table is handed back beside an answer,
-// the blank one beside a refusal, and kept where it is accepted. Nothing is read.
+// The least that a reading of this form does, so many times: a table is returned with an answer, the
+// blank one with a refusal, and kept where it is accepted. Nothing is read.
 #[no_mangle]
 pub extern "C" fn bench_handed_back(turns: u64) -> u64 {
     let mut kept = blank_voter_slot_table();

@@ -40,7 +40,7 @@ pub version-two : decodeLostVoterAttestation (0 ∷ 2 ∷ drop 2 orderedAttestat
 unfolding decodeLostVoterAttestation bounded andThen whole pick gate decSeq decCheck decMap dep check via held raw decRaw uint decUint val identity slotId incarnation validateSlotId validateVoterIncarnation sized string spiffeId choice version claimsRequest claimsSlot claimsNames times claimsEnd claims attestation
 version-two = refl
 
--- it ends behind the size of the first name, 2,049: 5
+-- it ends after the size of the first name, 2,049: 5
 pub size-before-bytes : decodeLostVoterAttestation (take 164 orderedAttestationBytes ++ (8 ∷ 1 ∷ [])) ≡ no 5
 unfolding decodeLostVoterAttestation bounded andThen whole pick gate decSeq decCheck decMap dep check via held raw decRaw uint decUint val identity slotId incarnation validateSlotId validateVoterIncarnation sized string spiffeId choice version claimsRequest claimsSlot claimsNames times claimsEnd claims attestation
 size-before-bytes = refl

@@ -2,7 +2,8 @@
 //
 // Ported from crates/opc-consensus/src/voter_slots/codec.rs of openpacketcore-sdk, commit
 // 717de332e7, Apache-2.0 (see NOTICE). Changed: a reading gives an answer and the table, the blank
-// one beside a refusal; the writer fills a buffer that is lent; the test for 30 stands before it.
+// one with a refusal; the writer fills a buffer that is lent, and makes the representability check
+// first.
 ghost use Prim.Native.Nat.{_≤_};
 ghost use mathlib.Core.Path.{_≡_};
 ghost use lib.ListN.{length};
@@ -42,8 +43,8 @@ pub struct DecodedAttestation {
     pub attestation: LostVoterAttestationV1,
 }
 
-// The bound, the fields, nothing left over, and then validity. What the fields hold passes the test
-// for 30, so that is not asked again.
+// The bound, the fields, nothing left over, and then validity. What the fields hold passes the
+// representability check, so that is not made again.
 pub fn decode_voter_slot_table(bytes: &[u8]) -> DecodedTable
     ensures { λ r. ⌜ (numberOf (r .answer), r .table) ≡ decoded blankVoterSlotTable (decodeVoterSlotTable (now (bytes .entry))) ⌝ }
 {
@@ -104,7 +105,7 @@ fn refused_attestation(answer: Answer) -> DecodedAttestation
 }
 
 // The table's bytes at the start of the buffer, and their count; refused, nothing is written: the size
-// is reckoned before the first byte is put.
+// is computed before the first byte is put.
 pub fn encode_voter_slot_table(buffer: &mut [u8], table: VoterSlotTable) -> Reading
     ensures { λ r. ⌜ (report r, now (buffer .exit)) ≡ outcome (now (buffer .entry)) (encodeVoterSlotTable table (now (buffer .entry))) ⌝ }
 {

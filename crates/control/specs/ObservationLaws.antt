@@ -203,7 +203,7 @@ module _ (t : VoterSlotTable) (fits : representable t ≡ true) (is-open : t .«
       (λ _. refuses (added t cut) t _)
       ∙ branch (added t cut) t (ltb (targetIndex t) (t .count)) _ _ refl refl)
 
--- An observation after the tests for 30 and 31, of any table that the Rust types can hold.
+-- An observation that passed the tests for 30 and 31, of any table that the Rust types can hold.
 pub settle-observe : (t : VoterSlotTable) → representable t ≡ true → (sets : List (List ℕ)) (nodes : List ℕ) (cut : VoterSlotLogId)
     → settle t (observe t sets nodes cut) ≡ carried (added t cut) t (judgeObservation t sets nodes cut)
 unfolding observe settle judgeObservation

@@ -56,7 +56,9 @@ use records::records::VoterSlotTable;
 
 // A Begin with the cut at which it is committed: what its judge, its maker and its thin call take.
 pub struct VoterBegin {
+    // The request.
     pub request: VoterReplacementRequest,
+    // Engine cut of the command.
     pub cut: VoterSlotLogId,
 }
 

@@ -61,10 +61,15 @@ use records::validation::validate_representable;
 
 // What sets and nodes are to the open request.
 pub enum Seen {
+    // Not what this phase allows.
     Strange,
+    // What this phase has already.
     NothingNew,
+    // The learner was added.
     NewLearner,
+    // The joint membership.
     NewJoint,
+    // The successor's membership alone.
     NewUniform,
 }
 
@@ -79,11 +84,17 @@ pub enum Observed {
 
 // The tests of the sets and the nodes.
 pub struct SetTests {
+    // The successor has no id that the predecessor lacks.
     pub no_candidate: bool,
+    // The one set is the predecessor's.
     pub is_old: bool,
+    // The phase and the nodes fit the predecessor's set.
     pub fits_old: bool,
+    // The candidate is among the nodes.
     pub has_candidate: bool,
+    // The sets are the predecessor's and the successor's, and the nodes fit them.
     pub is_joint: bool,
+    // The one set is the successor's, and so are the nodes.
     pub is_new: bool,
 }
 

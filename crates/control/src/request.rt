@@ -88,9 +88,11 @@ fn are_valid_claims(r: VoterReplacementRequest) -> bool
     t1 & (t2 & t3)
 }
 
-// Whether a slot has a receipt of that request; and whether the first one has that digest.
+// What the slots' receipts say of a request.
 pub struct Receipt {
+    // A slot has a receipt of that request.
     pub found: bool,
+    // The first such receipt has that digest.
     pub same: bool,
 }
 
@@ -147,9 +149,11 @@ pub fn slot_check(t: VoterSlotTable, r: VoterReplacementRequest) -> Answer
     answer_by(current, enough, Answer::StaleIncarnation)
 }
 
-// The member of the first slot of that number, or a blank.
+// The first slot of a number.
 pub struct Named {
+    // There is such a slot.
     pub found: bool,
+    // Its member, or a blank.
     pub member: VoterSlotMember,
 }
 

@@ -70,7 +70,7 @@ unfoldable pub decoded : List ℕ → Decoded
 decoded s = decodedOf (charWidth s) s
 
 -- What stands at the front of s where the first byte has picked an alternative and rs are the ranges of the bytes after it: `decode_two`,
--- `decode_three`, `decode_four`, which are handed the bounds of the second byte.
+-- `decode_three`, `decode_four`, which take the bounds of the second byte.
 abbrev pub ledBy : List Range → List ℕ → Decoded
 ledBy rs s = decodedOf (cond (fits rs (drop 1 s)) (suc (length rs)) 0) s
 

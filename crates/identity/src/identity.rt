@@ -36,14 +36,19 @@ const NODE_ID_SPAN: ConsensusNodeId = 65536;
 
 // The scope of a configuration: its cluster, its digest and its epoch.
 pub struct ConsensusIdentity {
+    // Cluster identity digest.
     pub cluster_id: ConsensusClusterId,
+    // Exact configuration digest.
     pub configuration_id: ConsensusConfigurationId,
+    // Monotonic configuration epoch.
     pub configuration_epoch: ConsensusConfigurationEpoch,
 }
 
 // One incarnation of one slot.
 pub struct VoterSlotIdentity {
+    // Stable ordinal assigned by the immutable installation manifest, 1 to 65,535.
     pub slot: SlotId,
+    // Positive within its slot, at most 2^47, never reused after retirement.
     pub incarnation: VoterIncarnation,
 }
 

@@ -53,11 +53,13 @@ pub enum Allowed {
     NoControlNoWhitespace,
 }
 
-// The part of a strict name that is being read: whether all was right so far, whether the part is the
-// trust domain, and how many of its bytes were read.
+// The part of a strict name that is being read.
 struct Part {
+    // Whether all was right so far.
     good: bool,
+    // Whether the part is the trust domain.
     in_domain: bool,
+    // How many of its bytes were read.
     run: usize,
 }
 

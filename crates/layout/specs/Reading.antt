@@ -1,5 +1,5 @@
 -- What the readers' answers say: for each case document 01's number and the values. An answer that carries a value is a reading of the format;
--- `report` is of an answer that stands beside its value, and `outcome` puts both together, with the blank beside a refusal.
+-- `report` is of an answer that comes with its value, and `outcome` puts both together, with the blank where it is a refusal.
 -- Assumes nothing.
 use Prim.Native.Nat.{ℕ, _+_}
 use mathlib.Core.Bool.{Bool}
@@ -43,7 +43,7 @@ abbrev pub report : Reading → Res (Unit {0})
 report (reading.To n) = ok tt n
 report (reading.Refused a) = no (numberOf a)
 
--- the report of a reading, and its value, or the blank beside a refusal; of a writing, and the buffer, as it was beside a refusal
+-- the report of a reading, and its value, or the blank with a refusal; of a writing, and the buffer, unchanged with a refusal
 unfoldable pub outcome : {A : Type 0} → A → Res A → Res (Unit {0}) × A
 outcome blank (ok a n) = (ok tt n, a)
 outcome blank (no k) = (no k, blank)

@@ -106,7 +106,7 @@ pub struct Change {
     pub phase: u8,
 }
 
-// The front of a table, behind the magic and the version.
+// The front of a table, after the magic and the version.
 pub struct TableHead {
     pub cluster_instance: ConsensusClusterId,
     pub manifest_digest: [u8; 32],

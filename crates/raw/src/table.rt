@@ -32,14 +32,14 @@ const CONFIGURATION_EPOCH: usize = 72;
 
 const SLOTS: usize = 80;
 
-// Behind nine slot records: 80 + 9 * 181.
+// After nine slot records: 80 + 9 * 181.
 const COUNT: usize = 1709;
 
 const HAS_REPLACEMENT: usize = 1710;
 
 const REPLACEMENT: usize = 1711;
 
-// Behind expected_revision 8, the attestation 4,423, two configurations of 747 and the phase 1:
+// After expected_revision 8, the attestation 4,423, two configurations of 747 and the phase 1:
 // 1,711 + 5,926.
 const EVIDENCE: usize = 7637;
 
@@ -188,7 +188,7 @@ fn slots_of(raw: &[u8]) -> [VoterSlotRecord; 9] {
     slots
 }
 
-// A record of each kind begins at at. Its fields lie one behind the other; their sizes, which give
+// A record of each kind begins at at. Its fields lie one after the other; their sizes, which give
 // the offsets, stand above each function.
 
 // member 82, retired_through 8, phase 1, has_last_result 1, last_result 89: 181 bytes.

@@ -1,5 +1,5 @@
 // The raw form of a table and of an attestation, as oracle/FORMAT.md has it: what `table` reads,
-// written. A byte behind the end of the place is left out, so that no caller has to show that a
+// written. A byte after the end of the place is left out, so that no caller has to show that a
 // record lies within.
 ghost use Prim.Native.Nat.{_+_, _≤_};
 use crate::table::copy;
@@ -17,7 +17,7 @@ use records::records::VoterSlotRecord;
 use records::records::VoterSlotTable;
 use records::records::VoterSnapshotEvidence;
 
-// The offsets stand beside the readers of `table`.
+// The offsets stand at the readers of `table`.
 pub fn put_table(raw: &mut [u8], table: VoterSlotTable) {
     copy(raw, 0, 32, &table.cluster_instance, 0);
     copy(raw, 32, 64, &table.manifest_digest, 0);

@@ -179,7 +179,7 @@ pub fn read_member(bytes: &[u8]) -> MemberRead
     }
 }
 
-// The first so many of the nine places; blanks behind them.
+// The first so many of the nine places; blanks after them.
 fn read_members(bytes: &[u8], count: usize) -> MembersRead
     requires { ⌜ count ≤ 9 ⌝ }
     ensures { λ r. ⌜ (report (r .answer), r .value) ≡ outcome blankVoterSlotMembers (members count .dec (now (bytes .entry))) ⌝ }
@@ -390,7 +390,7 @@ pub fn read_slot(bytes: &[u8]) -> SlotRead
     }
 }
 
-// The first so many of the nine places; blanks behind them.
+// The first so many of the nine places; blanks after them.
 fn read_slots(bytes: &[u8], count: usize) -> SlotsRead
     requires { ⌜ count ≤ 9 ⌝ }
     ensures { λ r. ⌜ (report (r .answer), r .value) ≡ outcome blankVoterSlotRecords (slots count .dec (now (bytes .entry))) ⌝ }
@@ -557,7 +557,7 @@ pub fn read_claims_end(bytes: &[u8]) -> ClaimsEndRead
     }
 }
 
-// The fields of an attestation; whatever may stand behind them.
+// The fields of an attestation; anything may come after them.
 pub fn read_attestation(bytes: &[u8]) -> AttestationRead
     ensures { λ r. ⌜ (report (r .answer), r .value) ≡ outcome blankLostVoterAttestationV1 (claims .dec (now (bytes .entry))) ⌝ }
 {
@@ -855,8 +855,8 @@ pub fn read_table_front(bytes: &[u8]) -> TableFrontRead
     }
 }
 
-// The fields of a table; whatever may stand behind them. The table is made here, where its cursor is
-// known: handed on by a reader of the open request's end, its 8 KB would be copied once more.
+// The fields of a table; anything may come after them. The table is made here, where its cursor is
+// known: passed on by a reader of the open request's end, its 8 KB would be copied once more.
 pub fn read_table(bytes: &[u8]) -> TableRead
     ensures { λ r. ⌜ (report (r .answer), r .value) ≡ outcome blankVoterSlotTable (table .dec (now (bytes .entry))) ⌝ }
 {

@@ -59,7 +59,7 @@ module _ (e : VoterReplacementEvidence) (h : representableEvidence e ≡ true) w
 
 -- ---- the order of cuts
 
--- a cut that follows one that is no zero is none
+-- a cut that follows one that is not zero is not zero
 follows-valid : (a b : VoterSlotLogId) (allowEqual : Bool) → validLogId b ≡ true → follows a b allowEqual ≡ true → validLogId a ≡ true
 unfolding follows
 follows-valid a b allowEqual v h = go (eqb (a .index) (b .index)) h
@@ -208,7 +208,7 @@ module _ (e : VoterReplacementEvidence) where
   pub no-uniform : validEvidence e joint ≡ true → e .uniform .«is_some» ≡ false
   no-uniform h = stage-some (e .uniform) false (after-joint e) false (evidence-parts e joint h .stages .1 .1 .1 .1 .1)
 
-  -- the caught-up mark: none while a learner is added, and behind the learner's cut afterwards
+  -- the caught-up mark: none while a learner is added, and after the learner's cut from then on
   pub no-mark : validEvidence e learnerAdded ≡ true → e .«caught_up» .«is_some» ≡ false
   no-mark h = stage-some (e .«caught_up») false (after-learner e) false (evidence-parts e learnerAdded h .stages .1 .1 .0)
 
@@ -226,7 +226,7 @@ stage-added : (cut previous : VoterSlotLogId) (allowEqual : Bool) → validLogId
 unfolding validStage
 stage-added cut previous allowEqual v = valid-follows cut previous allowEqual v
 
--- behind a stage that is there
+-- after a stage that is there
 stage-next : (stage : OptionalLogId) (older cut : VoterSlotLogId) (allowOlder allowEqual : Bool) → validStage stage true older allowOlder ≡ true
     → validStage (present cut) true (stageOr stage older) allowEqual ≡ follows cut (stage .cut) allowEqual
 stage-next stage older cut allowOlder allowEqual h =
@@ -545,7 +545,7 @@ unfolding laterOf
 later-last a stage some h =
     cond-true (stage .«is_some» && ltb (a .index) (stage .cut .index)) (stage .cut) a (and-both _ _ some (lt-ltb (a .index) (stage .cut .index) h))
 
--- a stage behind one that is there has the greater index
+-- a stage after one that is there has the greater index
 stage-above : (stage before : OptionalLogId) (older : VoterSlotLogId) → validStage stage true (stageOr before older) false ≡ true → before .«is_some» ≡ true
     → before .cut .index < stage .cut .index
 stage-above stage before older h some =

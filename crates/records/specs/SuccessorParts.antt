@@ -194,7 +194,7 @@ module _ (new old : VoterSlotTable) where
 
 -- ---- the whole check
 
--- what is left of it where both tables passed the test for 30 and the old one is valid
+-- what is left of it where both tables passed the representability check and the old one is valid
 pub check-is : (new old : VoterSlotTable) → representable new ≡ true → representable old ≡ true → validity old ≡ Accepted
     → validateSuccessorOf new old ≡ andThen (validity new) (succession new old)
 unfolding validateSuccessorOf

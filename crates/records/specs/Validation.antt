@@ -196,7 +196,7 @@ validateOperation t =
     requireOf (validOperation t (t .replacement))
     (cond (isAccepted (validateMembers t (t .count))) (requireOf (hasTarget t) Accepted) (validateMembers t (t .count)))
 
--- Validity of a table that has passed the test for 30.
+-- Validity of a table that has passed the representability check.
 unfoldable pub validity : VoterSlotTable → Answer
 validity t =
     requireOf (validSlots t)

@@ -3,7 +3,8 @@
 // Ported from crates/opc-consensus/src/voter_slots/validation.rs (`VoterSlotLogId` and
 // `VoterReplacementEvidence`: `validate`, `follows`, `retains`, `latest`) of openpacketcore-sdk, commit
 // 717de332e7, Apache-2.0 (see NOTICE). Changed: each check answers yes or no. A snapshot id above its
-// field, for which the original gives `TooLarge`, is a no: in a table the test for 30 has refused it.
+// field, for which the original gives `TooLarge`, is a no: in a table the representability check has
+// refused it.
 ghost use mathlib.Core.Path.{_≡_};
 ghost use Rattle.records.specs.Evidence.{validLogId, follows, validStage, stageOr, snapshotCut, validStages, validBeside, validContinuation, validSnapshotId, validEvidence, retainsCut, retainsMarker, retainsCuts, retains, laterOf, latest};
 use crate::equality::same_voter_slot_log_id;

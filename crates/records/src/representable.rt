@@ -1,5 +1,5 @@
-// The test for 30: whether the Rust types can hold a value, no count is above nine and no text above
-// its field, and all that is not in use is zero. The original has no such test: its types rule most
+// The representability check (30): whether the Rust types can hold a value, no count is above nine and
+// no text above its field, and all that is not in use is zero. The original has no such test: its types rule most
 // of these values out, and its validity refuses the others, by `InvalidRecord` and `TooLarge`.
 ghost use mathlib.Core.Path.{_≡_};
 ghost use mathlib.Core.Bool.{_&&_};
@@ -58,7 +58,7 @@ pub fn is_representable(table: VoterSlotTable) -> bool
     is_blank_voter_replacement_record(replacement)
 }
 
-// The nine places: a slot in each below the count, and a blank behind it. A place is copied out in
+// The nine places: a slot in each below the count, and a blank in each after it. A place is copied out in
 // the arm that looks at it, so that no field is read for nothing.
 fn slot_places(table: VoterSlotTable) -> bool
     ensures { λ r. ⌜ r ≡ allBelow (λ i. slotPlace (leb (table .count) i) (slotAt table i)) 9 ⌝ }
@@ -156,7 +156,7 @@ pub fn is_representable_attestation(attestation: LostVoterAttestationV1) -> bool
                 & (controller_held & ((STORAGE_LOST <= reason) & (reason <= TIME_BOUND_LOSS)))))
 }
 
-// Whether the name is UTF-8 with zeros behind it.
+// Whether the name is UTF-8 with zeros after it.
 pub fn is_representable_spiffe_id(id: SpiffeId) -> bool
     ensures { λ r. ⌜ r ≡ representableSpiffeId id ⌝ }
 {
@@ -167,7 +167,7 @@ pub fn is_representable_spiffe_id(id: SpiffeId) -> bool
     is_text(&id.bytes, len)
 }
 
-// Whether the snapshot id is UTF-8 with zeros behind it.
+// Whether the snapshot id is UTF-8 with zeros after it.
 pub fn is_representable_snapshot_id(id: SnapshotId) -> bool
     ensures { λ r. ⌜ r ≡ representableSnapshotId id ⌝ }
 {
@@ -200,7 +200,7 @@ pub fn is_representable_configuration(configuration: VoterConfiguration) -> bool
     member_places(configuration)
 }
 
-// The nine places: a member in each below the count, and a blank behind it.
+// The nine places: a member in each below the count, and a blank in each after it.
 fn member_places(configuration: VoterConfiguration) -> bool
     ensures { λ r. ⌜ r ≡ allBelow (λ i. memberPlace (leb (configuration .count) i) (memberAt configuration i)) 9 ⌝ }
 {

@@ -2,8 +2,8 @@
 //
 // Ported from crates/opc-consensus/src/voter_slots/validation.rs (`validate_successor_of`) of
 // openpacketcore-sdk, commit 717de332e7, Apache-2.0 (see NOTICE). Changed: a check that can only give
-// `Regression` answers yes or no; the test for 30 stands in front. `retains` and `latest`, which it
-// calls, are in evidence.rt.
+// `Regression` answers yes or no; the representability check comes first. `retains` and `latest`,
+// which it calls, are in evidence.rt.
 ghost use mathlib.Core.Path.{_≡_};
 ghost use Prim.Native.Nat.{_+_, _≤_};
 ghost use Rattle.identity.specs.declared.answer.Answer.the-variants.{Accepted};

@@ -2,8 +2,8 @@
 //
 // Ported from crates/opc-consensus/src/voter_slots/validation.rs of openpacketcore-sdk, commit
 // 717de332e7, Apache-2.0 (see NOTICE). Changed: a check that can only give `InvalidRecord` answers
-// yes or no; the test for 30 stands in front, and has refused each text for which the original gives
-// `TooLarge`; `follows`, `retains` and `latest` are in evidence.rt, `validate_successor_of` in
+// yes or no; the representability check comes first, and has refused each text for which the original
+// gives `TooLarge`; `follows`, `retains` and `latest` are in evidence.rt, `validate_successor_of` in
 // successor.rt.
 ghost use mathlib.Core.Bool.{_&&_};
 ghost use mathlib.Core.Path.{_≡_};
@@ -46,7 +46,8 @@ use identity::identity::VoterIncarnation;
 use identity::text::MAX_VOTER_SPIFFE_ID_BYTES;
 use identity::text::is_name;
 
-// What the open request claims of the slots. The record has 6.3 KB, so the tests of a slot are handed these alone.
+// What the open request claims of the slots. The record has 6.3 KB, so the tests of a slot get these
+// alone.
 pub struct Claims {
     pub request_id: ConsensusRequestId,
     pub slot: SlotId,
@@ -162,7 +163,7 @@ pub fn validate_table(table: VoterSlotTable) -> Answer
     validate_representable(table)
 }
 
-// Validity of a table that has passed the test for 30.
+// Validity of a table that has passed the representability check.
 pub fn validate_representable(table: VoterSlotTable) -> Answer
     requires { ⌜ table .count ≤ 9 ⌝ }
     ensures { λ r. ⌜ r ≡ validity table ⌝ }
@@ -426,7 +427,7 @@ fn validate_members(table: VoterSlotTable) -> Answer
     let mut i = 0;
     while i < table.count {
         // What is compared whole is a copy of its own: a record that is read field by field too is copied
-        // in pieces, which a comparison right behind has to wait for.
+        // in pieces, which a comparison right after it has to wait for.
         let slot = slots[i];
         let member = slot.member;
         let old = predecessor[i];
@@ -465,7 +466,7 @@ fn has_target(table: VoterSlotTable) -> bool
     !none
 }
 
-// The slot that is being replaced, beside its two members; the caller has compared it with both, and
+// The slot that is being replaced, and its two members; the caller has compared it with both, and
 // its receipt with the request.
 fn validate_target(
     claims: Claims,

@@ -1,5 +1,5 @@
--- How many bytes each record takes, where that varies: the sizes that the writers of codec.rs come to, and `table_size` of the code reckons.
--- A flag takes 1, a cut 16, a receipt 89, a member 82; a length or a size 2, and the bytes behind it.
+-- How many bytes each record takes, where that varies: the sizes that the writers of codec.rs come to, and that `table_size` of the code computes.
+-- A flag takes 1, a cut 16, a receipt 89, a member 82; a length or a size 2, and the bytes after it.
 -- Assumes nothing.
 use Prim.Native.Nat.{ℕ, zero, suc, _+_, _*_}
 use mathlib.Core.Bool.{cond}
