@@ -41,6 +41,7 @@ use records::equality::same32;
 use records::evidence::latest_cut;
 use records::evidence::log_id_follows;
 use records::records::FENCED;
+use records::records::MAX_FIXED_VOTER_SLOTS;
 use records::records::PENDING;
 use records::records::PREPARED;
 use records::records::SUPERSEDED;
@@ -308,7 +309,7 @@ fn members_of(slots: [VoterSlotRecord; 9]) -> [VoterSlotMember; 9]
     let blank = blank_voter_slot_member();
     let mut members = [blank; 9];
     let mut i: usize = 0;
-    while i < 9 {
+    while i < MAX_FIXED_VOTER_SLOTS {
         let slot = slots[i];
         let member = slot.member;
         members[i] = member;
@@ -358,7 +359,7 @@ pub fn begin_in_place(t: &mut VoterSlotTable, b: VoterBegin) -> Answer
 {
     let judged = judge_begin(*t, b);
     match route(judged) {
-        6 => {
+        ROUTE_BEGIN => {
             *t = begin_table(*t, b);
         }
         _ => {}

@@ -35,6 +35,7 @@ use records::records::CAUGHT_UP;
 use records::records::COMPLETED;
 use records::records::FENCED;
 use records::records::LEARNER_ADDED;
+use records::records::MAX_FIXED_VOTER_SLOTS;
 use records::records::OptionalLogId;
 use records::records::PREPARED;
 use records::records::UNIFORM;
@@ -108,21 +109,34 @@ pub fn answer_of(judged: Judged) -> Answer
     }
 }
 
-// The number of the table that a Begin makes.
+// The number of the table that a command makes.
+pub const ROUTE_SNAPSHOT: u64 = 1;
+
+pub const ROUTE_CAUGHT_UP: u64 = 2;
+
+pub const ROUTE_CONTINUATION: u64 = 3;
+
+pub const ROUTE_FENCE: u64 = 4;
+
+pub const ROUTE_FINALIZE: u64 = 5;
+
 pub const ROUTE_BEGIN: u64 = 6;
 
-// Which table is to be made, 0 for none: a thin call goes by this number.
+// No table is made.
+pub const ROUTE_NONE: u64 = 0;
+
+// Which table is to be made: a thin call goes by this number.
 pub fn route(judged: Judged) -> u64
     ensures { λ r. ⌜ r ≡ routeOf (verdictOf judged) ⌝ }
 {
     match judged {
-        Judged::Refuse(_) => 0,
-        Judged::Keep => 0,
-        Judged::RecordSnapshot => 1,
-        Judged::RecordCaughtUp => 2,
-        Judged::Continue => 3,
-        Judged::Fence => 4,
-        Judged::Finalize => 5,
+        Judged::Refuse(_) => ROUTE_NONE,
+        Judged::Keep => ROUTE_NONE,
+        Judged::RecordSnapshot => ROUTE_SNAPSHOT,
+        Judged::RecordCaughtUp => ROUTE_CAUGHT_UP,
+        Judged::Continue => ROUTE_CONTINUATION,
+        Judged::Fence => ROUTE_FENCE,
+        Judged::Finalize => ROUTE_FINALIZE,
         Judged::Begin => ROUTE_BEGIN,
     }
 }
@@ -183,7 +197,7 @@ fn is_completed(t: VoterSlotTable, id: [u8; 16], digest: [u8; 32]) -> bool
 {
     let mut none = true;
     let mut i: usize = 0;
-    while i < 9 {
+    while i < MAX_FIXED_VOTER_SLOTS {
         let slot = t.slots[i];
         let receipt = is_receipt_of(slot, id, digest);
         none = none & ((t.count <= i) | !receipt);

@@ -23,6 +23,7 @@ ghost use Rattle.control.specs.Judgement.Verdict.{refused};
 ghost use Rattle.control.specs.Observation.{isObsolete, memberIndex, observeMembership, see, seePhase, splitSets, total};
 ghost use Rattle.control.specs.ObserveSight.{Room, Supplied, answerOfObserved, confirmed, entryWeighed, fewMembers, isChange, judgeClosed, judgeKnown, judgeMembers, judgeSeen, judgeSets, lingersAs, routeOfObserved, seenBy, seenOf, seenOld, sightOf, testsOf, verdictOfObserved, weighed};
 use crate::apply::Controlled;
+use crate::judge::ROUTE_NONE;
 use crate::sets::NO_ID;
 use crate::sets::add_up;
 use crate::sets::are_held;
@@ -48,6 +49,7 @@ use records::records::CATCHING_UP;
 use records::records::FENCED;
 use records::records::JOINT;
 use records::records::LEARNER_ADDED;
+use records::records::MAX_FIXED_VOTER_SLOTS;
 use records::records::OptionalLogId;
 use records::records::SNAPSHOT_INSTALLED;
 use records::records::UNIFORM;
@@ -333,8 +335,8 @@ fn slot_place(t: VoterSlotTable, slot: u16) -> usize
     requires { ⌜ t .count ≤ 9 ⌝ }
     ensures { λ r. ⌜ r ≡ slotIndex t slot ⌝ }
 {
-    let mut at: usize = 9;
-    let mut i: usize = 9;
+    let mut at: usize = MAX_FIXED_VOTER_SLOTS;
+    let mut i: usize = MAX_FIXED_VOTER_SLOTS;
     while 0 < i {
         i -= 1;
         if (t.count <= i) | (t.slots[i].member.identity.slot == slot) {
@@ -350,7 +352,7 @@ fn phase_at(t: VoterSlotTable, at: usize) -> u8
 {
     let mut phase = 0;
     let mut i: usize = 0;
-    while i < 9 {
+    while i < MAX_FIXED_VOTER_SLOTS {
         if i == at {
             phase = t.slots[i].phase;
         }
@@ -365,7 +367,7 @@ fn with_phase(t: VoterSlotTable, at: usize, phase: u8) -> VoterSlotTable
 {
     let mut u = t;
     let mut i: usize = 0;
-    while i < 9 {
+    while i < MAX_FIXED_VOTER_SLOTS {
         if i == at {
             u.slots[i].phase = phase;
         }
@@ -451,7 +453,9 @@ fn has_few_members(t: VoterSlotTable) -> bool
 {
     let old = t.replacement.predecessor.count;
     let new = t.replacement.successor.count;
-    (t.count <= 9) & (!t.has_replacement | ((old <= 9) & (new <= 9)))
+    (t.count <= MAX_FIXED_VOTER_SLOTS)
+        & (!t.has_replacement
+            | ((old <= MAX_FIXED_VOTER_SLOTS) & (new <= MAX_FIXED_VOTER_SLOTS)))
 }
 
 // The verdict. On a table not known to be valid a change still needs `confirm`.
@@ -503,16 +507,23 @@ pub fn answer_of(judged: Observed) -> Answer
     }
 }
 
-// Which table is to be made; 0 for none.
+// The number of the table that an observation makes.
+pub const ROUTE_LEARNER: u64 = 1;
+
+pub const ROUTE_JOINT: u64 = 2;
+
+pub const ROUTE_UNIFORM: u64 = 3;
+
+// Which table is to be made.
 pub fn route(judged: Observed) -> u64
     ensures { λ r. ⌜ r ≡ routeOfObserved (verdictOfObserved judged) ⌝ }
 {
     match judged {
-        Observed::Refuse(_) => 0,
-        Observed::Keep => 0,
-        Observed::AddLearner => 1,
-        Observed::AddJoint => 2,
-        Observed::AddUniform => 3,
+        Observed::Refuse(_) => ROUTE_NONE,
+        Observed::Keep => ROUTE_NONE,
+        Observed::AddLearner => ROUTE_LEARNER,
+        Observed::AddJoint => ROUTE_JOINT,
+        Observed::AddUniform => ROUTE_UNIFORM,
     }
 }
 
@@ -656,13 +667,13 @@ pub fn observe_membership_in_place(
 {
     let judged = weigh_entry(*t, sets, counts, nodes, cut);
     match route(judged) {
-        1 => {
+        ROUTE_LEARNER => {
             *t = learner_table(*t, cut);
         }
-        2 => {
+        ROUTE_JOINT => {
             *t = joint_table(*t, cut);
         }
-        3 => {
+        ROUTE_UNIFORM => {
             *t = uniform_table(*t, cut);
         }
         _ => {}
@@ -683,13 +694,13 @@ pub fn observe_in_place(
 {
     let judged = weigh(*t, sets, counts, nodes, cut);
     match route(judged) {
-        1 => {
+        ROUTE_LEARNER => {
             *t = learner_table(*t, cut);
         }
-        2 => {
+        ROUTE_JOINT => {
             *t = joint_table(*t, cut);
         }
-        3 => {
+        ROUTE_UNIFORM => {
             *t = uniform_table(*t, cut);
         }
         _ => {}

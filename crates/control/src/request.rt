@@ -17,6 +17,8 @@ use records::blank::blank_voter_slot_member;
 use records::equality::same16;
 use records::equality::same32;
 use records::number::is_next;
+use records::records::MAX_FIXED_VOTER_SLOTS;
+use records::records::MIN_REPLACEMENT_SLOTS;
 use records::records::UNIFORM;
 use records::records::VoterSlotMember;
 use records::records::VoterSlotRecord;
@@ -101,7 +103,7 @@ pub fn find_receipt(t: VoterSlotTable, id: [u8; 16], digest: [u8; 32]) -> Receip
 {
     let mut found = false;
     let mut same = false;
-    let mut i: usize = 9;
+    let mut i: usize = MAX_FIXED_VOTER_SLOTS;
     while 0 < i {
         i -= 1;
         let slot = t.slots[i];
@@ -145,7 +147,7 @@ pub fn slot_check(t: VoterSlotTable, r: VoterReplacementRequest) -> Answer
     let current = named.found
         & ((t.revision == r.expected_revision) & (expected & (same_cluster & attested)));
     let fits = answer_by(newer, Answer::Accepted, Answer::InvalidLossEvidence);
-    let enough = answer_by(3 <= t.count, fits, Answer::NoSurvivingQuorum);
+    let enough = answer_by(MIN_REPLACEMENT_SLOTS <= t.count, fits, Answer::NoSurvivingQuorum);
     answer_by(current, enough, Answer::StaleIncarnation)
 }
 
@@ -162,7 +164,7 @@ fn named_member(t: VoterSlotTable, number: u16) -> Named
 {
     let mut found = false;
     let mut member = blank_voter_slot_member();
-    let mut i: usize = 9;
+    let mut i: usize = MAX_FIXED_VOTER_SLOTS;
     while 0 < i {
         i -= 1;
         let slot = t.slots[i];

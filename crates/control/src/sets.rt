@@ -16,6 +16,7 @@ ghost use Rattle.control.specs.ObserveSets.{areTwoSets, firstOf, isOneSe
 use identity::identity::CONSENSUS_NODE_ID_MAX;
 use identity::identity::NumberResult;
 use identity::identity::VoterSlotIdentity;
+use records::records::MAX_FIXED_VOTER_SLOTS;
 use records::records::VoterConfiguration;
 use records::records::VoterSlotTable;
 
@@ -215,7 +216,7 @@ pub fn ids_of(c: VoterConfiguration) -> [u64; 9]
 {
     let mut ids = [0; 9];
     let mut i: usize = 0;
-    while i < 9 {
+    while i < MAX_FIXED_VOTER_SLOTS {
         let id = id_of(
             c.members[i].identity.slot,
             c.members[i].identity.incarnation,
@@ -232,7 +233,7 @@ pub fn ids_of_slots(t: VoterSlotTable) -> [u64; 9]
 {
     let mut ids = [0; 9];
     let mut i: usize = 0;
-    while i < 9 {
+    while i < MAX_FIXED_VOTER_SLOTS {
         let id = id_of(
             t.slots[i].member.identity.slot,
             t.slots[i].member.identity.incarnation,

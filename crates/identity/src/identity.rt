@@ -28,7 +28,7 @@ pub type VoterIncarnation = u64;
 // Largest node id: the engine's stores keep signed numbers of 64 bits.
 pub const CONSENSUS_NODE_ID_MAX: ConsensusNodeId = 9223372036854775807;
 
-// Largest incarnation: with it a node id still fits 63 bits.
+// Largest incarnation, 2^47: with it a node id still fits 63 bits.
 pub const MAX_VOTER_INCARNATION: VoterIncarnation = 140737488355328;
 
 // How many node ids one incarnation number takes: one for each number below 65,536, slots and 0.

@@ -12,10 +12,16 @@ ghost use Rattle.identity.specs.Text.{isControl, isIn, isWhitespace, all
 use crate::utf8::Decoded;
 use crate::utf8::decode;
 
+// Bytes of `spiffe://`, with which every name begins.
+const SCHEME_BYTES: usize = 9;
+// Shortest name, in bytes.
+const MIN_VOTER_SPIFFE_ID_BYTES: usize = SCHEME_BYTES + 1;
 // Longest name, in bytes.
 pub const MAX_VOTER_SPIFFE_ID_BYTES: usize = 2048;
 // Longest snapshot id, in bytes.
 pub const MAX_VOTER_SNAPSHOT_ID_BYTES: usize = 256;
+// Longest trust domain of a strict name, in bytes.
+const MAX_TRUST_DOMAIN_BYTES: usize = 255;
 
 // Unicode's 25 White_Space code points.
 const WHITE_SPACE: [u32; 25] = [
@@ -74,7 +80,7 @@ pub fn is_utf8(bytes: &[u8]) -> bool
 pub fn is_name(bytes: &[u8]) -> bool
     ensures { λ r. ⌜ r ≡ isName (now (bytes .entry)) ⌝ }
 {
-    if bytes.len() < 10 {
+    if bytes.len() < MIN_VOTER_SPIFFE_ID_BYTES {
         return false;
     }
     if MAX_VOTER_SPIFFE_ID_BYTES < bytes.len() {
@@ -109,7 +115,7 @@ pub fn is_strict_name(bytes: &[u8]) -> bool
     if !starts_with(bytes, b"spiffe://") {
         return false;
     }
-    are_strict_parts(&bytes[9..])
+    are_strict_parts(&bytes[SCHEME_BYTES..])
 }
 
 // Whether the code point is a control character.
@@ -269,7 +275,7 @@ fn next_part(part: Part, b: u8) -> Part
     }
     if part.in_domain {
         return Part {
-            good: part.good & (is_domain_byte(b) & (part.run < 255)),
+            good: part.good & (is_domain_byte(b) & (part.run < MAX_TRUST_DOMAIN_BYTES)),
             in_domain: true,
             run: part.run + 1,
         };

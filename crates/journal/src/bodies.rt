@@ -33,6 +33,7 @@ use identity::identity::ConsensusConfigurationId;
 use identity::identity::ConsensusIdentity;
 use identity::identity::ConsensusRequestId;
 use identity::identity::VoterSlotIdentity;
+use identity::text::MAX_VOTER_SNAPSHOT_ID_BYTES;
 use layout::get::read_array16;
 use layout::get::read_array32;
 use layout::get::read_sized;
@@ -194,10 +195,10 @@ fn read_any_snapshot_id(bytes: &[u8]) -> SnapshotIdRead
 fn at_most_256(len: usize) -> usize
     ensures { λ r. ⌜ r ≡ cond (ltb len maxSnapshotIdBytes) len maxSnapshotIdBytes ⌝ }
 {
-    if len < 256 {
+    if len < MAX_VOTER_SNAPSHOT_ID_BYTES {
         return len;
     }
-    256
+    MAX_VOTER_SNAPSHOT_ID_BYTES
 }
 
 fn read_snapshot_part(bytes: &[u8]) -> SnapshotRead
@@ -537,8 +538,11 @@ pub struct BeginRead {
     pub value: VoterBegin,
 }
 
-// 64 bytes follow the attestation: the two supplied values.
-const SUPPLIED: usize = 64;
+// Bytes of a digest.
+const DIGEST: usize = 32;
+
+// Bytes after the attestation: the two supplied values.
+const SUPPLIED: usize = DIGEST + DIGEST;
 
 pub fn read_begin(body: &[u8]) -> BeginRead
     ensures { λ r. ⌜ beginAsking r ≡ asking Bg (now (body .entry)) ⌝ }
@@ -574,7 +578,7 @@ fn read_attested(head: BeginHead, attestation: &[u8], supplied: &[u8]) -> BeginR
     let attestation = decoded.attestation;
     let digest_read = read_array32(supplied);
     let digest = digest_read.value;
-    let configuration_read = read_array32(&supplied[32..]);
+    let configuration_read = read_array32(&supplied[DIGEST..]);
     let configuration = configuration_read.value;
     BeginRead {
         asks: Asks::Begin,

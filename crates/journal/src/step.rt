@@ -16,6 +16,15 @@ ghost use Rattle.control.specs.ObserveSight.{verdictOfObserved, weighed};
 ghost use Rattle.journal.specs.declared.replay.Mark.the-variants.{Ad, Bg, Mk, Ob};
 ghost use Rattle.journal.specs.Replay.{asking};
 ghost use Rattle.journal.specs.Step.{Makes, MakesCommand, MakesObservation, answerOfCalled, changes, checkedCall, commandVerdict, cutAt, madeBy, madeByCommand, madeByObservation, numbered, observationVerdict};
+use control::judge::ROUTE_BEGIN;
+use control::judge::ROUTE_CAUGHT_UP;
+use control::judge::ROUTE_CONTINUATION;
+use control::judge::ROUTE_FENCE;
+use control::judge::ROUTE_NONE;
+use control::judge::ROUTE_SNAPSHOT;
+use control::observe::ROUTE_JOINT;
+use control::observe::ROUTE_LEARNER;
+use control::observe::ROUTE_UNIFORM;
 use crate::bodies::Asks;
 use crate::bodies::read_advance;
 use crate::bodies::read_begin;
@@ -178,8 +187,8 @@ fn make_command(t: VoterSlotTable, body: &[u8], judged: Judged) -> VoterSlotTabl
     ensures { λ r. ⌜ r ≡ madeByCommand t (now (body .entry)) (verdictOf judged) ⌝ }
 {
     match route(judged) {
-        0 => t,
-        6 => make_begin(t, body, judged),
+        ROUTE_NONE => t,
+        ROUTE_BEGIN => make_begin(t, body, judged),
         _ => make_advance(t, body, judged),
     }
 }
@@ -200,10 +209,10 @@ fn make_advance(t: VoterSlotTable, body: &[u8], judged: Judged) -> VoterSlotTabl
     let read = read_advance(body);
     let advance = read.value;
     match route(judged) {
-        1 => snapshot_table(t, advance),
-        2 => catch_up_table(t, advance),
-        3 => continue_table(t, advance),
-        4 => fence_table(t, advance),
+        ROUTE_SNAPSHOT => snapshot_table(t, advance),
+        ROUTE_CAUGHT_UP => catch_up_table(t, advance),
+        ROUTE_CONTINUATION => continue_table(t, advance),
+        ROUTE_FENCE => fence_table(t, advance),
         _ => finalize_table(t, advance),
     }
 }
@@ -214,9 +223,9 @@ fn make_observation(t: VoterSlotTable, body: &[u8], observed: Observed) -> Voter
 {
     let cut = cut_of(body);
     match route_of_observed(observed) {
-        1 => learner_table(t, cut),
-        2 => joint_table(t, cut),
-        3 => uniform_table(t, cut),
+        ROUTE_LEARNER => learner_table(t, cut),
+        ROUTE_JOINT => joint_table(t, cut),
+        ROUTE_UNIFORM => uniform_table(t, cut),
         _ => t,
     }
 }

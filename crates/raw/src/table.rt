@@ -26,27 +26,31 @@ use records::records::VoterSnapshotEvidence;
 // Where the parts of the table begin.
 const MANIFEST_DIGEST: usize = 32;
 
-const REVISION: usize = 64;
+const REVISION: usize = MANIFEST_DIGEST + 32;
 
-const CONFIGURATION_EPOCH: usize = 72;
+const CONFIGURATION_EPOCH: usize = REVISION + 8;
 
-const SLOTS: usize = 80;
+const SLOTS: usize = CONFIGURATION_EPOCH + 8;
 
-// After nine slot records: 80 + 9 * 181.
-const COUNT: usize = 1709;
+const COUNT: usize = SLOTS + 9 * SLOT_SIZE;
 
-const HAS_REPLACEMENT: usize = 1710;
+const HAS_REPLACEMENT: usize = COUNT + 1;
 
-const REPLACEMENT: usize = 1711;
+const REPLACEMENT: usize = HAS_REPLACEMENT + 1;
 
-// After expected_revision 8, the attestation 4,423, two configurations of 747 and the phase 1:
-// 1,711 + 5,926.
-const EVIDENCE: usize = 7637;
+// After expected_revision, the attestation, two configurations and the phase.
+const EVIDENCE: usize = REPLACEMENT + 8 + ATTESTATION_SIZE + 2 * CONFIGURATION_SIZE + 1;
 
-// The sizes of the parts of which there are nine.
+// The sizes of parts: the sums of the sizes that stand above the functions that read them.
 const MEMBER_SIZE: usize = 82;
 
-const SLOT_SIZE: usize = 181;
+const RESULT_SIZE: usize = 89;
+
+const SLOT_SIZE: usize = MEMBER_SIZE + 8 + 1 + 1 + RESULT_SIZE;
+
+const CONFIGURATION_SIZE: usize = 8 + 9 * MEMBER_SIZE + 1;
+
+const ATTESTATION_SIZE: usize = 4423;
 
 // How far the pieces of a raw table are laid.
 pub struct Place {

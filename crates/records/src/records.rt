@@ -14,6 +14,9 @@ use identity::identity::VoterSlotIdentity;
 // Most slots of a table, and places for them.
 pub const MAX_FIXED_VOTER_SLOTS: usize = 9;
 
+// Fewest slots of a table with a replacement: fewer leave no surviving quorum.
+pub const MIN_REPLACEMENT_SLOTS: usize = 3;
+
 // `VoterSlotPhase`: selected, but no learner membership has been committed.
 pub const PENDING: u8 = 0;
 

@@ -36,6 +36,8 @@ use crate::zero::is_blank_voter_slot_record;
 use crate::zero::is_blank_voter_snapshot_evidence;
 use crate::zero::zeros;
 use identity::identity::MAX_VOTER_INCARNATION;
+use identity::text::MAX_VOTER_SNAPSHOT_ID_BYTES;
+use identity::text::MAX_VOTER_SPIFFE_ID_BYTES;
 use identity::text::is_utf8;
 
 // Whether the Rust types can hold the table.
@@ -66,7 +68,7 @@ fn slot_places(table: VoterSlotTable) -> bool
     let slots = table.slots;
     let mut all = true;
     let mut i = 0;
-    while i < 9 {
+    while i < MAX_FIXED_VOTER_SLOTS {
         if table.count <= i {
             let slot = slots[i];
             all = all & is_blank_voter_slot_record(slot);
@@ -161,7 +163,7 @@ pub fn is_representable_spiffe_id(id: SpiffeId) -> bool
     ensures { λ r. ⌜ r ≡ representableSpiffeId id ⌝ }
 {
     let len = id.len;
-    if 2048 < len {
+    if MAX_VOTER_SPIFFE_ID_BYTES < len {
         return false;
     }
     is_text(&id.bytes, len)
@@ -172,7 +174,7 @@ pub fn is_representable_snapshot_id(id: SnapshotId) -> bool
     ensures { λ r. ⌜ r ≡ representableSnapshotId id ⌝ }
 {
     let len = id.len;
-    if 256 < len {
+    if MAX_VOTER_SNAPSHOT_ID_BYTES < len {
         return false;
     }
     is_text(&id.bytes, len)
@@ -206,7 +208,7 @@ fn member_places(configuration: VoterConfiguration) -> bool
 {
     let mut all = true;
     let mut i = 0;
-    while i < 9 {
+    while i < MAX_FIXED_VOTER_SLOTS {
         let member = configuration.members[i];
         all = all & is_member_place(configuration.count <= i, member);
         i += 1;

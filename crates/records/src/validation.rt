@@ -26,6 +26,7 @@ use crate::records::COMPLETED;
 use crate::records::FENCED;
 use crate::records::LostVoterAttestationV1;
 use crate::records::MAX_FIXED_VOTER_SLOTS;
+use crate::records::MIN_REPLACEMENT_SLOTS;
 use crate::records::PENDING;
 use crate::records::SNAPSHOT_INSTALLED;
 use crate::records::SUPERSEDED;
@@ -45,6 +46,9 @@ use identity::identity::SlotId;
 use identity::identity::VoterIncarnation;
 use identity::text::MAX_VOTER_SPIFFE_ID_BYTES;
 use identity::text::is_name;
+
+// Pairs of neighbouring places.
+const NEIGHBOURS: usize = MAX_FIXED_VOTER_SLOTS - 1;
 
 // What the open request claims of the slots. The record has 6.3 KB, so the tests of a slot get these
 // alone.
@@ -81,7 +85,7 @@ fn members_have_generations(configuration: VoterConfiguration) -> bool
 {
     let mut all = true;
     let mut i = 0;
-    while i < 9 {
+    while i < MAX_FIXED_VOTER_SLOTS {
         all = all
             & ((configuration.count <= i) | (0 < configuration.members[i].admission_generation));
         i += 1;
@@ -95,7 +99,7 @@ fn members_rise(configuration: VoterConfiguration) -> bool
 {
     let mut all = true;
     let mut i = 0;
-    while i < 8 {
+    while i < NEIGHBOURS {
         all = all
             & ((configuration.count <= i + 1)
                 | (configuration.members[i].identity.slot
@@ -382,7 +386,7 @@ fn is_valid_operation_head(table: VoterSlotTable) -> bool
     (0 < table.replacement.expected_revision)
         & ((table.replacement.expected_revision < table.revision)
             & (same_cluster
-                & ((3 <= table.count)
+                & ((MIN_REPLACEMENT_SLOTS <= table.count)
                     & ((table.replacement.predecessor.count == table.count)
                         & ((table.replacement.successor.count == table.count) & next_epoch)))))
 }
