@@ -43,7 +43,7 @@ bytes-bounds t h v =
     let l = table-long t h f in
     (omega arith, omega arith)
 
--- Reading a written valid table returns it.
+-- Extent a written valid table returns it.
 pub written-read : (t : VoterSlotTable) → HeldVoterSlotTable t → validate t ≡ Accepted → decodeVoterSlotTable (tableBytes t) ≡ ok t (length (tableBytes t))
 unfolding decodeVoterSlotTable tableBytes bounded andThen gate pick
 written-read t h v =

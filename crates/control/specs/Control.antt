@@ -23,7 +23,7 @@ use Rattle.records.specs.Equality.{eqBytes, sameVoterSlotLogId, sameVoterSnapsh
 use Rattle.records.specs.Evidence.{validLogId}
 use Rattle.records.specs.Records.{pending, prepared, snapshotInstalled, learnerAdded, caughtUp, fenced, uniform, completed, superseded, allBelow, firstFrom, slotAt}
 use Rattle.records.specs.Representable.{representableMember, representableAttestation, representableSnapshot, representable}
-use Rattle.records.specs.Successor.{slotIndex, andThen, validateSuccessorOf}
+use Rattle.records.specs.Successor.{slotIndex, firstRefusal, validateSuccessorOf}
 use Rattle.records.specs.Validation.{validAttestation, validity}
 use Rattle.records.specs.With.{tableWith, operationWith, slotWith, evidenceWith, withSnapshot, withCaughtUp, withContinuation, withFence}
 use Rattle.control.specs.declared.control.VoterReplacementRequest.{VoterReplacementRequest}
@@ -223,7 +223,7 @@ fullCheck t =
 -- "2." to "6.": the first refusal; "3. Request check 12" is `requestCheck`
 unfoldable pub beginCheck : VoterSlotTable → VoterReplacementRequest → VoterSlotLogId → Answer
 beginCheck t r cut =
-    andThen (openCheck t r cut) (andThen (requestCheck r) (andThen (staleCheck t r) (andThen (candidateCheck t r) (fullCheck t))))
+    firstRefusal (openCheck t r cut) (firstRefusal (requestCheck r) (firstRefusal (staleCheck t r) (firstRefusal (candidateCheck t r) (fullCheck t))))
 
 -- a receipt of the open request, at the next revision, of the incarnation that its slot has now; it ends at the cut of the command
 abbrev pub receiptOf : VoterSlotTable → VoterSlotRecord → ℕ → VoterSlotLogId → VoterReplacementResult

@@ -14,7 +14,7 @@ use Rattle.records.specs.declared.records.VoterSlotTable.{VoterSlotTable}
 use Rattle.records.specs.declared.records.VoterSnapshotEvidence.{VoterSnapshotEvidence}
 use Rattle.records.specs.Records.{caughtUp, fenced, joint, prepared, uniform}
 use Rattle.records.specs.Equality.{eqBytes, sameVoterSlotLogId, sameVoterSnapshotEvidence}
-use Rattle.records.specs.Evidence.{follows, latest, snapshotCut, validBeside, validSnapshotId}
+use Rattle.records.specs.Evidence.{follows, latest, snapshotCut, inOrder, validSnapshotId}
 use Rattle.records.specs.Validation.{targetPhase, validity}
 use Rattle.records.specs.With.{present}
 use Rattle.control.specs.Observation.{Sight, eqIds, eqSets, jointSeen, learnerSeen, memberIds, raised, see, uniformSeen, withTarget}
@@ -78,22 +78,22 @@ judgeBegin t r cut =
 -- ---- the tests of a part that is added to the evidence
 
 -- the continuation, if there is one, is in order with a cut that is added
-abbrev pub besideTest : VoterReplacementEvidence → VoterSlotLogId → Bool → Bool
-besideTest e cut isSnapshot = not (e .continuation .«is_some») || validBeside (e .continuation .cut) (present cut) isSnapshot
+abbrev pub orderTest : VoterReplacementEvidence → VoterSlotLogId → Bool → Bool
+orderTest e cut isSnapshot = not (e .continuation .«is_some») || inOrder (e .continuation .cut) (present cut) isSnapshot
 
 -- a snapshot: its id, and a cut that follows prepare or equals it
 abbrev pub snapshotTest : VoterReplacementEvidence → VoterSnapshotEvidence → Bool
 snapshotTest e snapshot =
     validSnapshotId (snapshot .«snapshot_id»)
-    && (follows (snapshot .cut) (e .prepare) true && besideTest e (snapshot .cut) true)
+    && (follows (snapshot .cut) (e .prepare) true && orderTest e (snapshot .cut) true)
 
 -- a mark: after the one that is there, or else after the learner's cut
 abbrev pub caughtUpTest : VoterReplacementEvidence → VoterSlotLogId → Bool
-caughtUpTest e mark = follows mark (cond (e .«caught_up» .«is_some») (e .«caught_up» .cut) (e .learner .cut)) false && besideTest e mark false
+caughtUpTest e mark = follows mark (cond (e .«caught_up» .«is_some») (e .«caught_up» .cut) (e .learner .cut)) false && orderTest e mark false
 
 -- the continuation itself, of a cut past prepare: in order with what is there
 abbrev pub continuationTest : VoterReplacementEvidence → VoterSlotLogId → Bool
-continuationTest e cut = validBeside cut (snapshotCut e) true && (validBeside cut (e .learner) false && validBeside cut (e .«caught_up») false)
+continuationTest e cut = inOrder cut (snapshotCut e) true && (inOrder cut (e .learner) false && inOrder cut (e .«caught_up») false)
 
 -- the fence: after the mark, and after the continuation, if there is one
 abbrev pub fenceTest : VoterReplacementEvidence → VoterSlotLogId → Bool
@@ -102,7 +102,7 @@ fenceTest e cut =
 
 -- the learner: after the snapshot's cut
 abbrev pub learnerTest : VoterReplacementEvidence → VoterSlotLogId → Bool
-learnerTest e cut = follows cut (e .snapshot .cut) false && besideTest e cut false
+learnerTest e cut = follows cut (e .snapshot .cut) false && orderTest e cut false
 
 -- joint: after the fence
 abbrev pub jointTest : VoterReplacementEvidence → VoterSlotLogId → Bool

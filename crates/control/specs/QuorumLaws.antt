@@ -24,7 +24,7 @@ use Rattle.records.specs.Evidence.{validLogId}
 use Rattle.records.specs.Held.{HeldVoterSlotLogId}
 use Rattle.records.specs.Records.{prepared, snapshotInstalled, learnerAdded, caughtUp, fenced, joint, uniform, noMember, noSlotRecord, slotAt, memberAt}
 use Rattle.records.specs.Representable.{representableMember, representable}
-use Rattle.records.specs.Successor.{andThen, validateSuccessorOf}
+use Rattle.records.specs.Successor.{firstRefusal, validateSuccessorOf}
 use Rattle.records.specs.SuccessorLaws.{successor}
 use Rattle.records.specs.Validation.{claimsOf, targetPhase, validateMember, validity, validate}
 use Rattle.records.specs.ValidationLaws.{is-accepted}
@@ -613,7 +613,7 @@ module _ (t : VoterSlotTable) where
     begun-moves : (q : VoterReplacementRequest) → beginCheck t q cut ≡ Accepted → Moves t (begun t q cut)
     unfolding begunOperation beginCheck
     begun-moves q h =
-        let a = both-accepted (openCheck t q cut) (andThen (requestCheck q) (andThen (staleCheck t q) (andThen (candidateCheck t q) (fullCheck t)))) h .0 in
+        let a = both-accepted (openCheck t q cut) (firstRefusal (requestCheck q) (firstRefusal (staleCheck t q) (firstRefusal (candidateCheck t q) (fullCheck t)))) h .0 in
         inl (record { current = current-below (begun t q cut) refl; epoch = refl; still = λ j. absurd (not-fenced q a j) })
 
     begin-moves : (q : VoterReplacementRequest) → Every (Moves t) (begin t q cut)

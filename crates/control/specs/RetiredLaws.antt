@@ -120,7 +120,7 @@ module _ (t : VoterSlotTable) (v : validate t ≡ Accepted) (is-open : t .«has_
       let k = member-target (claimsOf op) (slotAt t i) m (memberAt (op .successor) i) (o .member i here) (sym number ∙ s) in
       let floor = o .slots .each i here .retired in
       let next = k .next in
-      let behind = k .earlier in
+      let after = k .earlier in
       let covered : isBelowFloor (m .identity) (slotAt t i) ≡ true =
       and-both _ _ (eq-eqb _ _ (sym number)) (le-leb (m .identity .incarnation) (slotAt t i .«retired_through») (omega arith)) in
       let w = says (member-is m) (member-fits (op .predecessor) (o .parts .predecessor) i l) in

@@ -11,7 +11,7 @@ ghost use mathlib.Core.List.{map};
 ghost use Rattle.identity.specs.Answer.{isAccepted};
 ghost use Rattle.identity.specs.declared.answer.Answer.the-variants.{Accepted, IdempotencyConflict};
 ghost use Rattle.records.specs.Equality.{eqBytes};
-ghost use Rattle.records.specs.Successor.{andThen};
+ghost use Rattle.records.specs.Successor.{firstRefusal};
 ghost use Rattle.records.specs.Validation.{validate};
 ghost use Rattle.control.specs.BeginJudge.{beginOf, preparedAt, receiptLeft, slotFrom};
 ghost use Rattle.control.specs.Control.{begun, begunSlots, candidateCheck, currentConfiguration, full, fullCheck, isKnown, knownDigest, namedIndex, openCheck, staleCheck};
@@ -88,8 +88,8 @@ fn or_refuse(answer: Answer, next: Judged) -> Judged
     Judged::Refuse(answer)
 }
 
-fn and_then(answer: Answer, next: Answer) -> Answer
-    ensures { λ a. ⌜ a ≡ andThen answer next ⌝ }
+fn first_refusal(answer: Answer, next: Answer) -> Answer
+    ensures { λ a. ⌜ a ≡ firstRefusal answer next ⌝ }
 {
     if accepted(answer) {
         return next;
@@ -126,14 +126,14 @@ fn begin_check(
     cut: VoterSlotLogId,
     valid: Answer,
 ) -> Answer
-    ensures { λ a. ⌜ a ≡ andThen (openCheck t r cut) (andThen valid (andThen (staleCheck t r) (andThen (candidateCheck t r) (fullCheck t)))) ⌝ }
+    ensures { λ a. ⌜ a ≡ firstRefusal (openCheck t r cut) (firstRefusal valid (firstRefusal (staleCheck t r) (firstRefusal (candidateCheck t r) (fullCheck t)))) ⌝ }
 {
     let open = open_check(t, r, cut);
     let slot = slot_check(t, r);
     let full = full_check(t);
-    let last = and_then(slot, full);
-    let rest = and_then(valid, last);
-    and_then(open, rest)
+    let last = first_refusal(slot, full);
+    let rest = first_refusal(valid, last);
+    first_refusal(open, rest)
 }
 
 // The open request against the one that is to supersede it: 15, 19, 25.

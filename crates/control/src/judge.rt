@@ -10,7 +10,7 @@ ghost use mathlib.Core.Path.{_≡_};
 ghost use mathlib.Core.Bool.{cond, false, not, _||_};
 ghost use Rattle.identity.specs.declared.answer.Answer.the-variants.{InvalidTransition};
 ghost use Rattle.records.specs.Equality.{eqBytes};
-ghost use Rattle.records.specs.Evidence.{follows, validBeside};
+ghost use Rattle.records.specs.Evidence.{follows, inOrder};
 ghost use Rattle.records.specs.With.{present};
 ghost use Rattle.control.specs.Control.{isCompleted, isReceiptOf};
 ghost use Rattle.control.specs.Judgement.Verdict.{kept, refused};
@@ -28,7 +28,7 @@ use records::equality::same_voter_slot_log_id;
 use records::equality::same_voter_snapshot_evidence;
 use records::equality::same16;
 use records::equality::same32;
-use records::evidence::is_valid_beside;
+use records::evidence::is_in_order;
 use records::evidence::is_valid_snapshot_id;
 use records::evidence::log_id_follows;
 use records::records::CAUGHT_UP;
@@ -277,11 +277,11 @@ pub fn fits_continuation(
     cut: VoterSlotLogId,
     is_snapshot: bool,
 ) -> bool
-    ensures { λ r. ⌜ r ≡ (not (continuation .«is_some») || validBeside (continuation .cut) (present cut) «is_snapshot») ⌝ }
+    ensures { λ r. ⌜ r ≡ (not (continuation .«is_some») || inOrder (continuation .cut) (present cut) «is_snapshot») ⌝ }
 {
     let continued = continuation.cut;
     let added = OptionalLogId { is_some: true, cut };
-    let fits = is_valid_beside(continued, added, is_snapshot);
+    let fits = is_in_order(continued, added, is_snapshot);
     !continuation.is_some | fits
 }
 
@@ -326,9 +326,9 @@ fn judge_continuation(t: VoterSlotTable, cut: VoterSlotLogId) -> Judged
     };
     let learner = t.replacement.evidence.learner;
     let caught_up = t.replacement.evidence.caught_up;
-    let fits_snapshot = is_valid_beside(cut, snapshot, true);
-    let fits_learner = is_valid_beside(cut, learner, false);
-    let fits_caught_up = is_valid_beside(cut, caught_up, false);
+    let fits_snapshot = is_in_order(cut, snapshot, true);
+    let fits_learner = is_in_order(cut, learner, false);
+    let fits_caught_up = is_in_order(cut, caught_up, false);
     let change = change_if(
         fits_snapshot & (fits_learner & fits_caught_up),
         Judged::Continue,

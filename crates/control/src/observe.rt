@@ -43,7 +43,7 @@ use identity::answer::Answer;
 use identity::answer::accepted;
 use identity::identity::VoterSlotIdentity;
 use identity::identity::VoterSlotIdentityResult;
-use records::evidence::is_valid_beside;
+use records::evidence::is_in_order;
 use records::evidence::log_id_follows;
 use records::records::CATCHING_UP;
 use records::records::FENCED;
@@ -307,8 +307,8 @@ fn is_learner_cut(t: VoterSlotTable, cut: VoterSlotLogId) -> bool
     let own = continuation.cut;
     let other = OptionalLogId { is_some: true, cut };
     let later = log_id_follows(cut, snapshot, false);
-    let beside = is_valid_beside(own, other, false);
-    later & (!continuation.is_some | beside)
+    let in_order = is_in_order(own, other, false);
+    later & (!continuation.is_some | in_order)
 }
 
 fn is_joint_cut(t: VoterSlotTable, cut: VoterSlotLogId) -> bool

@@ -7,7 +7,7 @@
 // places, from the last to the first, and a place found later takes the place of one found before.
 ghost use mathlib.Core.Path.{_≡_};
 ghost use mathlib.Core.Bool.{cond};
-ghost use Rattle.records.specs.Successor.{andThen};
+ghost use Rattle.records.specs.Successor.{firstRefusal};
 ghost use Rattle.records.specs.Validation.{validAttestation};
 ghost use Rattle.control.specs.Control.{candidateCheck, currentConfiguration, isExpected, requestCheck, staleCheck, validRequest};
 ghost use Rattle.control.specs.BeginJudge.{attestedMember, hasDigest, hasReceipt, namedOf, newerThan, receiptState};
@@ -77,17 +77,17 @@ fn are_valid_claims(r: VoterReplacementRequest) -> bool
     ensures { λ a. ⌜ a ≡ validAttestation (r .attestation) ⌝ }
 {
     let candidate = r.attestation.candidate_spiffe_id.bytes;
-    let t1 = is_valid_spiffe_id(r.attestation.candidate_spiffe_id.len, candidate);
+    let candidate_valid = is_valid_spiffe_id(r.attestation.candidate_spiffe_id.len, candidate);
     let controller = r.attestation.controller_spiffe_id.bytes;
-    let t2 = is_valid_spiffe_id(r.attestation.controller_spiffe_id.len, controller);
-    let t3 = are_valid_times(
+    let controller_valid = is_valid_spiffe_id(r.attestation.controller_spiffe_id.len, controller);
+    let times_valid = are_valid_times(
         r.attestation.admission_generation,
         r.attestation.observation_start_ms,
         r.attestation.decision_ms,
         r.attestation.issued_ms,
         r.attestation.expires_ms,
     );
-    t1 & (t2 & t3)
+    candidate_valid & (controller_valid & times_valid)
 }
 
 // What the slots' receipts say of a request.
@@ -134,7 +134,7 @@ fn has_digest(slot: VoterSlotRecord, digest: [u8; 32]) -> bool
 // The request was made for this table, 13; there are three slots, 16; and its candidate is newer
 // than the slot's member, 12.
 pub fn slot_check(t: VoterSlotTable, r: VoterReplacementRequest) -> Answer
-    ensures { λ a. ⌜ a ≡ andThen (staleCheck t r) (candidateCheck t r) ⌝ }
+    ensures { λ a. ⌜ a ≡ firstRefusal (staleCheck t r) (candidateCheck t r) ⌝ }
 {
     let named = named_member(t, r.attestation.slot);
     let member = named.member;
@@ -191,12 +191,12 @@ fn is_expected(t: VoterSlotTable, r: VoterReplacementRequest) -> bool
 {
     let cluster = t.cluster_instance;
     let expected_cluster = r.expected_configuration.cluster_id;
-    let t1 = same32(cluster, expected_cluster);
+    let same_cluster = same32(cluster, expected_cluster);
     let id = r.supplied_configuration_id;
     let expected_id = r.expected_configuration.configuration_id;
-    let t2 = same32(id, expected_id);
+    let same_id = same32(id, expected_id);
     let epoch = current_epoch(t);
-    (t1 & t2) & (epoch == r.expected_configuration.configuration_epoch)
+    (same_cluster & same_id) & (epoch == r.expected_configuration.configuration_epoch)
 }
 
 // The epoch of the current configuration.

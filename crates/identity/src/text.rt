@@ -73,7 +73,7 @@ struct Part {
 pub fn is_utf8(bytes: &[u8]) -> bool
     ensures { λ r. ⌜ r ≡ isUtf8 (now (bytes .entry)) ⌝ }
 {
-    is_text(bytes, Allowed::Any)
+    all_allowed(bytes, Allowed::Any)
 }
 
 // Whether the bytes are the name of a controller or a candidate.
@@ -89,7 +89,7 @@ pub fn is_name(bytes: &[u8]) -> bool
     if !starts_with(bytes, b"spiffe://") {
         return false;
     }
-    is_text(bytes, Allowed::NoControlNoWhitespace)
+    all_allowed(bytes, Allowed::NoControlNoWhitespace)
 }
 
 // Whether the bytes are the id of a snapshot.
@@ -102,7 +102,7 @@ pub fn is_snapshot_id(bytes: &[u8]) -> bool
     if MAX_VOTER_SNAPSHOT_ID_BYTES < bytes.len() {
         return false;
     }
-    is_text(bytes, Allowed::NoControl)
+    all_allowed(bytes, Allowed::NoControl)
 }
 
 // Whether the bytes are a strict name, after the SPIFFE-ID standard.
@@ -167,7 +167,7 @@ fn is_allowed(rule: Allowed, code: u32) -> bool
 
 // Whether the bytes are UTF-8 whose characters the rule allows. Text that is all ASCII, which nearly
 // every name is, is judged many bytes at a time.
-fn is_text(bytes: &[u8], rule: Allowed) -> bool
+fn all_allowed(bytes: &[u8], rule: Allowed) -> bool
     ensures { λ r. ⌜ r ≡ allChars (allows rule) (now (bytes .entry)) ⌝ }
 {
     if all_within(bytes, first_ascii(rule), last_ascii(rule)) {

@@ -29,8 +29,8 @@ use Rattle.records.specs.declared.records.LostVoterAttestationV1.{LostVoterAtte
 use Rattle.layout.specs.Format.{sized, choice, logId}
 use Rattle.layout.specs.Reading.{report, outcome}
 use Rattle.layout.specs.ReadingLaws.{told, told-not}
-use Rattle.layout.specs.declared.reading.Reading.{Reading}
-use Rattle.layout.specs.declared.reading.Reading.the-variants as reading
+use Rattle.layout.specs.declared.reading.Extent.{Extent}
+use Rattle.layout.specs.declared.reading.Extent.the-variants as reading
 use Rattle.codec.specs.Codec.{decoded, decodeLostVoterAttestation}
 use Rattle.control.specs.Blank.{blankVoterReplacementStep}
 use Rattle.control.specs.Control.{recordSnapshotKind, recordCaughtUpKind, finalizeKind}
@@ -214,7 +214,7 @@ module _ {A : Type 0} (C : Codec A) (next : A → Asking) (bs : List ℕ) where
   formed-by false e q = rw (whole-by-count C bs false e q)
 
   -- whether all was read, as a reader's answer says it
-  pub whole-asks : (blank : A) (to : Reading) {v : A} → _≡_ {A = Res (Unit {0}) × A} (report to, v) (outcome blank (C .dec bs))
+  pub whole-asks : (blank : A) (to : Extent) {v : A} → _≡_ {A = Res (Unit {0}) × A} (report to, v) (outcome blank (C .dec bs))
       → cond (isWhole to (length bs)) (next v) bad ≡ formed (whole C bs) next
   whole-asks blank (reading.To n) e = sym (formed-by (eqb n (length bs)) (told blank _ e refl) refl)
   whole-asks blank (reading.Refused a) e = sym (formed-no (told-not blank {k = a} _ e refl))
@@ -231,7 +231,7 @@ module _ (bs : List ℕ) where
   unfolding asking advanceBody
   advance-bad e = formed-no advanceBody (λ b. asks (advanceAsked b)) bs (via-no _ _ _ _ bs (dep-no-1 markerBody (λ a. stepBody) bs e))
 
-  pub advance-asks : {named : MarkerBody} {n : ℕ} (to : Reading) {v : VoterReplacementStep} → markerBody .dec bs ≡ ok named n
+  pub advance-asks : {named : MarkerBody} {n : ℕ} (to : Extent) {v : VoterReplacementStep} → markerBody .dec bs ≡ ok named n
       → _≡_ {A = Res (Unit {0}) × VoterReplacementStep} (report to, v) (outcome blankVoterReplacementStep (decMap (stepBody .dec) stepOf (drop n bs)))
       → cond (isWhole to (length bs - n)) (asks (command (advanceControl (advanceBy named v)) (named .cut))) bad ≡ asking Ad bs
   unfolding asking advanceBody advanceAsked advanceOf

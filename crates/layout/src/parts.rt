@@ -372,7 +372,7 @@ pub fn replacement_of(
 }
 
 // A table of its parts.
-pub fn table_of(
+pub fn table_of_parts(
     head: TableHead,
     count: usize,
     slots: [VoterSlotRecord; 9],

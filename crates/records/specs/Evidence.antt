@@ -50,8 +50,8 @@ validStages e phase =
     && (validStage (e .joint) (leb joint phase) fourth false && validStage (e .uniform) (leb uniform phase) fifth false))))
 
 -- The continuation and one other cut, whichever of the two is later.
-unfoldable pub validBeside : VoterSlotLogId → OptionalLogId → Bool → Bool
-validBeside continuation other isSnapshot =
+unfoldable pub inOrder : VoterSlotLogId → OptionalLogId → Bool → Bool
+inOrder continuation other isSnapshot =
     not (other .«is_some»)
     || cond (leb (other .cut .index) (continuation .index)) (follows continuation (other .cut) isSnapshot) (follows (other .cut) continuation false)
 
@@ -62,7 +62,7 @@ validContinuation e =
     || (validLogId c
     && (follows c (e .prepare) false
     && ((not (e .fence .«is_some») || follows (e .fence .cut) c false)
-    && (validBeside c (snapshotCut e) true && (validBeside c (e .learner) false && validBeside c (e .«caught_up») false)))))
+    && (inOrder c (snapshotCut e) true && (inOrder c (e .learner) false && inOrder c (e .«caught_up») false)))))
 
 -- A snapshot id. One that is longer than its field is invalid, whatever the field holds.
 abbrev pub validSnapshotId : SnapshotId → Bool

@@ -56,10 +56,10 @@ representableSlotRecord s =
 
 -- "nine places always, the first so many in use": one that is not in use is blank
 abbrev pub memberPlace : Bool → VoterSlotMember → Bool
-memberPlace behind m = cond behind (sameVoterSlotMember m blankVoterSlotMember) (representableMember m)
+memberPlace past m = cond past (sameVoterSlotMember m blankVoterSlotMember) (representableMember m)
 
 abbrev pub slotPlace : Bool → VoterSlotRecord → Bool
-slotPlace behind s = cond behind (sameVoterSlotRecord s blankVoterSlotRecord) (representableSlotRecord s)
+slotPlace past s = cond past (sameVoterSlotRecord s blankVoterSlotRecord) (representableSlotRecord s)
 
 unfoldable pub representableConfiguration : VoterConfiguration → Bool
 representableConfiguration c =

@@ -102,10 +102,10 @@ succession new old =
     (orRegression (allBelow (λ i. slotSucceeds (slotAt new i) (slotAt old i)) (new .count)) (replacementSucceeds new old)))
 
 -- an answer that is no refusal leads on
-abbrev pub andThen : Answer → Answer → Answer
-andThen answer next = cond (isAccepted answer) next answer
+abbrev pub firstRefusal : Answer → Answer → Answer
+firstRefusal answer next = cond (isAccepted answer) next answer
 
 -- `VoterSlotTable::validate_successor_of`, after 30
 unfoldable pub validateSuccessorOf : VoterSlotTable → VoterSlotTable → Answer
 validateSuccessorOf new old =
-    cond (representable new && representable old) (andThen (validity new) (andThen (validity old) (succession new old))) Unrepresentable
+    cond (representable new && representable old) (firstRefusal (validity new) (firstRefusal (validity old) (succession new old))) Unrepresentable

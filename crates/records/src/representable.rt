@@ -216,10 +216,10 @@ fn member_places(configuration: VoterConfiguration) -> bool
     all
 }
 
-fn is_member_place(behind: bool, member: VoterSlotMember) -> bool
-    ensures { λ r. ⌜ r ≡ memberPlace behind member ⌝ }
+fn is_member_place(past: bool, member: VoterSlotMember) -> bool
+    ensures { λ r. ⌜ r ≡ memberPlace past member ⌝ }
 {
-    if behind {
+    if past {
         return is_blank_voter_slot_member(member);
     }
     is_representable_member(member)
@@ -231,18 +231,18 @@ pub fn is_representable_evidence(evidence: VoterReplacementEvidence) -> bool
 {
     let snapshot = is_snapshot_part(evidence);
     let learner = evidence.learner;
-    let t1 = is_representable_optional_log_id(learner);
+    let learner_held = is_representable_optional_log_id(learner);
     let caught_up = evidence.caught_up;
-    let t2 = is_representable_optional_log_id(caught_up);
+    let caught_up_held = is_representable_optional_log_id(caught_up);
     let continuation = evidence.continuation;
-    let t3 = is_representable_optional_log_id(continuation);
+    let continuation_held = is_representable_optional_log_id(continuation);
     let fence = evidence.fence;
-    let t4 = is_representable_optional_log_id(fence);
+    let fence_held = is_representable_optional_log_id(fence);
     let joint = evidence.joint;
-    let t5 = is_representable_optional_log_id(joint);
+    let joint_held = is_representable_optional_log_id(joint);
     let uniform = evidence.uniform;
-    let t6 = is_representable_optional_log_id(uniform);
-    snapshot & (t1 & (t2 & (t3 & (t4 & (t5 & t6)))))
+    let uniform_held = is_representable_optional_log_id(uniform);
+    snapshot & (learner_held & (caught_up_held & (continuation_held & (fence_held & (joint_held & uniform_held)))))
 }
 
 fn is_snapshot_part(evidence: VoterReplacementEvidence) -> bool
