@@ -7,7 +7,7 @@ use codec::codec::encode_voter_slot_table;
 use identity::answer::Answer;
 use identity::answer::accepted;
 use identity::answer::number;
-use layout::reading::Reading;
+use layout::reading::Extent;
 use raw::table::table_of;
 use records::blank::blank_voter_slot_table;
 use records::records::VoterSlotTable;
@@ -185,10 +185,10 @@ fn number_of(answer: Answer) -> u64 {
     number(answer) as u64
 }
 
-fn refusal_of(written: Reading) -> u64 {
+fn refusal_of(written: Extent) -> u64 {
     match written {
-        Reading::To(_) => 0,
-        Reading::Refused(answer) => number_of(answer),
+        Extent::To(_) => 0,
+        Extent::Refused(answer) => number_of(answer),
     }
 }
 
