@@ -5,7 +5,7 @@ use Prim.Native.Nat.{ℕ}
 use mathlib.Core.Bool.{Bool, cond, false, not, true, _&&_, _||_}
 use mathlib.Core.List.{List, _∷_, []}
 use lib.Dec.{eqb, leb, ltb}
-use Rattle.identity.specs.Conditions.{_∧_}
+use Rattle.identity.specs.Conditions.{_and_}
 use Rattle.identity.specs.declared.answer.Answer.the-variants.{Accepted, IdempotencyConflict, InvalidTransition, RevisionExhausted, StaleIncarnation}
 use Rattle.identity.specs.declared.answer.Answer.{Answer}
 use Rattle.identity.specs.Answer.{isAccepted}
@@ -86,8 +86,8 @@ orderTest e cut isSnapshot = not (e .continuation .«is_some») || inOrder (e .c
 abbrev pub snapshotTest : VoterReplacementEvidence → VoterSnapshotEvidence → Bool
 snapshotTest e snapshot =
     validSnapshotId (snapshot .«snapshot_id»)
-    ∧ follows (snapshot .cut) (e .prepare) true
-    ∧ orderTest e (snapshot .cut) true
+    and follows (snapshot .cut) (e .prepare) true
+    and orderTest e (snapshot .cut) true
 
 -- a mark: after the one that is there, or else after the learner's cut
 abbrev pub caughtUpTest : VoterReplacementEvidence → VoterSlotLogId → Bool
@@ -95,7 +95,7 @@ caughtUpTest e mark = follows mark (cond (e .«caught_up» .«is_some») (e .«c
 
 -- the continuation itself, of a cut past prepare: in order with what is there
 abbrev pub continuationTest : VoterReplacementEvidence → VoterSlotLogId → Bool
-continuationTest e cut = inOrder cut (snapshotCut e) true ∧ inOrder cut (e .learner) false ∧ inOrder cut (e .«caught_up») false
+continuationTest e cut = inOrder cut (snapshotCut e) true and inOrder cut (e .learner) false and inOrder cut (e .«caught_up») false
 
 -- the fence: after the mark, and after the continuation, if there is one
 abbrev pub fenceTest : VoterReplacementEvidence → VoterSlotLogId → Bool
@@ -123,7 +123,7 @@ judgeSnapshot t snapshot cut =
     cond (op .evidence .«has_snapshot»)
     (cond (sameVoterSnapshotEvidence (op .evidence .snapshot) snapshot) kept (refused IdempotencyConflict))
     (cond
-    ((eqb (op .phase) prepared ∧ ltb (snapshot .cut .index) (cut .index) ∧ leb (snapshot .cut .term) (cut .term)) && snapshotTest (op .evidence) snapshot)
+    ((eqb (op .phase) prepared and ltb (snapshot .cut .index) (cut .index) and leb (snapshot .cut .term) (cut .term)) && snapshotTest (op .evidence) snapshot)
     (moves recordsSnapshot) (refused InvalidTransition))
 
 -- `recordCaughtUp` of Control: the same mark again is kept
@@ -131,7 +131,7 @@ unfoldable pub judgeCaughtUp : VoterSlotTable → VoterSlotLogId → VoterSlotLo
 judgeCaughtUp t mark cut =
     let op = t .replacement in
     cond (op .evidence .«caught_up» .«is_some» && sameVoterSlotLogId (op .evidence .«caught_up» .cut) mark) kept
-    (cond ((isCatchingUp (op .phase) ∧ eqb (mark .term) (cut .term) ∧ ltb (mark .index) (cut .index)) && caughtUpTest (op .evidence) mark)
+    (cond ((isCatchingUp (op .phase) and eqb (mark .term) (cut .term) and ltb (mark .index) (cut .index)) && caughtUpTest (op .evidence) mark)
     (moves recordsCaughtUp) (refused InvalidTransition))
 
 -- `recordContinuation` of Control: one that is there is kept
@@ -148,7 +148,7 @@ judgeFence t cut =
     let op = t .replacement in
     cond (leb fenced (op .phase)) kept
     (cond
-    ((eqb (op .phase) caughtUp ∧ op .evidence .«caught_up» .«is_some» ∧ eqb (op .evidence .«caught_up» .cut .term) (cut .term)) && fenceTest (op .evidence) cut)
+    ((eqb (op .phase) caughtUp and op .evidence .«caught_up» .«is_some» and eqb (op .evidence .«caught_up» .cut .term) (cut .term)) && fenceTest (op .evidence) cut)
     (moves fences) (refused InvalidTransition))
 
 -- `finalize` of Control: in Uniform the latest evidence is uniform's cut, and the slot being replaced is there

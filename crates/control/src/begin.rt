@@ -223,7 +223,7 @@ pub fn begin_table(t: VoterSlotTable, b: VoterBegin) -> VoterSlotTable
 
 // The first slot of that number gets the candidate. (Found here and not by `slot_index`, so that the
 // slots are copied once.)
-fn begun_slots(t: VoterSlotTable, b: VoterBegin) -> [VoterSlotRecord; 9]
+fn begun_slots(t: VoterSlotTable, b: VoterBegin) -> [VoterSlotRecord; MAX_FIXED_VOTER_SLOTS]
     requires { ⌜ (t .revision ≡ full → ⊥) × ((t .count ≤ 9) × (namedIndex t (b .request) < t .count)) ⌝ }
     ensures { λ l. ⌜ l ≡ begunSlots t (b .request) (b .cut) ⌝ }
 {
@@ -303,11 +303,13 @@ fn current_configuration(t: VoterSlotTable) -> VoterConfiguration
     }
 }
 
-fn members_of(slots: [VoterSlotRecord; 9]) -> [VoterSlotMember; 9]
+fn members_of(
+    slots: [VoterSlotRecord; MAX_FIXED_VOTER_SLOTS],
+) -> [VoterSlotMember; MAX_FIXED_VOTER_SLOTS]
     ensures { λ l. ⌜ l ≡ map (λ s. s .member) slots ⌝ }
 {
     let blank = blank_voter_slot_member();
-    let mut members = [blank; 9];
+    let mut members = [blank; MAX_FIXED_VOTER_SLOTS];
     let mut i: usize = 0;
     while i < MAX_FIXED_VOTER_SLOTS {
         let slot = slots[i];

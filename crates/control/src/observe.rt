@@ -454,8 +454,7 @@ fn has_few_members(t: VoterSlotTable) -> bool
     let old = t.replacement.predecessor.count;
     let new = t.replacement.successor.count;
     (t.count <= MAX_FIXED_VOTER_SLOTS)
-        & (!t.has_replacement
-            | ((old <= MAX_FIXED_VOTER_SLOTS) & (new <= MAX_FIXED_VOTER_SLOTS)))
+        & (!t.has_replacement | ((old <= MAX_FIXED_VOTER_SLOTS) & (new <= MAX_FIXED_VOTER_SLOTS)))
 }
 
 // The verdict. On a table not known to be valid a change still needs `confirm`.
@@ -488,14 +487,14 @@ fn confirm(t: VoterSlotTable, judged: Observed) -> Observed
     requires { ⌜ t .count ≤ 9 ⌝ }
     ensures { λ r. ⌜ verdictOfObserved r ≡ confirmed (isAccepted (validity t)) (verdictOfObserved judged) ⌝ }
 {
-    if route(judged) == 0 {
+    if route_of_observed(judged) == ROUTE_NONE {
         return judged;
     }
     let valid = accepted(validate_representable(t));
     accept_if(valid, judged)
 }
 
-pub fn answer_of(judged: Observed) -> Answer
+pub fn answer_of_observed(judged: Observed) -> Answer
     ensures { λ r. ⌜ r ≡ answerOfObserved (verdictOfObserved judged) ⌝ }
 {
     match judged {
@@ -515,7 +514,7 @@ pub const ROUTE_JOINT: u64 = 2;
 pub const ROUTE_UNIFORM: u64 = 3;
 
 // Which table is to be made.
-pub fn route(judged: Observed) -> u64
+pub fn route_of_observed(judged: Observed) -> u64
     ensures { λ r. ⌜ r ≡ routeOfObserved (verdictOfObserved judged) ⌝ }
 {
     match judged {
@@ -666,7 +665,7 @@ pub fn observe_membership_in_place(
     ensures { λ b. ⌜ (b, now (t .exit)) ≡ observeMembership (now (t .entry)) (now (sets .entry)) (now (counts .entry)) (now (nodes .entry)) cut ⌝ }
 {
     let judged = weigh_entry(*t, sets, counts, nodes, cut);
-    match route(judged) {
+    match route_of_observed(judged) {
         ROUTE_LEARNER => {
             *t = learner_table(*t, cut);
         }
@@ -678,7 +677,7 @@ pub fn observe_membership_in_place(
         }
         _ => {}
     }
-    answer_of(judged)
+    answer_of_observed(judged)
 }
 
 // An observation of a table that is lent and known to be valid.
@@ -693,7 +692,7 @@ pub fn observe_in_place(
     ensures { λ v. ⌜ (v, now (t .exit)) ≡ observeMembership (now (t .entry)) (now (sets .entry)) (now (counts .entry)) (now (nodes .entry)) cut ⌝ }
 {
     let judged = weigh(*t, sets, counts, nodes, cut);
-    match route(judged) {
+    match route_of_observed(judged) {
         ROUTE_LEARNER => {
             *t = learner_table(*t, cut);
         }
@@ -705,5 +704,5 @@ pub fn observe_in_place(
         }
         _ => {}
     }
-    answer_of(judged)
+    answer_of_observed(judged)
 }

@@ -147,7 +147,11 @@ pub fn slot_check(t: VoterSlotTable, r: VoterReplacementRequest) -> Answer
     let current = named.found
         & ((t.revision == r.expected_revision) & (expected & (same_cluster & attested)));
     let fits = answer_by(newer, Answer::Accepted, Answer::InvalidLossEvidence);
-    let enough = answer_by(MIN_REPLACEMENT_SLOTS <= t.count, fits, Answer::NoSurvivingQuorum);
+    let enough = answer_by(
+        MIN_REPLACEMENT_SLOTS <= t.count,
+        fits,
+        Answer::NoSurvivingQuorum,
+    );
     answer_by(current, enough, Answer::StaleIncarnation)
 }
 

@@ -211,10 +211,10 @@ fn id_of(slot: u16, incarnation: u64) -> u64
 }
 
 // `member_ids` in the order of the nine places; the caller lends those in use.
-pub fn ids_of(c: VoterConfiguration) -> [u64; 9]
+pub fn ids_of(c: VoterConfiguration) -> [u64; MAX_FIXED_VOTER_SLOTS]
     ensures { λ r. ⌜ r ≡ listed c 9 ⌝ }
 {
-    let mut ids = [0; 9];
+    let mut ids = [0; MAX_FIXED_VOTER_SLOTS];
     let mut i: usize = 0;
     while i < MAX_FIXED_VOTER_SLOTS {
         let id = id_of(
@@ -228,10 +228,10 @@ pub fn ids_of(c: VoterConfiguration) -> [u64; 9]
 }
 
 // The same of the slots.
-pub fn ids_of_slots(t: VoterSlotTable) -> [u64; 9]
+pub fn ids_of_slots(t: VoterSlotTable) -> [u64; MAX_FIXED_VOTER_SLOTS]
     ensures { λ r. ⌜ r ≡ listed (slotMembers t) 9 ⌝ }
 {
-    let mut ids = [0; 9];
+    let mut ids = [0; MAX_FIXED_VOTER_SLOTS];
     let mut i: usize = 0;
     while i < MAX_FIXED_VOTER_SLOTS {
         let id = id_of(

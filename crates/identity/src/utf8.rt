@@ -1,5 +1,5 @@
-// UTF-8 as RFC 3629 has it: the character at the front of some bytes. The original leans on Rust's
-// `str` for this.
+// UTF-8 as RFC 3629 has it: the character at the front of some bytes. The original relies on
+// Rust's `str` for this.
 ghost use Prim.Native.Nat.{_<_};
 ghost use mathlib.Core.Path.{_≡_};
 ghost use mathlib.Core.List.{[], _∷_};

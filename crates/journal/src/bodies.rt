@@ -1,5 +1,5 @@
-// The bodies of commands: MK, AD, BG. Each field has a reader, which is handed the rest of the bytes
-// and gives the count that it took.
+// The bodies of commands: MK, AD, BG. Each field has a reader, which takes the rest of the bytes and
+// returns the count that it read.
 //
 // Document 01, section "Replay program". No part of the original has them.
 ghost use mathlib.Core.Bool.{cond, false};
@@ -44,10 +44,10 @@ use layout::get::zeros32;
 use layout::get::zeros256;
 use layout::parts::member_of;
 use layout::put::put_bytes;
+use layout::reading::Extent;
 use layout::reading::IdentityRead;
 use layout::reading::LogIdRead;
 use layout::reading::MemberRead;
-use layout::reading::Extent;
 use layout::reading::SizedRead;
 use layout::reading::SnapshotIdRead;
 use layout::reading::SnapshotRead;

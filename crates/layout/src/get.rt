@@ -1,8 +1,8 @@
 // The readers of a number and of bytes, unchecked, next to the writers of put.rt: `Reader` of codec.rs.
 //
 // Ported from crates/opc-consensus/src/voter_slots/codec.rs of openpacketcore-sdk, commit
-// 717de332e7, Apache-2.0 (see NOTICE). Changed: each is handed the rest of the bytes and answers the
-// count that it took.
+// 717de332e7, Apache-2.0 (see NOTICE). Changed: each takes the rest of the bytes and returns the
+// count that it read.
 ghost use mathlib.Core.Path.{_≡_};
 ghost use Prim.Native.Nat.{_≤_};
 ghost use Rattle.format.specs.Copy.{zeros};

@@ -43,6 +43,7 @@ use records::blank::blank_voter_slot_record;
 use records::blank::blank_voter_slot_table;
 use records::blank::blank_voter_snapshot_evidence;
 use records::records::LostVoterAttestationV1;
+use records::records::MAX_FIXED_VOTER_SLOTS;
 use records::records::OptionalLogId;
 use records::records::SnapshotId;
 use records::records::SpiffeId;
@@ -151,7 +152,7 @@ pub struct MemberRead {
 
 pub struct MembersRead {
     pub answer: Extent,
-    pub value: [VoterSlotMember; 9],
+    pub value: [VoterSlotMember; MAX_FIXED_VOTER_SLOTS],
 }
 
 pub struct ConfigurationRead {
@@ -187,7 +188,7 @@ pub struct SlotRead {
 
 pub struct SlotsRead {
     pub answer: Extent,
-    pub value: [VoterSlotRecord; 9],
+    pub value: [VoterSlotRecord; MAX_FIXED_VOTER_SLOTS],
 }
 
 pub struct ClaimsRequestRead {
@@ -250,7 +251,7 @@ pub struct TableFrontRead {
     pub answer: Extent,
     pub head: TableHead,
     pub count: usize,
-    pub slots: [VoterSlotRecord; 9],
+    pub slots: [VoterSlotRecord; MAX_FIXED_VOTER_SLOTS],
 }
 
 pub struct TableRead {
@@ -617,16 +618,16 @@ pub fn refused_table(answer: Answer) -> TableRead
     }
 }
 
-pub fn blank_voter_slot_members() -> [VoterSlotMember; 9]
+pub fn blank_voter_slot_members() -> [VoterSlotMember; MAX_FIXED_VOTER_SLOTS]
     ensures { λ r. ⌜ r ≡ blankVoterSlotMembers ⌝ }
 {
     let blank = blank_voter_slot_member();
-    [blank; 9]
+    [blank; MAX_FIXED_VOTER_SLOTS]
 }
 
-pub fn blank_voter_slot_records() -> [VoterSlotRecord; 9]
+pub fn blank_voter_slot_records() -> [VoterSlotRecord; MAX_FIXED_VOTER_SLOTS]
     ensures { λ r. ⌜ r ≡ blankVoterSlotRecords ⌝ }
 {
     let blank = blank_voter_slot_record();
-    [blank; 9]
+    [blank; MAX_FIXED_VOTER_SLOTS]
 }

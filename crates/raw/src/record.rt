@@ -1,6 +1,6 @@
 // Commands and observations in the bodies of questions: the records that document 01 has in "Replay
-// program". `is_..` tells whether a record's
-// body is of its form, `.._of` reads one that is: the value may still be one that the call refuses.
+// program". `is_..` tells whether a record's body is of its form, `.._of` reads one that is: the value
+// may still be one that the call refuses.
 ghost use Prim.Native.Nat.{_+_, _*_, _-_, _<_, _≤_};
 use crate::number::be16;
 use crate::number::be64;

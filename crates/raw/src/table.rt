@@ -10,6 +10,7 @@ use identity::identity::VoterSlotIdentity;
 use records::blank::blank_voter_slot_member;
 use records::blank::blank_voter_slot_record;
 use records::records::LostVoterAttestationV1;
+use records::records::MAX_FIXED_VOTER_SLOTS;
 use records::records::OptionalLogId;
 use records::records::SnapshotId;
 use records::records::SpiffeId;
@@ -32,7 +33,7 @@ const CONFIGURATION_EPOCH: usize = REVISION + 8;
 
 const SLOTS: usize = CONFIGURATION_EPOCH + 8;
 
-const COUNT: usize = SLOTS + 9 * SLOT_SIZE;
+const COUNT: usize = SLOTS + MAX_FIXED_VOTER_SLOTS * SLOT_SIZE;
 
 const HAS_REPLACEMENT: usize = COUNT + 1;
 
@@ -48,7 +49,7 @@ const RESULT_SIZE: usize = 89;
 
 const SLOT_SIZE: usize = MEMBER_SIZE + 8 + 1 + 1 + RESULT_SIZE;
 
-const CONFIGURATION_SIZE: usize = 8 + 9 * MEMBER_SIZE + 1;
+const CONFIGURATION_SIZE: usize = 8 + MAX_FIXED_VOTER_SLOTS * MEMBER_SIZE + 1;
 
 const ATTESTATION_SIZE: usize = 4423;
 
@@ -180,9 +181,9 @@ pub fn table_of(raw: &[u8; 8062]) -> VoterSlotTable {
     }
 }
 
-fn slots_of(raw: &[u8]) -> [VoterSlotRecord; 9] {
+fn slots_of(raw: &[u8]) -> [VoterSlotRecord; MAX_FIXED_VOTER_SLOTS] {
     let blank = blank_voter_slot_record();
-    let mut slots = [blank; 9];
+    let mut slots = [blank; MAX_FIXED_VOTER_SLOTS];
     let mut i = 0;
     while i < 9 {
         let slot = slot_at(raw, SLOTS + i * SLOT_SIZE);
@@ -346,11 +347,11 @@ fn configuration_at(raw: &[u8], at: usize) -> VoterConfiguration
 }
 
 // Nine members, from at on.
-fn members_at(raw: &[u8], at: usize) -> [VoterSlotMember; 9]
+fn members_at(raw: &[u8], at: usize) -> [VoterSlotMember; MAX_FIXED_VOTER_SLOTS]
     requires { ⌜ at + 738 ≤ 8062 ⌝ }
 {
     let blank = blank_voter_slot_member();
-    let mut members = [blank; 9];
+    let mut members = [blank; MAX_FIXED_VOTER_SLOTS];
     let mut i = 0;
     while i < 9 {
         let member = member_at(raw, at + i * MEMBER_SIZE);

@@ -4,6 +4,7 @@
 ghost use Prim.Native.Nat.{_+_, _≤_};
 use crate::table::copy;
 use records::records::LostVoterAttestationV1;
+use records::records::MAX_FIXED_VOTER_SLOTS;
 use records::records::OptionalLogId;
 use records::records::SnapshotId;
 use records::records::SpiffeId;
@@ -76,7 +77,7 @@ fn put_signed_digests(raw: &mut [u8], at: usize, a: LostVoterAttestationV1)
     copy(raw, at + 4359, at + 4423, &a.signature, 0);
 }
 
-fn put_slots(raw: &mut [u8], slots: [VoterSlotRecord; 9]) {
+fn put_slots(raw: &mut [u8], slots: [VoterSlotRecord; MAX_FIXED_VOTER_SLOTS]) {
     let mut i = 0;
     while i < 9 {
         let slot = slots[i];
@@ -144,7 +145,7 @@ fn put_configuration(raw: &mut [u8], at: usize, c: VoterConfiguration)
     put(raw, at + 746, (c.count % 256) as u8);
 }
 
-fn put_members(raw: &mut [u8], at: usize, members: [VoterSlotMember; 9])
+fn put_members(raw: &mut [u8], at: usize, members: [VoterSlotMember; MAX_FIXED_VOTER_SLOTS])
     requires { ⌜ at + 738 ≤ 8062 ⌝ }
 {
     let mut i = 0;

@@ -1,8 +1,8 @@
 // The readers of the records, in the order of codec.rs.
 //
 // Ported from crates/opc-consensus/src/voter_slots/codec.rs of openpacketcore-sdk, commit
-// 717de332e7, Apache-2.0 (see NOTICE). Changed: each field has a reader of its own, which is handed
-// the rest of the bytes and gives the count that it took.
+// 717de332e7, Apache-2.0 (see NOTICE). Changed: each field has a reader of its own, which takes
+// the rest of the bytes and returns the count that it read.
 ghost use mathlib.Core.Path.{_≡_};
 ghost use Prim.Native.Nat.{_≤_};
 ghost use Rattle.format.specs.List.{opt};
@@ -57,13 +57,13 @@ use layout::reading::ClaimsRequestRead;
 use layout::reading::ClaimsSlotRead;
 use layout::reading::ConfigurationRead;
 use layout::reading::EvidenceRead;
+use layout::reading::Extent;
 use layout::reading::IdentityRead;
 use layout::reading::LogIdRead;
 use layout::reading::MemberRead;
 use layout::reading::MembersRead;
 use layout::reading::OptionalResultRead;
 use layout::reading::OptionalSnapshotRead;
-use layout::reading::Extent;
 use layout::reading::ReplacementRead;
 use layout::reading::ResultHeadRead;
 use layout::reading::ResultRead;

@@ -2,8 +2,8 @@
 // Those of a plain number and of bytes stand in layout's get.rt.
 //
 // Ported from crates/opc-consensus/src/voter_slots/codec.rs of openpacketcore-sdk, commit
-// 717de332e7, Apache-2.0 (see NOTICE). Changed: each is handed the rest of the bytes and answers the
-// count that it took.
+// 717de332e7, Apache-2.0 (see NOTICE). Changed: each takes the rest of the bytes and returns the
+// count that it read.
 ghost use mathlib.Core.Path.{_≡_};
 ghost use Rattle.format.specs.List.{flag};
 ghost use Rattle.layout.specs.Reading.{report, outcome, u64Read, u16Read, u8Read, boolRead, identityRead, logIdRead, optionalLogIdRead, threeCutsRead, timesRead};
@@ -29,10 +29,10 @@ use layout::parts::Times;
 use layout::parts::VERSION;
 use layout::put::put_bytes;
 use layout::reading::BoolRead;
+use layout::reading::Extent;
 use layout::reading::IdentityRead;
 use layout::reading::LogIdRead;
 use layout::reading::OptionalLogIdRead;
-use layout::reading::Extent;
 use layout::reading::SizedRead;
 use layout::reading::SnapshotIdRead;
 use layout::reading::SpiffeIdRead;

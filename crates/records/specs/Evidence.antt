@@ -5,7 +5,7 @@ use Prim.Native.Nat.{ℕ}
 use mathlib.Core.Bool.{Bool, true, false, cond, not, Bool·beq, _&&_, _||_}
 use lib.ListN.{take}
 use lib.Dec.{eqb, leb, ltb}
-use Rattle.identity.specs.Conditions.{_∧_}
+use Rattle.identity.specs.Conditions.{_and_}
 use Rattle.identity.specs.Text.{isSnapshotId, maxSnapshotIdBytes}
 use Rattle.records.specs.Equality.{sameVoterSlotLogId, sameVoterSnapshotEvidence}
 use Rattle.records.specs.Records.{snapshotInstalled, learnerAdded, caughtUp, fenced, joint, uniform}
@@ -45,11 +45,11 @@ validStages e phase =
     let toFence = stageOr (e .fence) toCaughtUp in
     let toJoint = stageOr (e .joint) toFence in
     validStage (snapshotCut e) (leb snapshotInstalled phase) (e .prepare) true
-    ∧ validStage (e .learner) (leb learnerAdded phase) toSnapshot false
-    ∧ validStage (e .«caught_up») (leb caughtUp phase) toLearner false
-    ∧ validStage (e .fence) (leb fenced phase) toCaughtUp false
-    ∧ validStage (e .joint) (leb joint phase) toFence false
-    ∧ validStage (e .uniform) (leb uniform phase) toJoint false
+    and validStage (e .learner) (leb learnerAdded phase) toSnapshot false
+    and validStage (e .«caught_up») (leb caughtUp phase) toLearner false
+    and validStage (e .fence) (leb fenced phase) toCaughtUp false
+    and validStage (e .joint) (leb joint phase) toFence false
+    and validStage (e .uniform) (leb uniform phase) toJoint false
 
 -- The continuation and one other cut, whichever of the two is later.
 unfoldable pub inOrder : VoterSlotLogId → OptionalLogId → Bool → Bool
@@ -62,11 +62,11 @@ validContinuation e =
     let c = e .continuation .cut in
     not (e .continuation .«is_some»)
     || (validLogId c
-    ∧ follows c (e .prepare) false
-    ∧ (not (e .fence .«is_some») || follows (e .fence .cut) c false)
-    ∧ inOrder c (snapshotCut e) true
-    ∧ inOrder c (e .learner) false
-    ∧ inOrder c (e .«caught_up») false)
+    and follows c (e .prepare) false
+    and (not (e .fence .«is_some») || follows (e .fence .cut) c false)
+    and inOrder c (snapshotCut e) true
+    and inOrder c (e .learner) false
+    and inOrder c (e .«caught_up») false)
 
 -- A snapshot id. One that is longer than its field is invalid, whatever the field holds.
 abbrev pub validSnapshotId : SnapshotId → Bool
@@ -76,9 +76,9 @@ validSnapshotId s = leb (s .len) maxSnapshotIdBytes && isSnapshotId (take (s .le
 unfoldable pub validEvidence : VoterReplacementEvidence → ℕ → Bool
 validEvidence e phase =
     validLogId (e .prepare)
-    ∧ (not (e .«has_snapshot») || validSnapshotId (e .snapshot .«snapshot_id»))
-    ∧ validStages e phase
-    ∧ validContinuation e
+    and (not (e .«has_snapshot») || validSnapshotId (e .snapshot .«snapshot_id»))
+    and validStages e phase
+    and validContinuation e
 
 -- A cut that was there is still there.
 unfoldable pub retainsCut : OptionalLogId → OptionalLogId → Bool
@@ -93,18 +93,18 @@ retainsMarker new old oldPhase =
 unfoldable pub retainsCuts : VoterReplacementEvidence → VoterReplacementEvidence → Bool
 retainsCuts new old =
     retainsCut (new .learner) (old .learner)
-    ∧ retainsCut (new .continuation) (old .continuation)
-    ∧ retainsCut (new .fence) (old .fence)
-    ∧ retainsCut (new .joint) (old .joint)
-    ∧ retainsCut (new .uniform) (old .uniform)
+    and retainsCut (new .continuation) (old .continuation)
+    and retainsCut (new .fence) (old .fence)
+    and retainsCut (new .joint) (old .joint)
+    and retainsCut (new .uniform) (old .uniform)
 
 -- `VoterReplacementEvidence::retains`
 unfoldable pub retains : VoterReplacementEvidence → VoterReplacementEvidence → ℕ → Bool
 retains new old oldPhase =
     sameVoterSlotLogId (new .prepare) (old .prepare)
-    ∧ (not (old .«has_snapshot») || (new .«has_snapshot» && sameVoterSnapshotEvidence (new .snapshot) (old .snapshot)))
-    ∧ retainsMarker (new .«caught_up») (old .«caught_up») oldPhase
-    ∧ retainsCuts new old
+    and (not (old .«has_snapshot») || (new .«has_snapshot» && sameVoterSnapshotEvidence (new .snapshot) (old .snapshot)))
+    and retainsMarker (new .«caught_up») (old .«caught_up») oldPhase
+    and retainsCuts new old
 
 -- of two cuts the one of the higher index; of one index the first
 unfoldable pub laterOf : VoterSlotLogId → OptionalLogId → VoterSlotLogId

@@ -77,7 +77,8 @@ fn are_valid_stages(evidence: VoterReplacementEvidence, phase: u8) -> bool
     let to_joint = stage_or(joint, to_fence);
     let uniform = evidence.uniform;
     let uniform_valid = is_valid_stage(uniform, UNIFORM <= phase, to_joint, false);
-    snapshot_valid & (learner_valid & (caught_up_valid & (fence_valid & (joint_valid & uniform_valid))))
+    snapshot_valid
+        & (learner_valid & (caught_up_valid & (fence_valid & (joint_valid & uniform_valid))))
 }
 
 // The snapshot's cut, or none.
@@ -133,14 +134,11 @@ fn is_valid_continuation(evidence: VoterReplacementEvidence) -> bool
     let caught_up = evidence.caught_up;
     let caught_up_in_order = is_in_order(cut, caught_up, false);
     valid
-        & (after_prepare & (before_fence & (snapshot_in_order & (learner_in_order & caught_up_in_order))))
+        & (after_prepare
+            & (before_fence & (snapshot_in_order & (learner_in_order & caught_up_in_order))))
 }
 
-pub fn is_in_order(
-    continuation: VoterSlotLogId,
-    other: OptionalLogId,
-    is_snapshot: bool,
-) -> bool
+pub fn is_in_order(continuation: VoterSlotLogId, other: OptionalLogId, is_snapshot: bool) -> bool
     ensures { λ r. ⌜ r ≡ inOrder continuation other «is_snapshot» ⌝ }
 {
     if !other.is_some {
@@ -183,7 +181,8 @@ pub fn evidence_retains(
     let old_caught_up = old.caught_up;
     let marker_kept = retains_marker(caught_up, old_caught_up, old_phase);
     let cuts_kept = retains_cuts(new, old);
-    same_prepare & ((!old.has_snapshot | (new.has_snapshot & same_snapshot)) & (marker_kept & cuts_kept))
+    same_prepare
+        & ((!old.has_snapshot | (new.has_snapshot & same_snapshot)) & (marker_kept & cuts_kept))
 }
 
 fn retains_cuts(new: VoterReplacementEvidence, old: VoterReplacementEvidence) -> bool

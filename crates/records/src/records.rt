@@ -10,6 +10,8 @@ use identity::identity::ConsensusRequestId;
 use identity::identity::SlotId;
 use identity::identity::VoterIncarnation;
 use identity::identity::VoterSlotIdentity;
+use identity::text::MAX_VOTER_SNAPSHOT_ID_BYTES;
+use identity::text::MAX_VOTER_SPIFFE_ID_BYTES;
 
 // Most slots of a table, and places for them.
 pub const MAX_FIXED_VOTER_SLOTS: usize = 9;
@@ -64,7 +66,7 @@ pub struct SpiffeId {
     // Bytes in use, at most 2,048.
     pub len: usize,
     // UTF-8, then zeros.
-    pub bytes: [u8; 2048],
+    pub bytes: [u8; MAX_VOTER_SPIFFE_ID_BYTES],
 }
 
 // The id of a snapshot: so many bytes, zero after them.
@@ -72,7 +74,7 @@ pub struct SnapshotId {
     // Bytes in use, at most 256.
     pub len: usize,
     // UTF-8, then zeros.
-    pub bytes: [u8; 256],
+    pub bytes: [u8; MAX_VOTER_SNAPSHOT_ID_BYTES],
 }
 
 // A cut: a position in the log.
@@ -150,7 +152,7 @@ pub struct VoterConfiguration {
     // Monotonic uniform configuration epoch.
     pub epoch: ConsensusConfigurationEpoch,
     // Incarnation-qualified members and keys, one per immutable slot; blanks after the count.
-    pub members: [VoterSlotMember; 9],
+    pub members: [VoterSlotMember; MAX_FIXED_VOTER_SLOTS],
     // Members in use.
     pub count: usize,
 }
@@ -244,7 +246,7 @@ pub struct VoterSlotTable {
     // Current committed uniform configuration epoch.
     pub configuration_epoch: ConsensusConfigurationEpoch,
     // Exact manifest slots sorted by ordinal, then blanks; retired history is a floor per slot.
-    pub slots: [VoterSlotRecord; 9],
+    pub slots: [VoterSlotRecord; MAX_FIXED_VOTER_SLOTS],
     // Slots in use.
     pub count: usize,
     // Whether a replacement is open.

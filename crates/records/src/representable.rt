@@ -60,8 +60,8 @@ pub fn is_representable(table: VoterSlotTable) -> bool
     is_blank_voter_replacement_record(replacement)
 }
 
-// The nine places: a slot in each below the count, and a blank in each after it. A place is copied out in
-// the arm that looks at it, so that no field is read for nothing.
+// The nine places: a slot in each below the count, and a blank in each after it. A place is copied
+// out in the arm that looks at it, so that no field is read for nothing.
 fn slot_places(table: VoterSlotTable) -> bool
     ensures { λ r. ⌜ r ≡ allBelow (λ i. slotPlace (leb (table .count) i) (slotAt table i)) 9 ⌝ }
 {
@@ -242,7 +242,9 @@ pub fn is_representable_evidence(evidence: VoterReplacementEvidence) -> bool
     let joint_held = is_representable_optional_log_id(joint);
     let uniform = evidence.uniform;
     let uniform_held = is_representable_optional_log_id(uniform);
-    snapshot & (learner_held & (caught_up_held & (continuation_held & (fence_held & (joint_held & uniform_held)))))
+    snapshot
+        & (learner_held
+            & (caught_up_held & (continuation_held & (fence_held & (joint_held & uniform_held)))))
 }
 
 fn is_snapshot_part(evidence: VoterReplacementEvidence) -> bool

@@ -178,7 +178,8 @@ fn request_succeeds(new: VoterReplacementRecord, old: VoterReplacementRecord) ->
     let old_evidence = old.evidence;
     let evidence_kept = evidence_retains(evidence, old_evidence, old.phase);
     (new.expected_revision == old.expected_revision)
-        & (same_attestation & (same_predecessor & (same_successor & ((old.phase <= new.phase) & evidence_kept))))
+        & (same_attestation
+            & (same_predecessor & (same_successor & ((old.phase <= new.phase) & evidence_kept))))
 }
 
 // The request that was open has ended.

@@ -132,7 +132,7 @@ pub fn is_valid_attestation(attestation: LostVoterAttestationV1) -> bool
 
 // A length above the field is a no. The bytes come by themselves: of a record the caller would make
 // a copy first.
-pub fn is_valid_spiffe_id(len: usize, bytes: [u8; 2048]) -> bool
+pub fn is_valid_spiffe_id(len: usize, bytes: [u8; MAX_VOTER_SPIFFE_ID_BYTES]) -> bool
     ensures { λ r. ⌜ r ≡ validSpiffeId (record { len = len; bytes = bytes }) ⌝ }
 {
     if MAX_VOTER_SPIFFE_ID_BYTES < len {
@@ -304,7 +304,7 @@ fn results_distinct(table: VoterSlotTable) -> bool
     all
 }
 
-fn distinct_below(slots: [VoterSlotRecord; 9], i: usize) -> bool
+fn distinct_below(slots: [VoterSlotRecord; MAX_FIXED_VOTER_SLOTS], i: usize) -> bool
     requires { ⌜ i < 9 ⌝ }
     ensures { λ r. ⌜ r ≡ allBelow (λ j. distinctResults (getD slots j noSlotRecord) (getD slots i noSlotRecord)) i ⌝ }
 {

@@ -20,6 +20,7 @@ use layout::parts::late_cuts;
 use layout::put::put_be;
 use layout::put::put_bytes;
 use records::records::LostVoterAttestationV1;
+use records::records::MAX_FIXED_VOTER_SLOTS;
 use records::records::OptionalLogId;
 use records::records::SnapshotId;
 use records::records::SpiffeId;
@@ -146,7 +147,12 @@ fn put_member(buffer: &mut [u8], at: usize, m: VoterSlotMember) -> usize
     put_binding(buffer, at, m)
 }
 
-fn put_members(buffer: &mut [u8], at: usize, places: [VoterSlotMember; 9], count: usize) -> usize
+fn put_members(
+    buffer: &mut [u8],
+    at: usize,
+    places: [VoterSlotMember; MAX_FIXED_VOTER_SLOTS],
+    count: usize,
+) -> usize
     requires { ⌜ (at + length (members count .enc places) ≤ length (now buffer)) × (count ≤ 9) ⌝ }
     ensures { λ r. ⌜ Put (members count .enc places) at (now (buffer .entry)) (now (buffer .exit)) r ⌝ }
 {
@@ -229,7 +235,12 @@ fn put_slot(buffer: &mut [u8], at: usize, s: VoterSlotRecord) -> usize
     put_optional_result(buffer, at, s.has_last_result, last_result)
 }
 
-fn put_slots(buffer: &mut [u8], at: usize, places: [VoterSlotRecord; 9], count: usize) -> usize
+fn put_slots(
+    buffer: &mut [u8],
+    at: usize,
+    places: [VoterSlotRecord; MAX_FIXED_VOTER_SLOTS],
+    count: usize,
+) -> usize
     requires { ⌜ (at + length (slots count .enc places) ≤ length (now buffer)) × (count ≤ 9) ⌝ }
     ensures { λ r. ⌜ Put (slots count .enc places) at (now (buffer .entry)) (now (buffer .exit)) r ⌝ }
 {
@@ -475,7 +486,7 @@ pub fn put_table(buffer: &mut [u8], at: usize, t: VoterSlotTable) -> usize
 }
 
 // How many bytes each takes.
-fn slots_size(places: [VoterSlotRecord; 9], count: usize) -> usize
+fn slots_size(places: [VoterSlotRecord; MAX_FIXED_VOTER_SLOTS], count: usize) -> usize
     requires { ⌜ count ≤ 9 ⌝ }
     ensures { λ r. ⌜ r ≡ length (slots count .enc places) ⌝ }
 {
