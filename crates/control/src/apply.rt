@@ -10,7 +10,7 @@ ghost use Rattle.identity.specs.declared.answer.Answer.the-variants.{Accepted};
 ghost use Rattle.records.specs.Validation.{validate};
 ghost use Rattle.control.specs.Control.{applyControl};
 ghost use Rattle.control.specs.Judgement.{judgeMarker};
-ghost use Rattle.control.specs.Verdicts.{advanceOf, answerOf, appliedOf, checkedOf, entryVerdict, paired, verdictOf};
+ghost use Rattle.control.specs.Verdicts.{advanceOutcome, answerOf, appliedOf, checkedOf, entryVerdict, paired, verdictOf};
 use crate::begin::begin;
 use crate::command::advance_of;
 use crate::command::begin_of;
@@ -161,7 +161,7 @@ fn mark(t: VoterSlotTable, c: VoterCommand) -> Controlled
 // An Advance, by value. The caller has made the tests that `apply_to_valid` names (`valid-advance`).
 pub fn advance(t: VoterSlotTable, c: VoterAdvance) -> Controlled
     requires { ⌜ validate t ≡ Accepted ⌝ }
-    ensures { λ r. ⌜ (r .answer, r .table) ≡ advanceOf t c ⌝ }
+    ensures { λ r. ⌜ (r .answer, r .table) ≡ advanceOutcome t c ⌝ }
 {
     let judged = judge_advance(t, c);
     match judged {
@@ -230,7 +230,7 @@ pub fn apply_in_place(t: &mut VoterSlotTable, c: VoterCommand) -> Answer
 // `advance` on a table that is lent: the caller has made the same tests.
 pub fn advance_in_place(t: &mut VoterSlotTable, c: VoterAdvance) -> Answer
     requires { ⌜ validate (now t) ≡ Accepted ⌝ }
-    ensures { λ v. ⌜ (v, now (t .exit)) ≡ advanceOf (now (t .entry)) c ⌝ }
+    ensures { λ v. ⌜ (v, now (t .exit)) ≡ advanceOutcome (now (t .entry)) c ⌝ }
 {
     let judged = judge_advance(*t, c);
     match route(judged) {

@@ -13,7 +13,7 @@ ghost use Rattle.identity.specs.declared.answer.Answer.the-variants.{Accepted, 
 ghost use Rattle.records.specs.Equality.{eqBytes};
 ghost use Rattle.records.specs.Successor.{firstRefusal};
 ghost use Rattle.records.specs.Validation.{validate};
-ghost use Rattle.control.specs.BeginJudge.{beginOf, preparedAt, receiptLeft, slotFrom};
+ghost use Rattle.control.specs.BeginJudge.{beginOutcome, preparedAt, receiptLeft, slotFrom};
 ghost use Rattle.control.specs.Control.{begun, begunSlots, candidateCheck, currentConfiguration, full, fullCheck, isKnown, knownDigest, namedIndex, openCheck, staleCheck};
 ghost use Rattle.control.specs.Judgement.Verdict.{refused};
 ghost use Rattle.control.specs.Judgement.{beginTest, judgeBegin};
@@ -343,7 +343,7 @@ fn prepared_at(cut: VoterSlotLogId) -> VoterReplacementEvidence
 // representable (`checkedOf` accepted); then the answer is `applyControl`'s (`valid-begin`).
 pub fn begin(t: VoterSlotTable, b: VoterBegin) -> Controlled
     requires { ⌜ validate t ≡ Accepted ⌝ }
-    ensures { λ r. ⌜ (r .answer, r .table) ≡ beginOf t b ⌝ }
+    ensures { λ r. ⌜ (r .answer, r .table) ≡ beginOutcome t b ⌝ }
 {
     let judged = judge_begin(t, b);
     let answer = answer_of(judged);
@@ -357,7 +357,7 @@ pub fn begin(t: VoterSlotTable, b: VoterBegin) -> Controlled
 // `begin` on a table that is lent: the caller has made the same tests.
 pub fn begin_in_place(t: &mut VoterSlotTable, b: VoterBegin) -> Answer
     requires { ⌜ validate (now t) ≡ Accepted ⌝ }
-    ensures { λ v. ⌜ (v, now (t .exit)) ≡ beginOf (now (t .entry)) b ⌝ }
+    ensures { λ v. ⌜ (v, now (t .exit)) ≡ beginOutcome (now (t .entry)) b ⌝ }
 {
     let judged = judge_begin(*t, b);
     match route(judged) {

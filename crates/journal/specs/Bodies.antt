@@ -55,8 +55,8 @@ abbrev pub advanceBy : MarkerBody → VoterReplacementStep → VoterAdvance
 advanceBy named step = record { «request_id» = named .«request_id»; «request_digest» = named .«request_digest»; step = step; cut = named .cut }
 
 -- a Begin from its parts
-abbrev pub begun : BeginHead → LostVoterAttestationV1 → (digest configuration : List ℕ) → VoterBegin
-begun head attestation digest configuration =
+abbrev pub beginBy : BeginHead → LostVoterAttestationV1 → (digest configuration : List ℕ) → VoterBegin
+beginBy head attestation digest configuration =
     record {
       request = record {
         «expected_revision» = head .«expected_revision»;

@@ -39,7 +39,7 @@ use Rattle.control.specs.declared.control.VoterReplacementStep.{VoterReplacemen
 use Rattle.journal.specs.declared.bodies.BeginHead.{BeginHead}
 use Rattle.journal.specs.declared.bodies.MarkerBody.{MarkerBody}
 use Rattle.journal.specs.declared.replay.Mark.the-variants.{Ad, Bg}
-use Rattle.journal.specs.Bodies.{isWhole, partless, advanceBy, begun, suppliedBody, attestedAsking}
+use Rattle.journal.specs.Bodies.{isWhole, partless, advanceBy, beginBy, suppliedBody, attestedAsking}
 use Rattle.journal.specs.Records.{sizedBytes, markerBody, noSnapshotPart, snapshotPart, stepBody, advanceBody, beginHead, BeginBody, beginBody}
 use Rattle.journal.specs.RefusalLaws.{number, attestation-refused}
 use Rattle.journal.specs.Replay.{Asked, Asking, asking, formed, attested, snapshotIdOf, snapshotOf, stepOf, advanceOf, advanceControl, advanceAsked, beginControl, beginOf, beginAsked}
@@ -328,10 +328,10 @@ module _ (head : BeginHead) (bs supplied : List ℕ) (answer : Answer) (v : Lost
   asks-by-number (ok a n) e f never = ap (λ p. asks (next (p .1))) e
   asks-by-number (no k) e f never = absurd (never (ap no (sym (ap (λ p. p .0) e) ∙ eqb-true (numberOf answer) 0 f)))
 
-  pub attested-asks : {b : VoterBegin} {digest configuration : List ℕ} → b ≡ begun head v digest configuration → digest ≡ take 32 supplied → configuration ≡ take 32 (drop 32 supplied)
+  pub attested-asks : {b : VoterBegin} {digest configuration : List ℕ} → b ≡ beginBy head v digest configuration → digest ≡ take 32 supplied → configuration ≡ take 32 (drop 32 supplied)
       → Answers (decodeLostVoterAttestation bs) → isAccepted answer ≡ true → asks (command (beginControl (b .request)) (b .cut)) ≡ attestedAsking (suppliedBody head bs supplied)
   unfolding beginAsked beginOf
   attested-asks p q r e f =
       ap (λ b. asks (command (beginControl (b .request)) (b .cut))) p
-      ∙ ap₂ (λ digest configuration. asks (command (beginControl (begun head v digest configuration .request)) (head .cut))) q r
+      ∙ ap₂ (λ digest configuration. asks (command (beginControl (beginBy head v digest configuration .request)) (head .cut))) q r
       ∙ asks-by-number (decodeLostVoterAttestation bs) e f (attestation-refused bs)

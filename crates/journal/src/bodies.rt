@@ -16,7 +16,7 @@ ghost use Rattle.records.specs.Blank.{blankSnapshotId, blankVoterSlotMember, bl
 ghost use Rattle.control.specs.Blank.{blankConsensusIdentity, blankVoterReplacementStep};
 ghost use Rattle.control.specs.Control.{finalizeKind, recordCaughtUpKind, recordSnapshotKind};
 ghost use Rattle.journal.specs.declared.replay.Mark.the-variants.{Ad, Bg, Mk};
-ghost use Rattle.journal.specs.Bodies.{advanceAsking, advanceBy, attestedAsking, beginAsking, begun, blankBeginHead, blankMarkerBody, isWhole, markerAsking, partless, suppliedBody};
+ghost use Rattle.journal.specs.Bodies.{advanceAsking, advanceBy, attestedAsking, beginAsking, beginBy, blankBeginHead, blankMarkerBody, isWhole, markerAsking, partless, suppliedBody};
 ghost use Rattle.journal.specs.Records.{anyIdentity, beginHead, candidate, expected, markerBody, sizedBytes, snapshotPart, stepBody};
 ghost use Rattle.journal.specs.Replay.{asking, snapshotIdOf, snapshotOf, stepOf};
 use codec::codec::decode_lost_voter_attestation;
@@ -592,7 +592,7 @@ fn begin_of(
     supplied_request_digest: [u8; 32],
     supplied_configuration_id: ConsensusConfigurationId,
 ) -> VoterBegin
-    ensures { λ r. ⌜ r ≡ begun head attestation «supplied_request_digest» «supplied_configuration_id» ⌝ }
+    ensures { λ r. ⌜ r ≡ beginBy head attestation «supplied_request_digest» «supplied_configuration_id» ⌝ }
 {
     let cut = head.cut;
     let expected_configuration = head.expected_configuration;

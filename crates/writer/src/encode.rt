@@ -52,6 +52,9 @@ const SIGNATURE_SIZE: usize = 64;
 // Term and index.
 const LOG_ID_SIZE: usize = U64_SIZE + U64_SIZE;
 
+// A cut that may be absent, where it is present.
+const PRESENT_CUT_SIZE: usize = FLAG_SIZE + LOG_ID_SIZE;
+
 // Slot, incarnation, two digests and the admission generation.
 const MEMBER_SIZE: usize = U16_SIZE + U64_SIZE + 2 * DIGEST_SIZE + U64_SIZE;
 
@@ -60,6 +63,8 @@ const RESULT_SIZE: usize = REQUEST_ID_SIZE + DIGEST_SIZE + 3 * U64_SIZE + U8_SIZ
 
 // Member, retired_through, phase and the flag of the result.
 const SLOT_SIZE: usize = MEMBER_SIZE + U64_SIZE + U8_SIZE + FLAG_SIZE;
+
+const FULL_SLOT_SIZE: usize = SLOT_SIZE + RESULT_SIZE;
 
 // Epoch and count.
 const CONFIGURATION_SIZE: usize = U64_SIZE + U8_SIZE;
@@ -81,6 +86,8 @@ const EVIDENCE_SIZE: usize = LOG_ID_SIZE + FLAG_SIZE;
 
 // Cut, length of the id and digest.
 const SNAPSHOT_SIZE: usize = LOG_ID_SIZE + U16_SIZE + DIGEST_SIZE;
+
+const FULL_EVIDENCE_SIZE: usize = EVIDENCE_SIZE + SNAPSHOT_SIZE;
 
 // Expected revision, size of the attestation and phase.
 const REPLACEMENT_SIZE: usize = U64_SIZE + U16_SIZE + U8_SIZE;
@@ -494,7 +501,7 @@ fn slots_size(places: [VoterSlotRecord; MAX_FIXED_VOTER_SLOTS], count: usize) ->
     let mut i = 0;
     while i < count {
         size += if places[i].has_last_result {
-            SLOT_SIZE + RESULT_SIZE
+            FULL_SLOT_SIZE
         } else {
             SLOT_SIZE
         };
@@ -507,17 +514,17 @@ fn three_cuts_size(cuts: ThreeCuts) -> usize
     ensures { λ r. ⌜ r ≡ length (threeCuts .enc cuts) ⌝ }
 {
     let first = if cuts.first.is_some {
-        FLAG_SIZE + LOG_ID_SIZE
+        PRESENT_CUT_SIZE
     } else {
         FLAG_SIZE
     };
     let second = if cuts.second.is_some {
-        FLAG_SIZE + LOG_ID_SIZE
+        PRESENT_CUT_SIZE
     } else {
         FLAG_SIZE
     };
     let third = if cuts.third.is_some {
-        FLAG_SIZE + LOG_ID_SIZE
+        PRESENT_CUT_SIZE
     } else {
         FLAG_SIZE
     };
@@ -539,7 +546,7 @@ fn evidence_size(e: VoterReplacementEvidence) -> usize
     let late = late_cuts(e);
     let cuts = three_cuts_size(early) + three_cuts_size(late);
     if e.has_snapshot {
-        return EVIDENCE_SIZE + SNAPSHOT_SIZE + e.snapshot.snapshot_id.len + cuts;
+        return FULL_EVIDENCE_SIZE + e.snapshot.snapshot_id.len + cuts;
     }
     EVIDENCE_SIZE + cuts
 }
