@@ -138,7 +138,7 @@ def cut_text(cut):
 
 
 def node_text(node):
-    """A node as slot/incarnation; as a number where it is none."""
+    """A node as slot/incarnation; as a number where it is invalid."""
     slot = node % 65536
     return f'{slot}/{node // 65536 + 1}' if 0 < slot and node < 2 ** 63 else str(node)
 

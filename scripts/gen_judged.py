@@ -1,7 +1,7 @@
 # python3 scripts/gen_judged.py N K CRATE FIRST > crates/CRATE/proofs/JudgedN.antt (scripts/thin.py runs it for each): the law of
 #   let v = judged(*t, ..); match route(v) { 1 => { *t = made1(*t, p); } .. N => { *t = madeN(*t, p); } _ => {} } answer_of(v)
-# where the numbers start at FIRST, with K parameters after the table. judged is handed all of them, and may be lent slices; the makers are handed the last, p, which is plain; route is handed the verdict, and gives a u64;
-# answer_of is handed the verdict
+# where the numbers start at FIRST, with K parameters after the table. judged takes all of them, and may borrow slices; the makers take the last, p, which is plain; route takes the verdict, and gives a u64;
+# answer_of takes the verdict
 import sys
 N=int(sys.argv[1]); k=int(sys.argv[2]); crate=sys.argv[3]
 first=int(sys.argv[4])
@@ -36,7 +36,7 @@ def frees(off,roomy):
     return s+"\n      "+" ".join(f"move ! ({off+pos(i)} ∷ {off+1+pos(i)} ∷ []) $ free1 ! $" for i in range(nl))+" free0 ! $"
 none_of="Unit {0}"
 for j in J: none_of=f"({none_of}) × (y ≡ {key(j)} → ⊥)"
-out=f"""-- The law of a thin call that goes by a number: `let v = judged(*t, ..); match route(v) {{ {first} => {{ *t = made1(*t, ..); }} .. _ => {{}} }} answer_of(v)`, with {N} table{'s' if N!=1 else ''} to be made and {k} further parameter{'s, of which the makers are handed the last' if k!=1 else ''}. Written by scripts/gen_judged.py.
+out=f"""-- The law of a thin call that goes by a number: `let v = judged(*t, ..); match route(v) {{ {first} => {{ *t = made1(*t, ..); }} .. _ => {{}} }} answer_of(v)`, with {N} table{'s' if N!=1 else ''} to be made and {k} further parameter{'s, of which the makers take the last' if k!=1 else ''}. Written by scripts/gen_judged.py.
 -- It holds for any table, any answer, any parameters and any cores: the types, the machine values and the contracts are variables.
 -- Assumes `Given`.
 use mathlib.Core.Path.{{_≡_, refl, ap, sym, subst}}

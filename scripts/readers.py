@@ -80,7 +80,7 @@ class Skeleton:
         print("wrote", self.name)
 
 
-# What a field is read by: call, codec, type of the value, the definition of its answer (None: it stands beside a value), the refusal's
+# What a field is read by: call, codec, type of the value, the definition of its answer (None: it comes with a value), the refusal's
 ENUM = {
     "u64": ("read_u64", "uint 8", "ℕ", "u64Read", "U64"),
     "u16": ("read_u16", "uint 2", "ℕ", "u16Read", "U16"),
@@ -276,7 +276,7 @@ class Reader:
         return t
 
     def dist(self, i, k):
-        """Steps from the place behind field k back to that behind field i."""
+        """Steps from the place after field k back to that after field i."""
         return sum(self.costs[i + 1:k + 1])
 
     def value(self, i, k, more=0):
@@ -332,7 +332,7 @@ class Reader:
         return STRUCT[self.kind(i)][3]
 
     def field_got(self, k):
-        """What field k read, at the place behind it."""
+        """What field k read, at the place after it."""
         d = 3 if self.kind(k) in ENUM else 4
         ens = f"{back(d)} .{self.calls[k][0]} .ensures"
         s = self.bytes(k)
@@ -433,19 +433,19 @@ def write(r):
 
 
 def part_names(base, r, k):
-    """The needs of the slice that call k is handed: they are numbered by the parts of that name."""
+    """The needs of the slice that call k takes: they are numbered by the parts of that name."""
     earlier = sum(1 for i in range(1, k) if r.call(i) == r.call(k))
     x = "" if earlier == 0 else f"-{earlier + 1}"
     return f"sub-{base}{x}", f"part-{base}-start{x}"
 
 
 def lasts(s, add, r):
-    """Whether the last sum stands behind the constructor's call."""
+    """Whether the last sum comes after the constructor's call."""
     return extra(r) + (1 if r.made and s.before(f"{kebab(r.made)}-requires", add) else 0)
 
 
 def extra(r):
-    """Steps behind the last field: `let member = head.member;` in a slot's reader."""
+    """Steps after the last field: `let member = head.member;` in a slot's reader."""
     return 1 if r.name == "read_slot" else 0
 
 
@@ -512,7 +512,7 @@ LAST_SUM = "the last sum"
 
 
 def optional(name, codec, absent, blank, call, make):
-    """A flag, and behind a yes the part."""
+    """A flag, and after a yes the part."""
     whole = f"opt {codec} {blank}"
     s12 = f"{back(12)} .args .bytes .now"
     src = f"({back(4)} .{call} .ensures ∙ ap (λ l. outcome {blank} ({codec} .dec l)) (rest ({s12}) _))"
@@ -568,14 +568,14 @@ Inv-loop bytes count value₀ at₀ i₀ value at i =
 abbrev μ-loop : tie.MeasureT-loop
 μ-loop bytes count value₀ at₀ i₀ value at i = count - i
 
--- one more was read, behind those before it
+-- one more was read, after those before it
 one-more : (c : tie.After-to Inv-loop μ-loop) → {element} .dec (drop ({back(5)} .loop .at) ({back(8)} .args .bytes .now)) ≡ ok ({back(2)} .{call} .result .value) (c .to .given .0 .0)
 one-more c = told {blank} _ ({back(2)} .{call} .ensures ∙ ap (λ l. outcome {blank} ({element} .dec l)) (rest ({back(8)} .args .bytes .now) ({back(5)} .loop .at))) (c .to .given .1)
 
--- behind those that were read stand blanks
-blanks-behind : (i : ℕ) → drop i {blanks} ≡ replicate (9 - i) {blank}
+-- after those that were read there are blanks
+blanks-after : (i : ℕ) → drop i {blanks} ≡ replicate (9 - i) {blank}
 unfolding {blanks}
-blanks-behind i = drop-replicate i 9 {blank}
+blanks-after i = drop-replicate i 9 {blank}
 
 """
     refill("decode", f"read_{name}", [
@@ -612,7 +612,7 @@ blanks-behind i = drop-replicate i 9 {blank}
     let e : l .i ≡ a .count = omega arith in
     let v : l .value ≡ take (l .i) (l .value) ++ replicate (9 - a .count) {blank}
         = sym (take-append-drop (l .i) (l .value))
-            ∙ ap (λ t. take (l .i) (l .value) ++ t) (l .inv .2 ∙ ap (drop (l .i)) ({back(2)} .{make} .ensures) ∙ blanks-behind (l .i))
+            ∙ ap (λ t. take (l .i) (l .value) ++ t) (l .inv .2 ∙ ap (drop (l .i)) ({back(2)} .{make} .ensures) ∙ blanks-after (l .i))
             ∙ ap (λ n. take (l .i) (l .value) ++ replicate (9 - n) {blank}) e in
     outcome-ok {blanks}
     (padded-ok _ _ _ _ _ _ (subst (λ n. vec {element} {blank} n .dec (a .bytes .now) ≡ ok (take (l .i) (l .value)) (l .at)) e (l .inv .1)) ∙ ap (λ x. ok x (l .at)) (sym v))""", name),

@@ -1,5 +1,5 @@
 #!/usr/bin/env python3
-"""Writes what each struct of crates/records/src/records.rt has beside it: equality, a blank, a test for it, and what its values hold.
+"""Writes what each struct of crates/records/src/records.rt needs: equality, a blank, a test for it, and what its values hold.
 
 Run it from the root of the repository, after a change to a struct:
 
@@ -23,6 +23,7 @@ CRATE = 'crates/records'
 BY = 'Written by scripts/records.py.'
 # how many places an array of structs has
 PLACES = 9
+PLACES_NAME = 'MAX_FIXED_VOTER_SLOTS'
 WIDTHS = {'u8': 8, 'u16': 16, 'u32': 32, 'u64': 64, 'usize': 64}
 
 
@@ -43,7 +44,9 @@ def structs_of(text):
 
 
 below = read('crates/identity/src/identity.rt')
+lengths = read('crates/identity/src/text.rt')
 here = read(CRATE + '/src/records.rt')
+CONSTANTS = dict(re.findall(r'^pub const (\w+): usize = (\d+);$', lengths + here, re.M))
 ALIASES = dict(re.findall(r'^pub type (\w+) = (.+);$', below, re.M))
 USED = re.findall(r'^use identity::identity::(\w+);$', here, re.M)
 FROM_BELOW = [s for s in structs_of(below) if s[0] in USED]
@@ -58,14 +61,15 @@ class Field:
     def __init__(self, name, written, declared):
         written = ALIASES.get(written, written)
         self.name = name
-        array = re.fullmatch(r'\[(\w+); (\d+)\]', written)
+        array = re.fullmatch(r'\[(\w+); (\w+)\]', written)
+        size = int(CONSTANTS.get(array.group(2), array.group(2))) if array else 0
         if written in WIDTHS:
             self.kind, self.bits = 'number', WIDTHS[written]
         elif written == 'bool':
             self.kind = 'bool'
         elif array and array.group(1) == 'u8':
-            self.kind, self.size = 'bytes', int(array.group(2))
-        elif array and array.group(1) in declared and int(array.group(2)) == PLACES:
+            self.kind, self.size = 'bytes', size
+        elif array and array.group(1) in declared and size == PLACES:
             self.kind, self.struct = 'nine', array.group(1)
         elif written in declared:
             self.kind, self.struct = 'struct', written
@@ -113,7 +117,7 @@ def use_declared(name):
 
 
 def use_rattle(names):
-    return ''.join('use %s::%s;\n' % ('identity::identity' if HOME[n] == 'identity' else 'crate::records', n) for n in names)
+    return 'use crate::records::%s;\n' % PLACES_NAME + ''.join('use %s::%s;\n' % ('identity::identity' if HOME[n] == 'identity' else 'crate::records', n) for n in names)
 
 
 DECLARED = ''.join(use_declared(name) for name in NAMES)
@@ -275,11 +279,11 @@ beq-refl : (a : Bool) → Bool·beq a a ≡ true
 beq-refl true = refl
 beq-refl false = refl
 
-abbrev Each : List Bool → Type 0
-Each [] = Unit {0}
-Each (p ∷ ps) = (p ≡ true) × Each ps
+abbrev EachTrue : List Bool → Type 0
+EachTrue [] = Unit {0}
+EachTrue (p ∷ ps) = (p ≡ true) × EachTrue ps
 
-all-each : (ps : List Bool) → allTrue ps ≡ true → Each ps
+all-each : (ps : List Bool) → allTrue ps ≡ true → EachTrue ps
 unfolding allTrue
 all-each [] h = tt
 all-each (p ∷ []) h = (h, tt)
@@ -449,7 +453,7 @@ pub fn same_{0}s(a: [{1}; {2}], b: [{1}; {2}]) -> bool
     }}
     same
 }}
-'''.format(snake(name), name, PLACES))
+'''.format(snake(name), name, PLACES_NAME))
     write('src/equality.rt', *parts)
 
 
@@ -643,7 +647,7 @@ def blank_code_value(field):
         'number': lambda: '0',
         'bool': lambda: 'false',
         'bytes': lambda: '[0; %d]' % field.size,
-        'nine': lambda: '[%s; %d]' % (snake(field.struct), PLACES),
+        'nine': lambda: '[%s; %s]' % (snake(field.struct), PLACES_NAME),
         'struct': lambda: snake(field.struct),
     }[field.kind]()
 
@@ -756,19 +760,19 @@ pub fn is_blank_{0}(x: {1}) -> bool
         if name in PART_NINES:
             parts.append('''
 // The nine places of a configuration, whatever its count.
-pub fn is_blank_{0}s(x: [{1}; {2}]) -> bool
+pub fn is_blank_{0}s(x: [{1}; {3}]) -> bool
     ensures {{ λ r. ⌜ r ≡ eqList same{1} x (replicate {2} blank{1}) ⌝ }}
 {{
     let mut all = true;
     let mut i: usize = 0;
-    while i < {2} {{
+    while i < {3} {{
         let place = x[i];
         all = all & is_blank_{0}(place);
         i += 1;
     }}
     all
 }}
-'''.format(snake(name), name, PLACES))
+'''.format(snake(name), name, PLACES, PLACES_NAME))
     write('src/zero.rt', *parts)
 
 

@@ -47,6 +47,7 @@ OBSERVED = {
     'unfolding': 'added',
     'stays': 'routed-none (added h p) h',
     'judging': 'observe',
+    'routing': ('observe.route_of_observed', 'observe.answer_of_observed'),
     'Judged': 'Observed',
     'Move': 'Addition',
     'verdictOf': 'verdictOfObserved',
@@ -60,6 +61,7 @@ SHARED = {
     'of': 'Rattle.control.specs',
     'proofs': 'Rattle.control.proofs',
     'judging': 'judge',
+    'routing': ('judge.route', 'judge.answer_of'),
     'Judged': 'Judged',
     'Move': 'Move',
     'verdictOf': 'verdictOf',
@@ -75,12 +77,12 @@ CALLS = {
         'param': 'VoterAdvance',
         'judge': 'judge.judge_advance',
         'verdict': 'judgeOf h p',
-        'outcome': 'advanceOf h p',
+        'outcome': 'advanceOutcome h p',
         'making': 'stepMade h (p .step) (p .cut)',
         'unfolding': 'stepMade',
         'stays': 'routed-none h (p .step) (p .cut)',
         'uses': ['use Rattle.control.specs.Control.{caughtUpRecorded, continued, fencedAt, finalized, full, snapshotRecorded, targetIndex}',
-                 'use Rattle.control.specs.Verdicts.{advanceOf, answerOf, judgeOf, routeOf, stepMade, verdictOf}',
+                 'use Rattle.control.specs.Verdicts.{advanceOutcome, answerOf, judgeOf, routeOf, stepMade, verdictOf}',
                  'use Rattle.control.specs.VerdictLaws.{routed-to, routed-none, room-as, target-as}'],
         'makers': steps(['make.' + n for n in ('snapshot_table', 'catch_up_table', 'continue_table', 'fence_table', 'finalize_table')], '{told}', 'p', 'p .step', 'p .cut'),
     },
@@ -90,12 +92,12 @@ CALLS = {
         'first': 6,
         'judge': 'begin.judge_begin',
         'verdict': 'judgeBegin h (p .request) (p .cut)',
-        'outcome': 'beginOf h p',
+        'outcome': 'beginOutcome h p',
         'making': 'beginMade h p',
         'unfolding': 'beginMade',
         'stays': 'begin-kept h p',
         'uses': ['use Rattle.control.specs.Judgement.{judgeBegin}',
-                 'use Rattle.control.specs.BeginJudge.{beginMade, beginOf}',
+                 'use Rattle.control.specs.BeginJudge.{beginMade, beginOutcome}',
                  'use Rattle.control.specs.BeginVerdictLaws.{begin-kept, begin-room}',
                  'use Rattle.control.specs.Control.{begun, currentConfiguration, full, namedIndex}',
                  'use Rattle.control.specs.Verdicts.{answerOf, routeOf, verdictOf}',
@@ -503,7 +505,7 @@ def written(name):
     call = CALLS[name]
     elements = call.get('slices', [])
     call = dict(SHARED, **call) if not elements else dict(OBSERVED, **call)
-    judging = call['judging']
+    route, answers = call['routing']
     makers = [dict(zip(('tag', 'path', 'ctor', 'table', 'requires', 'shows'), m), Tag=m[0].capitalize(), param=call['param']) for m in call['makers']]
     n = len(makers)
     none = 'Unit {0}'
@@ -522,8 +524,8 @@ def written(name):
         uses='\n'.join(call['uses']), ctors=', '.join(m['ctor'] for m in makers), mets=' '.join('met-' + m['tag'] for m in makers),
         psis=' '.join('(λ n. n ≡ %s)' % m['table'] for m in makers), pres=' '.join('({Tag} 𝓤 H A at-mem run .pre to-{tag})'.format(**m) for m in makers),
         posts=' '.join('({Tag} 𝓤 H A at-mem run .post to-{tag})'.format(**m) for m in makers), names=' '.join('#' + m['tag'] for m in makers),
-        cores='\n'.join([core('judges', call['judge']), core('test', judging + '.route'), core('answer', judging + '.answer_of')] + [core(m['tag'], m['path']) for m in makers]),
-        cites='\n'.join([cite('Judge', 'judge', 'judges', call['judge']), cite('Test', 'test', 'test', judging + '.route'), cite('Answers', 'answer', 'answer', judging + '.answer_of')]
+        cores='\n'.join([core('judges', call['judge']), core('test', route), core('answer', answers)] + [core(m['tag'], m['path']) for m in makers]),
+        cites='\n'.join([cite('Judge', 'judge', 'judges', call['judge']), cite('Test', 'test', 'test', route), cite('Answers', 'answer', 'answer', answers)]
                         + [cite(m['Tag'], m['tag'], m['tag'], m['path']) for m in makers]))
     values.update(lent(elements))
     values.setdefault('home', 'begin' if call['param'] == 'VoterBegin' else 'control')

@@ -233,7 +233,7 @@ def chain(f):
             body += f'unfolding {f.shut}\nroom{k} c = {start}\n\n'
         else:
             body += f'room{k} c = room-left {whole(k, "c")} ({said(f.puts[k], "c")}) _ _ (room{k + 1} c)\n\n'
-    body += '-- where the function began, from behind each put\n'
+    body += '-- where the function began, from after each put\n'
     for k, (mark, _) in enumerate(marks, 1):
         to_last = back(reached[k - 1] - reached[k - 2]) if k > 1 else back(reached[0] + 1)
         body += f'abbrev start{k} : tie.After-{mark} → tie.Start\nstart{k} c = ' + (f'start{k - 1} ({to_last})' if k > 1 else to_last) + '\n\n'
@@ -267,7 +267,7 @@ def chain(f):
     if f.same:
         done = f'put-is (sym ({f.same} (start{n} (c .before .before) .args .{f.arg}))) ({done})'
     body += f'returns : tie.Need-returns\nunfolding {f.shut}\nreturns c = {done}\n\n'
-    written(f.name, 'one put behind the other', f.record, body, needs + ['same-length', 'returns'])
+    written(f.name, 'one put after the other', f.record, body, needs + ['same-length', 'returns'])
 
 
 def put_step(put):
@@ -275,7 +275,7 @@ def put_step(put):
     return 0 if put.call == 'put_be' else 1
 
 
-# ---- an optional part: the flag, and behind a yes the value
+# ---- an optional part: the flag, and after a yes the value
 
 class Optional:
     """The flag and the value, of the arguments; steps: a value that is copied out first; shut: what to unfold to see `opt`."""
@@ -313,7 +313,7 @@ def optional(f):
     has = f'room _ ({back(4 + f.steps)} .put-flag .ensures) (room2 ({back(1 + f.steps)}))'
     if f.also:
         has = f'({has}, start1 ({back(1 + f.steps)}) {f.also})'
-    body = f"""-- where the function began, from behind a yes, a no and the value
+    body = f"""-- where the function began, from after a yes, a no and the value
 abbrev start1 : tie.Then1 → tie.Start
 start1 c = {back(6)}
 
@@ -323,7 +323,7 @@ start0 c = {back(6)}
 abbrev start2 : tie.After-{mark} → tie.Start
 start2 c = start1 ({back(2 + f.steps)})
 
--- there is room for the flag, and behind a yes for the value
+-- there is room for the flag, and after a yes for the value
 room1 : (c : tie.Start) → c .args .at + length (flag .enc {b}) ≤ length (c .args .buffer .now)
 {unfolding}room1 c = room-left (flag .enc {b}) (either {b} {f.codec} (always {f.blank}) .enc {x}) _ _ (room-is _ _ ({law('opt-flag', s)}) (c {f.pre}))
 
@@ -352,11 +352,11 @@ returns-2 : tie.Need-returns-2
 {unfolding}returns-2 c = put-is (sym ({law('opt-none', e, 'c .if1 .left')})) (c .before .before .before .put-flag .ensures)
 
 """
-    written(f.name, 'the flag, and behind a yes the value', None, body,
+    written(f.name, 'the flag, and after a yes the value', None, body,
             ['put-flag-requires', f'{mark}-requires', 'same-length', 'returns', 'same-length-2', 'returns-2'])
 
 
-# ---- the places in use, one behind the other
+# ---- the places in use, one after the other
 
 LOOPS = [
     ('put_members', 'put_member', 'VoterSlotMember', 'member', 'blankVoterSlotMember', 'noMember', 'members-firsts'),

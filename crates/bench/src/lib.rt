@@ -5,7 +5,7 @@ ghost use Rattle.identity.specs.Text.{isUtf8, isName, isSnapshotId};
 use codec::codec::encode_voter_slot_table;
 use identity::answer::Answer;
 use identity::answer::number;
-use layout::reading::Reading;
+use layout::reading::Extent;
 use raw::table::table_of;
 use records::records::VoterSlotTable;
 use records::representable::is_representable;
@@ -125,10 +125,10 @@ fn number_of(answer: Answer) -> u64 {
     number(answer) as u64
 }
 
-fn refusal_of(written: Reading) -> u64 {
+fn refusal_of(written: Extent) -> u64 {
     match written {
-        Reading::To(_) => 0,
-        Reading::Refused(answer) => number_of(answer),
+        Extent::To(_) => 0,
+        Extent::Refused(answer) => number_of(answer),
     }
 }
 

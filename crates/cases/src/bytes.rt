@@ -7,7 +7,7 @@ use codec::codec::encode_voter_slot_table;
 use codec::codec::restart;
 use identity::answer::Answer;
 use identity::answer::accepted;
-use layout::reading::Reading;
+use layout::reading::Extent;
 use layout::reading::why;
 use raw::crc::crc32;
 use raw::number::be32;
@@ -33,7 +33,7 @@ pub fn read_table(body: &[u8]) -> Reply {
     let table = decoded.table;
     let mut buffer = [0u8; 8072];
     let written = encode_voter_slot_table(&mut buffer, table);
-    let Reading::To(count) = written else {
+    let Extent::To(count) = written else {
         return Reply::Malformed;
     };
     let checksum = checksum_of_front(&buffer, count);
@@ -98,17 +98,17 @@ pub fn write_table(body: &[u8]) -> Reply {
 fn written(table: VoterSlotTable, length: usize) -> Reply {
     let mut buffer = [0u8; 70000];
     let written = encode_to_front(&mut buffer, length, table);
-    let Reading::To(count) = written else {
+    let Extent::To(count) = written else {
         return Reply::Triple(number(why(written)), 0, 0);
     };
     Reply::Triple(0, count as u64, checksum_of_front(&buffer, count))
 }
 
 // Writes to the first n bytes of the buffer.
-fn encode_to_front(buffer: &mut [u8], n: usize, table: VoterSlotTable) -> Reading {
+fn encode_to_front(buffer: &mut [u8], n: usize, table: VoterSlotTable) -> Extent {
     if n <= buffer.len() {
         encode_voter_slot_table(&mut buffer[..n], table)
     } else {
-        Reading::Refused(Answer::BufferTooShort)
+        Extent::Refused(Answer::BufferTooShort)
     }
 }

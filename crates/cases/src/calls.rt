@@ -124,7 +124,7 @@ fn begin(body: &[u8], table: VoterSlotTable) -> Reply {
     apply(table, begin_of(body, attestation), cut_of(body))
 }
 
-// Reads the attestation that a Begin carries, up to end. The whole body is none.
+// Reads the attestation that a Begin carries, up to end. The whole body is never one.
 fn decode_part(body: &[u8], end: usize) -> DecodedAttestation {
     if body.len() < end {
         return decode_lost_voter_attestation(body);

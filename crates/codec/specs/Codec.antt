@@ -41,13 +41,13 @@ tableBytes t = table .enc t
 -- ---- what the calls answer and leave
 
 -- `encode_voter_slot_table` into a lent buffer: 30, validity's number, then 32 for a buffer that is too short; else what the buffer holds
--- afterwards, the bytes from its start and behind them what stood there, and the count.
+-- afterwards, the bytes from its start and after them what was there before, and the count.
 unfoldable pub encodeVoterSlotTable : VoterSlotTable → List ℕ → Res (List ℕ)
 encodeVoterSlotTable t buffer =
     andThen (gate (numberOf (validate t)) (tableBytes t) (length (tableBytes t)))
     (λ bs n. pick (leb n (length buffer)) (ok (bs ++ drop n buffer) n) (no 32))
 
--- document 01's number of a reading, and the value, or the blank beside a refusal
+-- document 01's number of a reading, and the value, or the blank with a refusal
 unfoldable pub decoded : {A : Type 0} → A → Res A → ℕ × A
 decoded blank (ok a n) = (0, a)
 decoded blank (no k) = (k, blank)

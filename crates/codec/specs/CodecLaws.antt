@@ -43,7 +43,7 @@ bytes-bounds t h v =
     let l = table-long t h f in
     (omega arith, omega arith)
 
--- Reading a written valid table returns it.
+-- Extent a written valid table returns it.
 pub written-read : (t : VoterSlotTable) → HeldVoterSlotTable t → validate t ≡ Accepted → decodeVoterSlotTable (tableBytes t) ≡ ok t (length (tableBytes t))
 unfolding decodeVoterSlotTable tableBytes bounded andThen gate pick
 written-read t h v =
@@ -91,7 +91,7 @@ pub read-written : (bs : List ℕ) {t : VoterSlotTable} {n : ℕ} → Bytes bs �
 unfolding tableBytes
 read-written bs z e = back-and-there table bs z (read-is bs e .0)
 
--- What was read is accepted: it passes the test for 30 and is valid.
+-- What was read is accepted: it passes the representability check and is valid.
 pub read-valid : (bs : List ℕ) {t : VoterSlotTable} {n : ℕ} → Bytes bs → decodeVoterSlotTable bs ≡ ok t n → validate t ≡ Accepted
 read-valid bs {t} {n} z e =
     let r = read-is bs e in
@@ -120,7 +120,7 @@ pub read-restarted : (bs : List ℕ) {t : VoterSlotTable} {n : ℕ} → Bytes bs
 unfolding restarted andThen
 read-restarted bs z e buffer l = rw (read-encoded bs z e buffer l) (ap decodeVoterSlotTable (take-at bs (drop (length bs) buffer) (length bs) refl) ∙ e)
 
--- The same of an attestation by itself: one that the types hold, that passes the test for 30 and is valid, is read back as it was written.
+-- The same of an attestation by itself: one that the types hold, that passes the representability check and is valid, is read back as it was written.
 pub attestation-written-read : (a : LostVoterAttestationV1) → HeldLostVoterAttestationV1 a → representableAttestation a ≡ true → validAttestation a ≡ true
     → decodeLostVoterAttestation (attestation .enc a) ≡ ok a (length (attestation .enc a))
 unfolding decodeLostVoterAttestation bounded pick

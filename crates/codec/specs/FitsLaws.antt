@@ -1,4 +1,4 @@
--- A table that passes the test for 30 has lengths and counts that fit their fields (`TableFits`), an absent part too, which is blank.
+-- A table that passes the representability check has lengths and counts that fit their fields (`TableFits`), an absent part too, which is blank.
 -- Each name here is a step of a proof; what is right is said in Representable and Parts.
 -- Assumes nothing.
 use Prim.Native.Nat.{ℕ, _≤_, zero-le}
@@ -78,7 +78,7 @@ blank-fits : ReplacementFits blankVoterReplacementRecord
 unfolding blankVoterReplacementRecord blankLostVoterAttestationV1 blankVoterConfiguration blankVoterReplacementEvidence blankSpiffeId blankVoterSnapshotEvidence blankSnapshotId
 blank-fits = record { candidate = zero-le; controller = zero-le; predecessor = zero-le; successor = zero-le; snapshot = zero-le }
 
--- A table that passes the test for 30 fits.
+-- A table that passes the representability check fits.
 pub table-fits : (t : VoterSlotTable) → representable t ≡ true → TableFits t
 table-fits t h =
     record {

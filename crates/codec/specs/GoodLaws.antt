@@ -1,4 +1,4 @@
--- The formats hold what the types hold, the test for 30 passes and validity accepts: `table .Good t`, format by format, leaves first.
+-- The formats hold what the types hold, the representability check passes and validity accepts: `table .Good t`, format by format, leaves first.
 -- Each name here is a step of a proof; what is right is said in Format, Representable and Validation.
 -- Assumes nothing.
 use Prim.Native.Nat.{ℕ, zero, suc, _+_, _-_, _^_, _≤_, _<_, zero-le}
@@ -82,16 +82,16 @@ module _ {A : Type 0} (C : Codec A) (blank a : A) (test same : Bool) (good : tes
   opt-good true h = (((lit< tt, refl), refl), good h)
   opt-good false h = (((lit< tt, refl), refl), sym (is h))
 
--- all behind the first n are the blank
-blanks-behind : {A : Type 0} (blank d : A) (l : List A) (n k : ℕ) → length l ≡ k → ((i : ℕ) → n ≤ i → i < k → getD l i d ≡ blank) → drop n l ≡ replicate (k - n) blank
-blanks-behind blank d l n k e h =
+-- all after the first n are the blank
+blanks-after : {A : Type 0} (blank d : A) (l : List A) (n k : ℕ) → length l ≡ k → ((i : ℕ) → n ≤ i → i < k → getD l i d ≡ blank) → drop n l ≡ replicate (k - n) blank
+blanks-after blank d l n k e h =
     ext-getD d (drop n l) (replicate (k - n) blank)
     (length-drop n l ∙ ap (λ m. m - n) e ∙ sym (length-replicate (k - n) blank))
     (λ i q.
     let b : i < k - n = omega (arith, length-drop n l) in
     getD-drop n l i d ∙ h (n + i) (omega arith) (omega arith) ∙ sym (getD-replicate (k - n) i blank d b))
 
--- nine places, of which the first n are in use: each in use passes its test, and each behind them is the blank
+-- nine places, of which the first n are in use: each in use passes its test, and each after them is the blank
 module _ {A : Type 0} (C : Codec A) (blank d : A) (P : A → Type 0) (test same : A → Bool) (good : (a : A) → P a → test a ≡ true → C .Good a) (is : (a : A) → same a ≡ true → a ≡ blank) where
   pub places-good : (l : List A) (n : ℕ) → n ≤ 9 → HeldArray P 9 l → allBelow (λ i. cond (leb n i) (same (getD l i d)) (test (getD l i d))) 9 ≡ true
       → padded (vec C blank n) n 9 blank (vec-long C blank n) .Good l
@@ -104,9 +104,9 @@ module _ {A : Type 0} (C : Codec A) (blank d : A) (P : A → Type 0) (test same 
       λ i q.
       subst (C .Good) (sym (getD-take n l i blank q ∙ getD-any l i blank d (omega arith)))
       (good (getD l i d) (all-at P d l i (omega arith) (h .each)) (sym (cond-false (leb n i) (same (getD l i d)) (test (getD l i d)) (lt-leb n i q)) ∙ place i (omega arith))) in
-      let behind : (i : ℕ) → n ≤ i → i < 9 → getD l i d ≡ blank =
+      let after : (i : ℕ) → n ≤ i → i < 9 → getD l i d ≡ blank =
       λ i q r. is (getD l i d) (sym (cond-true (leb n i) (same (getD l i d)) (test (getD l i d)) (le-leb n i q)) ∙ place i r) in
-      ((length-take-le n l (omega arith), used), ap (λ r. take n l ++ r) (sym (blanks-behind blank d l n 9 c behind)) ∙ take-append-drop n l)
+      ((length-take-le n l (omega arith), used), ap (λ r. take n l ++ r) (sym (blanks-after blank d l n 9 c after)) ∙ take-append-drop n l)
 
 -- ---- numbers and names
 
@@ -178,7 +178,7 @@ module _ (bound n : ℕ) (l : List ℕ) (small : bound < 256 ^ 2) (h : HeldBytes
       (eqBytes-zeros (drop n l) (bound - n) (length-drop n l ∙ ap (λ m. m - n) (h .count)) ∙ says (text-is bound n l) t .1 .1) in
       ap (λ r. take n l ++ r) (sym z) ∙ take-append-drop n l
 
--- a name: no longer than its place, UTF-8, zeros behind it
+-- a name: no longer than its place, UTF-8, zeros after it
 pub spiffeId-good : (s : SpiffeId) → HeldSpiffeId s → representableSpiffeId s ≡ true → spiffeId .Good s
 unfolding spiffeId via
 spiffeId-good s h r = (
@@ -214,7 +214,7 @@ member-good m h r =
     let s = says (member-is m) r in
     ((identity-good (m .identity) (h .identity) (s .0) (s .1), binding-good m h), refl)
 
--- members in the places of a configuration, blanks behind them
+-- members in the places of a configuration, blanks after them
 pub members-good : (c : VoterConfiguration) → HeldVoterConfiguration c → representableConfiguration c ≡ true → members (c .count) .Good (c .members)
 unfolding members
 members-good c h r =
@@ -285,7 +285,7 @@ slot-good s h r =
       refl,
     )
 
--- slots in the places of a table, blanks behind them
+-- slots in the places of a table, blanks after them
 pub slots-good : (t : VoterSlotTable) → HeldVoterSlotTable t → representable t ≡ true → slots (t .count) .Good (t .slots)
 unfolding slots
 slots-good t h r =
@@ -539,7 +539,7 @@ tableHead-good t h r = (
   refl,
 )
 
--- A table that the types hold, that passes the test for 30 and is valid, is one that the format holds.
+-- A table that the types hold, that passes the representability check and is valid, is one that the format holds.
 pub table-good : (t : VoterSlotTable) → HeldVoterSlotTable t → representable t ≡ true → validity t ≡ Accepted → table .Good t
 unfolding table via dep
 table-good t h r v =

@@ -1,4 +1,4 @@
--- What the formats hold passes the test for 30: so what was read can be written, format by format, leaves first.
+-- What the formats hold passes the representability check: so what was read can be written, format by format, leaves first.
 -- Each name here is a step of a proof; what is right is said in Format and Representable.
 -- Assumes nothing.
 use Prim.Native.Nat.{ℕ, _+_, _-_, _≤_, _<_}
@@ -56,7 +56,7 @@ module _ {A : Type 0} (C : Codec A) (blank a : A) (test : Bool) (same : A → Bo
   opt-tests true g = tests (g .1)
   opt-tests false g = ap same (sym (g .1)) ∙ is
 
--- nine places: each in use passes its test, and each behind them is the blank
+-- nine places: each in use passes its test, and each after them is the blank
 module _ {A : Type 0} (C : Codec A) (blank d : A) (test same : A → Bool) (tests : (a : A) → C .Good a → test a ≡ true) (is : same blank ≡ true) (l : List A) (n : ℕ) where
   module _ (g : padded (vec C blank n) n 9 blank (vec-long C blank n) .Good l) where
     long : length (take n l) ≡ n
@@ -74,8 +74,8 @@ module _ {A : Type 0} (C : Codec A) (blank d : A) (test same : A → Bool) (test
     reaches : length l ≡ n + (9 - n)
     reaches = ap length (sym whole) ∙ length-append (take n l) (replicate (9 - n) blank) ∙ (let e = long in let f = length-replicate (9 - n) blank in omega arith)
 
-    behind : (i : ℕ) → n ≤ i → i < 9 → getD l i d ≡ blank
-    behind i h k =
+    after : (i : ℕ) → n ≤ i → i < 9 → getD l i d ≡ blank
+    after i h k =
         let m = long in
         let e : i ≡ length (take n l) + (i - n) = omega arith in
         ap (λ r. getD r i d) (sym whole)
@@ -84,7 +84,7 @@ module _ {A : Type 0} (C : Codec A) (blank d : A) (test same : A → Bool) (test
         ∙ getD-replicate (9 - n) (i - n) blank d (omega arith)
 
     place : (i : ℕ) → i < 9 → (b : Bool) → leb n i ≡ b → cond b (same (getD l i d)) (test (getD l i d)) ≡ true
-    place i k true e = ap same (behind i (leb-true n i e) k) ∙ is
+    place i k true e = ap same (after i (leb-true n i e) k) ∙ is
     place i k false e =
         let q : i < n = leb-false n i e in
         subst (λ a. test a ≡ true) (getD-take n l i blank q ∙ getD-any l i blank d (omega (arith, reaches))) (tests (getD (take n l) i blank) (used i q))
@@ -171,7 +171,7 @@ member-tests : (m : VoterSlotMember) → member .Good m → representableMember 
 unfolding member via dep
 member-tests m g = passes (member-is m) (identity-tests (m .identity) (g .0 .0))
 
--- a configuration, with blanks behind its members
+-- a configuration, with blanks after its members
 configuration-tests : (c : VoterConfiguration) → configuration .Good c → representableConfiguration c ≡ true
 unfolding configuration via dep members
 configuration-tests c g =
@@ -279,7 +279,7 @@ replacement-tests r g =
 
 -- ---- a table
 
--- Every table that the format holds passes the test for 30.
+-- Every table that the format holds passes the representability check.
 pub table-tests : (t : VoterSlotTable) → table .Good t → representable t ≡ true
 unfolding table tableHead slots via dep
 table-tests t g =

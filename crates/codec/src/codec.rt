@@ -2,7 +2,8 @@
 //
 // Ported from crates/opc-consensus/src/voter_slots/codec.rs of openpacketcore-sdk, commit
 // 717de332e7, Apache-2.0 (see NOTICE). Changed: a reading gives an answer and the table, the blank
-// one beside a refusal; the writer fills a buffer that is lent; the test for 30 stands before it.
+// one with a refusal; the writer fills a buffer that is lent, and makes the representability check
+// first.
 ghost use Prim.Native.Nat.{_≤_};
 ghost use mathlib.Core.Path.{_≡_};
 ghost use lib.ListN.{length};
@@ -16,7 +17,7 @@ ghost use Rattle.codec.specs.Codec.{tableBytes, decoded, decodeVoterSlot
 use identity::answer::Answer;
 use identity::answer::accepted;
 use layout::parts::MAX_LOST_VOTER_ATTESTATION_BYTES;
-use layout::reading::Reading;
+use layout::reading::Extent;
 use layout::reading::why;
 use reader::decode::read_table;
 use reader::decode::read_whole_attestation;
@@ -42,31 +43,31 @@ pub struct DecodedAttestation {
     pub attestation: LostVoterAttestationV1,
 }
 
-// The bound, the fields, nothing left over, and then validity. What the fields hold passes the test
-// for 30, so that is not asked again.
+// The bound, the fields, nothing left over, and then validity. What the fields hold passes the
+// representability check, so that is not made again.
 pub fn decode_voter_slot_table(bytes: &[u8]) -> DecodedTable
     ensures { λ r. ⌜ (numberOf (r .answer), r .table) ≡ decoded blankVoterSlotTable (decodeVoterSlotTable (now (bytes .entry))) ⌝ }
 {
     if MAX_VOTER_SLOT_TABLE_BYTES < bytes.len() {
-        return refused_table(Answer::TooLarge);
+        return no_table(Answer::TooLarge);
     }
     let read = read_table(bytes);
     let to = read.answer;
-    let Reading::To(n) = to else {
-        return refused_table(why(to));
+    let Extent::To(n) = to else {
+        return no_table(why(to));
     };
     if n != bytes.len() {
-        return refused_table(Answer::InvalidRecord);
+        return no_table(Answer::InvalidRecord);
     }
     let table = read.value;
     let answer = validate_representable(table);
     if !accepted(answer) {
-        return refused_table(answer);
+        return no_table(answer);
     }
     DecodedTable { answer, table }
 }
 
-fn refused_table(answer: Answer) -> DecodedTable
+fn no_table(answer: Answer) -> DecodedTable
     ensures { λ r. ⌜ (numberOf (r .answer), r .table) ≡ decoded blankVoterSlotTable (no (numberOf answer)) ⌝ }
 {
     DecodedTable {
@@ -80,12 +81,12 @@ pub fn decode_lost_voter_attestation(bytes: &[u8]) -> DecodedAttestation
     ensures { λ r. ⌜ (numberOf (r .answer), r .attestation) ≡ decoded blankLostVoterAttestationV1 (decodeLostVoterAttestation (now (bytes .entry))) ⌝ }
 {
     if MAX_LOST_VOTER_ATTESTATION_BYTES < bytes.len() {
-        return refused_attestation(Answer::TooLarge);
+        return no_attestation(Answer::TooLarge);
     }
     let read = read_whole_attestation(bytes);
     let to = read.answer;
-    let Reading::To(_) = to else {
-        return refused_attestation(why(to));
+    let Extent::To(_) = to else {
+        return no_attestation(why(to));
     };
     let attestation = read.value;
     DecodedAttestation {
@@ -94,7 +95,7 @@ pub fn decode_lost_voter_attestation(bytes: &[u8]) -> DecodedAttestation
     }
 }
 
-fn refused_attestation(answer: Answer) -> DecodedAttestation
+fn no_attestation(answer: Answer) -> DecodedAttestation
     ensures { λ r. ⌜ (numberOf (r .answer), r .attestation) ≡ decoded blankLostVoterAttestationV1 (no (numberOf answer)) ⌝ }
 {
     DecodedAttestation {
@@ -104,18 +105,18 @@ fn refused_attestation(answer: Answer) -> DecodedAttestation
 }
 
 // The table's bytes at the start of the buffer, and their count; refused, nothing is written: the size
-// is reckoned before the first byte is put.
-pub fn encode_voter_slot_table(buffer: &mut [u8], table: VoterSlotTable) -> Reading
+// is computed before the first byte is put.
+pub fn encode_voter_slot_table(buffer: &mut [u8], table: VoterSlotTable) -> Extent
     ensures { λ r. ⌜ (report r, now (buffer .exit)) ≡ outcome (now (buffer .entry)) (encodeVoterSlotTable table (now (buffer .entry))) ⌝ }
 {
     let answer = validate_table(table);
     if !accepted(answer) {
-        return Reading::Refused(answer);
+        return Extent::Refused(answer);
     }
     if buffer.len() < table_size(table) {
-        return Reading::Refused(Answer::BufferTooShort);
+        return Extent::Refused(Answer::BufferTooShort);
     }
-    Reading::To(put_table(buffer, 0, table))
+    Extent::To(put_table(buffer, 0, table))
 }
 
 // The table is written, and the bytes counted are read again. The second clause follows from the
@@ -125,8 +126,8 @@ pub fn restart(buffer: &mut [u8], table: VoterSlotTable) -> DecodedTable
     ensures same { λ r. ⌜ (validate table ≡ Accepted → length (tableBytes table) ≤ length (now (buffer .entry)) → (numberOf (r .answer) ≡ 0) × (r .table ≡ table)) ⌝ }
 {
     let written = encode_voter_slot_table(buffer, table);
-    let Reading::To(n) = written else {
-        return refused_table(why(written));
+    let Extent::To(n) = written else {
+        return no_table(why(written));
     };
     decode_voter_slot_table(&buffer[..n])
 }

@@ -1,4 +1,4 @@
--- The law of a thin call that goes by a number: `let v = judged(*t, ..); match route(v) { 1 => { *t = made1(*t, ..); } .. _ => {} } answer_of(v)`, with 3 tables to be made and 4 further parameters, of which the makers are handed the last. Written by scripts/gen_judged.py.
+-- The law of a thin call that goes by a number: `let v = judged(*t, ..); match route(v) { 1 => { *t = made1(*t, ..); } .. _ => {} } answer_of(v)`, with 3 tables to be made and 4 further parameters, of which the makers take the last. Written by scripts/gen_judged.py.
 -- It holds for any table, any answer, any parameters and any cores: the types, the machine values and the contracts are variables.
 -- Assumes `Given`.
 use mathlib.Core.Path.{_≡_, refl, ap, sym, subst}

@@ -19,9 +19,9 @@ use Rattle.control.specs.declared.control.VoterSlotControl.{VoterSlotCon
 use Rattle.control.specs.Control.{advanceKind, applyControl, beginKind, isCatchingUp, isOpenRequest, representableControl}
 use Rattle.control.specs.Judgement.{carried, judge, judgeBegin, judgeMarker, made}
 use Rattle.control.specs.Judgement.Verdict.{kept, refused}
-use Rattle.control.specs.Verdicts.{advanceIn, advanceOf, answerOf, appliedOf, beginIn, checkedOf, judgeOf, paired}
+use Rattle.control.specs.Verdicts.{advanceIn, advanceOutcome, answerOf, appliedOf, beginIn, checkedOf, judgeOf, paired}
 use Rattle.control.specs.VerdictLaws.{advance-made, entry-passed}
-use Rattle.control.specs.BeginJudge.{beginOf}
+use Rattle.control.specs.BeginJudge.{beginOutcome}
 use Rattle.control.specs.BeginVerdictLaws.{begin-made}
 
 module _ (t : VoterSlotTable) (c : VoterSlotControl) (cut : VoterSlotLogId) where
@@ -31,11 +31,11 @@ module _ (t : VoterSlotTable) (c : VoterSlotControl) (cut : VoterSlotLogId) wher
       carried (made t c cut) t
       (cond begins (judgeBegin t (c .request) cut) (cond advances (judgeOf t (advanceIn c cut)) (judgeMarker t (c .«request_id») (c .«request_digest»))))
 
-  pub applied-begin : c .kind ≡ beginKind → beginOf t (beginIn c cut) ≡ appliedOf t c cut
+  pub applied-begin : c .kind ≡ beginKind → beginOutcome t (beginIn c cut) ≡ appliedOf t c cut
   unfolding judge
   applied-begin k = sym (begin-made t c cut) ∙ ap (λ (n : ℕ). byKind (eqb n beginKind) (eqb n advanceKind)) (sym k)
 
-  pub applied-advance : c .kind ≡ advanceKind → advanceOf t (advanceIn c cut) ≡ appliedOf t c cut
+  pub applied-advance : c .kind ≡ advanceKind → advanceOutcome t (advanceIn c cut) ≡ appliedOf t c cut
   unfolding judge
   applied-advance k = sym (advance-made t c cut) ∙ ap (λ (n : ℕ). byKind (eqb n beginKind) (eqb n advanceKind)) (sym k)
 
@@ -69,8 +69,8 @@ module _
     pub valid-applied : appliedOf t c cut ≡ applyControl t c cut
     valid-applied = entry-passed t c cut tested
 
-    pub valid-begin : c .kind ≡ beginKind → beginOf t (beginIn c cut) ≡ applyControl t c cut
+    pub valid-begin : c .kind ≡ beginKind → beginOutcome t (beginIn c cut) ≡ applyControl t c cut
     valid-begin k = applied-begin t c cut k ∙ valid-applied
 
-    pub valid-advance : c .kind ≡ advanceKind → advanceOf t (advanceIn c cut) ≡ applyControl t c cut
+    pub valid-advance : c .kind ≡ advanceKind → advanceOutcome t (advanceIn c cut) ≡ applyControl t c cut
     valid-advance k = applied-advance t c cut k ∙ valid-applied

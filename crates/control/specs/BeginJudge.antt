@@ -87,5 +87,5 @@ beginMade t b continues = t
 beginMade t b fences = t
 beginMade t b finalizes = t
 
-abbrev pub beginOf : VoterSlotTable → VoterBegin → Answer × VoterSlotTable
-beginOf t b = carried (beginMade t b) t (judgeBegin t (b .request) (b .cut))
+abbrev pub beginOutcome : VoterSlotTable → VoterBegin → Answer × VoterSlotTable
+beginOutcome t b = carried (beginMade t b) t (judgeBegin t (b .request) (b .cut))

@@ -23,7 +23,7 @@ use Rattle.records.specs.Equality.{eqBytes}
 use Rattle.records.specs.EqualityLaws.{eqBytes-true}
 use Rattle.records.specs.Records.{firstFrom, maxFixedVoterSlots, noSlotRecord, slotAt}
 use Rattle.records.specs.RecordsLaws.{first-more, first-none, first-stop}
-use Rattle.records.specs.Successor.{andThen}
+use Rattle.records.specs.Successor.{firstRefusal}
 use Rattle.records.specs.TestLaws.{first-at, is-false}
 use Rattle.control.specs.declared.control.VoterReplacementRequest.{VoterReplacementRequest}
 use Rattle.control.specs.declared.request.Named.{Named}
@@ -168,13 +168,13 @@ module _ (t : VoterSlotTable) (r : VoterReplacementRequest) (nine : length (t .s
       && (eqb (r .attestation .«expected_incarnation») 0 && b)))) no-bytes
       ∙ chain-fails (eqb (t .revision) (r .«expected_revision»)) (isExpected t r) (eqBytes (r .attestation .«cluster_instance») (t .«cluster_instance»)) (eqb (r .attestation .«expected_incarnation») 0))
 
-  picked : (x : Bool) (next : Answer) → cond x next StaleIncarnation ≡ andThen (cond x Accepted StaleIncarnation) next
+  picked : (x : Bool) (next : Answer) → cond x next StaleIncarnation ≡ firstRefusal (cond x Accepted StaleIncarnation) next
   picked true next = refl
   picked false next = refl
 
   pub slot-checked :
       cond (namedOf t (r .attestation .slot) .found && rest (namedOf t (r .attestation .slot) .member)) (fits (namedOf t (r .attestation .slot) .member)) StaleIncarnation
-      ≡ andThen (staleCheck t r) (candidateCheck t r)
+      ≡ firstRefusal (staleCheck t r) (candidateCheck t r)
   unfolding isCurrent candidateCheck
   slot-checked = go (ltb k (t .count)) (ltb k maxFixedVoterSlots) refl refl ∙ picked (ltb k (t .count) && rest m) (fits m)
     where
@@ -195,7 +195,7 @@ module _ (t : VoterSlotTable) (r : VoterReplacementRequest) (nine : length (t .s
       → cluster ≡ eqBytes (r .attestation .«cluster_instance») (t .«cluster_instance») → attested ≡ attestedMember r (x .member) → newer ≡ newerThan r (x .member)
       → cond (x .found && (eqb (t .revision) (r .«expected_revision») && (expected && (cluster && attested))))
       (cond (leb 3 (t .count)) (cond newer Accepted InvalidLossEvidence) NoSurvivingQuorum) StaleIncarnation
-      ≡ andThen (staleCheck t r) (candidateCheck t r)
+      ≡ firstRefusal (staleCheck t r) (candidateCheck t r)
   slot-judged x expected cluster attested newer a b c d e =
       (λ i. cond (x .found && (eqb (t .revision) (r .«expected_revision») && (b i && (c i && d i))))
       (cond (leb 3 (t .count)) (cond (e i) Accepted InvalidLossEvidence) NoSurvivingQuorum) StaleIncarnation)
@@ -248,10 +248,10 @@ module _ {W : Type 0} (t : VoterSlotTable) (nine : length (t .slots) ≡ 9) (id 
 
 -- ---- answers in turn
 
-pub then-assoc : (a b c : Answer) → andThen (andThen a b) c ≡ andThen a (andThen b c)
+pub then-assoc : (a b c : Answer) → firstRefusal (firstRefusal a b) c ≡ firstRefusal a (firstRefusal b c)
 then-assoc a b c = go (isAccepted a) refl
   where
-    go : (x : Bool) → isAccepted a ≡ x → andThen (cond x b a) c ≡ cond x (andThen b c) a
+    go : (x : Bool) → isAccepted a ≡ x → firstRefusal (cond x b a) c ≡ cond x (firstRefusal b c) a
     go true e = refl
     go false e = ap (λ (y : Bool). cond y c a) e
 

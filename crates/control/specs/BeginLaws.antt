@@ -19,7 +19,7 @@ use Rattle.records.specs.Equality.{eqBytes}
 use Rattle.records.specs.EqualityLaws.{eqBytes-refl}
 use Rattle.records.specs.Evidence.{validLogId, follows, latest}
 use Rattle.records.specs.Records.{pending, superseded, slotAt}
-use Rattle.records.specs.Successor.{resultSucceeds, slotSucceeds, slotIndex, ownReceipt, requestEnded, orRegression, endedSucceeds, replacementSucceeds, succession, andThen, validateSuccessorOf}
+use Rattle.records.specs.Successor.{resultSucceeds, slotSucceeds, slotIndex, ownReceipt, requestEnded, orRegression, endedSucceeds, replacementSucceeds, succession, firstRefusal, validateSuccessorOf}
 use Rattle.records.specs.ValidationLaws.{is-accepted}
 use Rattle.records.specs.Validation.{validate}
 use Rattle.records.specs.ValidParts.{valid-joined, valid-parts}
@@ -122,7 +122,7 @@ module _ (t : VoterSlotTable) (r : VoterReplacementRequest) (cut : VoterSlotLogI
   pub begun-answer : validateSuccessorOf (begun t r cut) t ≡ orRegression (not (t .«has_replacement») || follows cut (latest (t .replacement .evidence)) false) Accepted
   begun-answer =
       check-is (begun t r cut) t (begun-held t r cut g) (g .held) (g .valid)
-      ∙ (ap (λ (a : Answer). andThen a (succession (begun t r cut) t)) (begun-valid t r cut g) ∙ (now-succession ∙ begun-replacement))
+      ∙ (ap (λ (a : Answer). firstRefusal a (succession (begun t r cut) t)) (begun-valid t r cut g) ∙ (now-succession ∙ begun-replacement))
 
 -- ---- the law
 

@@ -24,7 +24,7 @@ use Rattle.control.specs.Judgement.Move.{begins, recordsSnapshot, record
 use Rattle.control.specs.Verdicts.{answerOf, beginIn, paired, routeOf}
 use Rattle.control.specs.VerdictLaws.{isMove, routed-to}
 use Rattle.control.specs.BeginCheckLaws.{starts}
-use Rattle.control.specs.BeginJudge.{beginMade, beginOf}
+use Rattle.control.specs.BeginJudge.{beginMade, beginOutcome}
 
 -- the number of a verdict that makes a table
 pub begin-told : (v : Verdict Move) → routeOf v ≡ 6 → v ≡ moves begins
@@ -72,7 +72,7 @@ module _ (t : VoterSlotTable) (b : VoterBegin) where
 
 -- what a Begin of a command makes is that
 pub begin-made : (t : VoterSlotTable) (c : VoterSlotControl) (cut : VoterSlotLogId)
-    → carried (made t c cut) t (judgeBegin t (c .request) cut) ≡ beginOf t (beginIn c cut)
+    → carried (made t c cut) t (judgeBegin t (c .request) cut) ≡ beginOutcome t (beginIn c cut)
 unfolding judgeBegin judgeRepeated carried made beginMade
 begin-made t c cut =
     go (isKnown t (r .attestation .«request_id»)) (eqBytes (knownDigest t (r .attestation .«request_id»)) (r .attestation .«request_digest»)) (isAccepted (requestCheck r))

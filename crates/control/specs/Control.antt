@@ -6,6 +6,7 @@ use mathlib.Core.Bool.{Bool, true, false, cond, not, _&&_, _||_}
 use mathlib.Core.List.{List, map}
 use lib.ListN.{set}
 use lib.Dec.{eqb, leb, ltb}
+use Rattle.identity.specs.Conditions.{_and_}
 use Rattle.identity.specs.Answer.{isAccepted}
 use Rattle.identity.specs.Identity.{isConfigurationEpoch}
 use Rattle.identity.specs.declared.answer.Answer.{Answer}
@@ -23,7 +24,7 @@ use Rattle.records.specs.Equality.{eqBytes, sameVoterSlotLogId, sameVoterSnapsh
 use Rattle.records.specs.Evidence.{validLogId}
 use Rattle.records.specs.Records.{pending, prepared, snapshotInstalled, learnerAdded, caughtUp, fenced, uniform, completed, superseded, allBelow, firstFrom, slotAt}
 use Rattle.records.specs.Representable.{representableMember, representableAttestation, representableSnapshot, representable}
-use Rattle.records.specs.Successor.{slotIndex, andThen, validateSuccessorOf}
+use Rattle.records.specs.Successor.{slotIndex, firstRefusal, validateSuccessorOf}
 use Rattle.records.specs.Validation.{validAttestation, validity}
 use Rattle.records.specs.With.{tableWith, operationWith, slotWith, evidenceWith, withSnapshot, withCaughtUp, withContinuation, withFence}
 use Rattle.control.specs.declared.control.VoterReplacementRequest.{VoterReplacementRequest}
@@ -97,21 +98,22 @@ isBlankName c = eqBytes (c .«request_id») blankRequestId && eqBytes (c .«requ
 abbrev pub representableRequest : VoterReplacementRequest → Bool
 representableRequest r =
     isConfigurationEpoch (r .«expected_configuration» .«configuration_epoch»)
-    && (representableMember (r .candidate) && representableAttestation (r .attestation))
+    and representableMember (r .candidate)
+    and representableAttestation (r .attestation)
 
 -- a step: a kind of the five; the snapshot is RecordSnapshot's, the mark RecordCaughtUp's, where any numbers are one
 unfoldable pub representableStep : VoterReplacementStep → Bool
 representableStep s =
     leb (s .kind) finalizeKind
-    && (cond (eqb (s .kind) recordSnapshotKind) (representableSnapshot (s .snapshot)) (sameVoterSnapshotEvidence (s .snapshot) blankVoterSnapshotEvidence)
-    && (eqb (s .kind) recordCaughtUpKind || sameVoterSlotLogId (s .«caught_up») blankVoterSlotLogId))
+    and cond (eqb (s .kind) recordSnapshotKind) (representableSnapshot (s .snapshot)) (sameVoterSnapshotEvidence (s .snapshot) blankVoterSnapshotEvidence)
+    and (eqb (s .kind) recordCaughtUpKind || sameVoterSlotLogId (s .«caught_up») blankVoterSlotLogId)
 
 -- a command: a kind of the three; the request is a Begin's, id and digest are the others', the step is an Advance's
 unfoldable pub representableControl : VoterSlotControl → Bool
 representableControl c =
     leb (c .kind) markerKind
-    && (cond (eqb (c .kind) beginKind) (representableRequest (c .request) && isBlankName c) (isBlankRequest (c .request))
-    && cond (eqb (c .kind) advanceKind) (representableStep (c .step)) (isBlankStep (c .step)))
+    and cond (eqb (c .kind) beginKind) (representableRequest (c .request) && isBlankName c) (isBlankRequest (c .request))
+    and cond (eqb (c .kind) advanceKind) (representableStep (c .step)) (isBlankStep (c .step))
 
 -- ---- `VoterReplacementRequest::validate`: 12
 
@@ -119,12 +121,12 @@ representableControl c =
 unfoldable pub validRequest : VoterReplacementRequest → Bool
 validRequest r =
     validAttestation (r .attestation)
-    && (ltb 0 (r .«expected_revision»)
-    && (eqBytes (r .«expected_configuration» .«cluster_id») (r .attestation .«cluster_instance»)
-    && (eqb (r .candidate .identity .slot) (r .attestation .slot)
-    && (eqb (r .attestation .«expected_incarnation» + 1) (r .candidate .identity .incarnation)
-    && (eqBytes (r .candidate .«key_digest») (r .attestation .«candidate_key_digest»)
-    && eqb (r .candidate .«admission_generation») (r .attestation .«admission_generation»))))))
+    and ltb 0 (r .«expected_revision»)
+    and eqBytes (r .«expected_configuration» .«cluster_id») (r .attestation .«cluster_instance»)
+    and eqb (r .candidate .identity .slot) (r .attestation .slot)
+    and eqb (r .attestation .«expected_incarnation» + 1) (r .candidate .identity .incarnation)
+    and eqBytes (r .candidate .«key_digest») (r .attestation .«candidate_key_digest»)
+    and eqb (r .candidate .«admission_generation») (r .attestation .«admission_generation»)
 
 -- "The caller supplies the request digest as recomputed"
 unfoldable pub requestCheck : VoterReplacementRequest → Answer
@@ -195,11 +197,11 @@ isExpected t r =
 unfoldable pub isCurrent : VoterSlotTable → VoterReplacementRequest → Bool
 isCurrent t r =
     ltb (namedIndex t r) (t .count)
-    && (eqb (t .revision) (r .«expected_revision»)
-    && (isExpected t r
-    && (eqBytes (r .attestation .«cluster_instance») (t .«cluster_instance»)
-    && (eqb (r .attestation .«expected_incarnation») (namedSlot t r .member .identity .incarnation)
-    && eqBytes (r .attestation .«old_descriptor_digest») (namedSlot t r .member .«descriptor_digest»)))))
+    and eqb (t .revision) (r .«expected_revision»)
+    and isExpected t r
+    and eqBytes (r .attestation .«cluster_instance») (t .«cluster_instance»)
+    and eqb (r .attestation .«expected_incarnation») (namedSlot t r .member .identity .incarnation)
+    and eqBytes (r .attestation .«old_descriptor_digest») (namedSlot t r .member .«descriptor_digest»)
 
 -- "4." as an answer
 abbrev pub staleCheck : VoterSlotTable → VoterReplacementRequest → Answer
@@ -223,7 +225,7 @@ fullCheck t =
 -- "2." to "6.": the first refusal; "3. Request check 12" is `requestCheck`
 unfoldable pub beginCheck : VoterSlotTable → VoterReplacementRequest → VoterSlotLogId → Answer
 beginCheck t r cut =
-    andThen (openCheck t r cut) (andThen (requestCheck r) (andThen (staleCheck t r) (andThen (candidateCheck t r) (fullCheck t))))
+    firstRefusal (openCheck t r cut) (firstRefusal (requestCheck r) (firstRefusal (staleCheck t r) (firstRefusal (candidateCheck t r) (fullCheck t))))
 
 -- a receipt of the open request, at the next revision, of the incarnation that its slot has now; it ends at the cut of the command
 abbrev pub receiptOf : VoterSlotTable → VoterSlotRecord → ℕ → VoterSlotLogId → VoterReplacementResult
@@ -289,7 +291,7 @@ recordSnapshot t snapshot cut =
     let op = t .replacement in
     cond (op .evidence .«has_snapshot»)
     (cond (sameVoterSnapshotEvidence (op .evidence .snapshot) snapshot) keep (refuse IdempotencyConflict))
-    (cond (eqb (op .phase) prepared && (ltb (snapshot .cut .index) (cut .index) && leb (snapshot .cut .term) (cut .term)))
+    (cond (eqb (op .phase) prepared and ltb (snapshot .cut .index) (cut .index) and leb (snapshot .cut .term) (cut .term))
     (change (snapshotRecorded t snapshot)) (refuse InvalidTransition))
 
 -- `RecordCaughtUp`: its table
@@ -305,7 +307,7 @@ unfoldable pub recordCaughtUp : VoterSlotTable → VoterSlotLogId → VoterSlotL
 recordCaughtUp t mark cut =
     let op = t .replacement in
     cond (op .evidence .«caught_up» .«is_some» && sameVoterSlotLogId (op .evidence .«caught_up» .cut) mark) keep
-    (cond (isCatchingUp (op .phase) && (eqb (mark .term) (cut .term) && ltb (mark .index) (cut .index)))
+    (cond (isCatchingUp (op .phase) and eqb (mark .term) (cut .term) and ltb (mark .index) (cut .index))
     (change (caughtUpRecorded t mark)) (refuse InvalidTransition))
 
 -- `RecordContinuation`: its table; the phase stays
@@ -328,7 +330,7 @@ unfoldable pub fence : VoterSlotTable → VoterSlotLogId → Decision
 fence t cut =
     let op = t .replacement in
     cond (leb fenced (op .phase)) keep
-    (cond (eqb (op .phase) caughtUp && (op .evidence .«caught_up» .«is_some» && eqb (op .evidence .«caught_up» .cut .term) (cut .term)))
+    (cond (eqb (op .phase) caughtUp and op .evidence .«caught_up» .«is_some» and eqb (op .evidence .«caught_up» .cut .term) (cut .term))
     (change (fencedAt t cut)) (refuse InvalidTransition))
 
 -- the place of the slot being replaced, or the count

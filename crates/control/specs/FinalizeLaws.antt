@@ -21,7 +21,7 @@ use Rattle.records.specs.EqualityLaws.{eqBytes-refl, sameVoterReplacementRecord
 use Rattle.records.specs.Evidence.{validLogId, follows, latest}
 use Rattle.records.specs.Records.{voting, fenced, uniform, completed, firstFrom, slotAt}
 use Rattle.records.specs.Representable.{representableSlotRecord, representable}
-use Rattle.records.specs.Successor.{slotSucceeds, ownReceipt, requestEnded, slotIndex, orRegression, endedSucceeds, replacementSucceeds, succession, andThen, validateSuccessorOf}
+use Rattle.records.specs.Successor.{slotSucceeds, ownReceipt, requestEnded, slotIndex, orRegression, endedSucceeds, replacementSucceeds, succession, firstRefusal, validateSuccessorOf}
 use Rattle.records.specs.Validation.{targetPhase, validity}
 use Rattle.records.specs.TestLaws.{says, passes, cond-true, cond-false, decided}
 use Rattle.records.specs.ValidParts.{SlotHolds, slot-later, SlotsHold, idle-valid}
@@ -166,7 +166,7 @@ module _ (t : VoterSlotTable) (o : Open t) (cut : VoterSlotLogId) (nonzero : val
   pub finalized-exactly : isAccepted (validateSuccessorOf (finalized t cut) t) ≡ follows cut (latest (t .replacement .evidence)) false
   finalized-exactly =
       ap (λ (n : VoterSlotTable). isAccepted (validateSuccessorOf n t)) (is-ended t cut)
-      ∙ (ap isAccepted (check-is (endedTable t cut) t ended-fits (o .fits) (o .valid) ∙ ap₂ andThen ended-valid ended-succession)
+      ∙ (ap isAccepted (check-is (endedTable t cut) t ended-fits (o .fits) (o .valid) ∙ ap₂ firstRefusal ended-valid ended-succession)
       ∙ accepted-where (follows cut (latest (t .replacement .evidence)) false))
 
 -- the decision, settled: in the last phase the latest cut is the uniform one

@@ -5,6 +5,7 @@ use Prim.Native.Nat.{ℕ}
 use mathlib.Core.Bool.{Bool, cond, false, not, true, _&&_, _||_}
 use mathlib.Core.List.{List, _∷_, []}
 use lib.Dec.{eqb, leb, ltb}
+use Rattle.identity.specs.Conditions.{_and_}
 use Rattle.identity.specs.declared.answer.Answer.the-variants.{Accepted, IdempotencyConflict, InvalidTransition, RevisionExhausted, StaleIncarnation}
 use Rattle.identity.specs.declared.answer.Answer.{Answer}
 use Rattle.identity.specs.Answer.{isAccepted}
@@ -14,7 +15,7 @@ use Rattle.records.specs.declared.records.VoterSlotTable.{VoterSlotTable}
 use Rattle.records.specs.declared.records.VoterSnapshotEvidence.{VoterSnapshotEvidence}
 use Rattle.records.specs.Records.{caughtUp, fenced, joint, prepared, uniform}
 use Rattle.records.specs.Equality.{eqBytes, sameVoterSlotLogId, sameVoterSnapshotEvidence}
-use Rattle.records.specs.Evidence.{follows, latest, snapshotCut, validBeside, validSnapshotId}
+use Rattle.records.specs.Evidence.{follows, latest, snapshotCut, inOrder, validSnapshotId}
 use Rattle.records.specs.Validation.{targetPhase, validity}
 use Rattle.records.specs.With.{present}
 use Rattle.control.specs.Observation.{Sight, eqIds, eqSets, jointSeen, learnerSeen, memberIds, raised, see, uniformSeen, withTarget}
@@ -78,22 +79,23 @@ judgeBegin t r cut =
 -- ---- the tests of a part that is added to the evidence
 
 -- the continuation, if there is one, is in order with a cut that is added
-abbrev pub besideTest : VoterReplacementEvidence → VoterSlotLogId → Bool → Bool
-besideTest e cut isSnapshot = not (e .continuation .«is_some») || validBeside (e .continuation .cut) (present cut) isSnapshot
+abbrev pub orderTest : VoterReplacementEvidence → VoterSlotLogId → Bool → Bool
+orderTest e cut isSnapshot = not (e .continuation .«is_some») || inOrder (e .continuation .cut) (present cut) isSnapshot
 
 -- a snapshot: its id, and a cut that follows prepare or equals it
 abbrev pub snapshotTest : VoterReplacementEvidence → VoterSnapshotEvidence → Bool
 snapshotTest e snapshot =
     validSnapshotId (snapshot .«snapshot_id»)
-    && (follows (snapshot .cut) (e .prepare) true && besideTest e (snapshot .cut) true)
+    and follows (snapshot .cut) (e .prepare) true
+    and orderTest e (snapshot .cut) true
 
 -- a mark: after the one that is there, or else after the learner's cut
 abbrev pub caughtUpTest : VoterReplacementEvidence → VoterSlotLogId → Bool
-caughtUpTest e mark = follows mark (cond (e .«caught_up» .«is_some») (e .«caught_up» .cut) (e .learner .cut)) false && besideTest e mark false
+caughtUpTest e mark = follows mark (cond (e .«caught_up» .«is_some») (e .«caught_up» .cut) (e .learner .cut)) false && orderTest e mark false
 
 -- the continuation itself, of a cut past prepare: in order with what is there
 abbrev pub continuationTest : VoterReplacementEvidence → VoterSlotLogId → Bool
-continuationTest e cut = validBeside cut (snapshotCut e) true && (validBeside cut (e .learner) false && validBeside cut (e .«caught_up») false)
+continuationTest e cut = inOrder cut (snapshotCut e) true and inOrder cut (e .learner) false and inOrder cut (e .«caught_up») false
 
 -- the fence: after the mark, and after the continuation, if there is one
 abbrev pub fenceTest : VoterReplacementEvidence → VoterSlotLogId → Bool
@@ -102,7 +104,7 @@ fenceTest e cut =
 
 -- the learner: after the snapshot's cut
 abbrev pub learnerTest : VoterReplacementEvidence → VoterSlotLogId → Bool
-learnerTest e cut = follows cut (e .snapshot .cut) false && besideTest e cut false
+learnerTest e cut = follows cut (e .snapshot .cut) false && orderTest e cut false
 
 -- joint: after the fence
 abbrev pub jointTest : VoterReplacementEvidence → VoterSlotLogId → Bool
@@ -121,7 +123,7 @@ judgeSnapshot t snapshot cut =
     cond (op .evidence .«has_snapshot»)
     (cond (sameVoterSnapshotEvidence (op .evidence .snapshot) snapshot) kept (refused IdempotencyConflict))
     (cond
-    ((eqb (op .phase) prepared && (ltb (snapshot .cut .index) (cut .index) && leb (snapshot .cut .term) (cut .term))) && snapshotTest (op .evidence) snapshot)
+    ((eqb (op .phase) prepared and ltb (snapshot .cut .index) (cut .index) and leb (snapshot .cut .term) (cut .term)) && snapshotTest (op .evidence) snapshot)
     (moves recordsSnapshot) (refused InvalidTransition))
 
 -- `recordCaughtUp` of Control: the same mark again is kept
@@ -129,7 +131,7 @@ unfoldable pub judgeCaughtUp : VoterSlotTable → VoterSlotLogId → VoterSlotLo
 judgeCaughtUp t mark cut =
     let op = t .replacement in
     cond (op .evidence .«caught_up» .«is_some» && sameVoterSlotLogId (op .evidence .«caught_up» .cut) mark) kept
-    (cond ((isCatchingUp (op .phase) && (eqb (mark .term) (cut .term) && ltb (mark .index) (cut .index))) && caughtUpTest (op .evidence) mark)
+    (cond ((isCatchingUp (op .phase) and eqb (mark .term) (cut .term) and ltb (mark .index) (cut .index)) && caughtUpTest (op .evidence) mark)
     (moves recordsCaughtUp) (refused InvalidTransition))
 
 -- `recordContinuation` of Control: one that is there is kept
@@ -146,7 +148,7 @@ judgeFence t cut =
     let op = t .replacement in
     cond (leb fenced (op .phase)) kept
     (cond
-    ((eqb (op .phase) caughtUp && (op .evidence .«caught_up» .«is_some» && eqb (op .evidence .«caught_up» .cut .term) (cut .term))) && fenceTest (op .evidence) cut)
+    ((eqb (op .phase) caughtUp and op .evidence .«caught_up» .«is_some» and eqb (op .evidence .«caught_up» .cut .term) (cut .term)) && fenceTest (op .evidence) cut)
     (moves fences) (refused InvalidTransition))
 
 -- `finalize` of Control: in Uniform the latest evidence is uniform's cut, and the slot being replaced is there

@@ -22,7 +22,7 @@ use Rattle.records.specs.Equality.{sameVoterSlotTable}
 use Rattle.records.specs.EqualityLaws.{ne-same, eq-same, sameVoterSlotTable-true, sameVoterSlotTable-refl}
 use Rattle.records.specs.Evidence.{validEvidence}
 use Rattle.records.specs.Records.{snapshotInstalled, learnerAdded, fenced, joint, uniform, noSlotRecord, slotAt}
-use Rattle.records.specs.Successor.{succession, andThen, validateSuccessorOf}
+use Rattle.records.specs.Successor.{succession, firstRefusal, validateSuccessorOf}
 use Rattle.records.specs.Representable.{representable}
 use Rattle.records.specs.Validation.{targetPhase, validity}
 use Rattle.records.specs.ValidationLaws.{is-accepted}
@@ -144,9 +144,9 @@ refused-invalid t next h = settled t next false (go (representable next && repre
     after a b k true e = k
     after a b k false e = e
 
-    go : (r : Bool) (a b c : Answer) → isAccepted b ≡ false → isAccepted (cond r (andThen a (andThen b c)) Unrepresentable) ≡ false
+    go : (r : Bool) (a b c : Answer) → isAccepted b ≡ false → isAccepted (cond r (firstRefusal a (firstRefusal b c)) Unrepresentable) ≡ false
     go false a b c k = refl
-    go true a b c k = after a (andThen b c) (ap isAccepted (cond-false (isAccepted b) c b k) ∙ k) (isAccepted a) refl
+    go true a b c k = after a (firstRefusal b c) (ap isAccepted (cond-false (isAccepted b) c b k) ∙ k) (isAccepted a) refl
 
 module _ (t : VoterSlotTable) (fits : representable t ≡ true) (is-open : t .«has_replacement» ≡ true) where
   shut : isAccepted (validity t) ≡ false → (b : Bool) (cut : VoterSlotLogId) (m : Addition)
@@ -203,7 +203,7 @@ module _ (t : VoterSlotTable) (fits : representable t ≡ true) (is-open : t .«
       (λ _. refuses (added t cut) t _)
       ∙ branch (added t cut) t (ltb (targetIndex t) (t .count)) _ _ refl refl)
 
--- An observation after the tests for 30 and 31, of any table that the Rust types can hold.
+-- An observation that passed the tests for 30 and 31, of any table that the Rust types can hold.
 pub settle-observe : (t : VoterSlotTable) → representable t ≡ true → (sets : List (List ℕ)) (nodes : List ℕ) (cut : VoterSlotLogId)
     → settle t (observe t sets nodes cut) ≡ carried (added t cut) t (judgeObservation t sets nodes cut)
 unfolding observe settle judgeObservation

@@ -6,6 +6,7 @@ use mathlib.Core.Bool.{Bool, cond, not, _&&_}
 use mathlib.Core.List.{List, _∷_, [], _++_, map}
 use lib.Dec.{eqb, ltb}
 use lib.ListN.{length, take, drop, getD}
+use Rattle.identity.specs.Conditions.{_and_}
 use Rattle.records.specs.declared.records.VoterConfiguration.{VoterConfiguration}
 use Rattle.records.specs.declared.records.VoterSlotTable.{VoterSlotTable}
 use Rattle.records.specs.Records.{memberAt}
@@ -44,4 +45,4 @@ isOneSet ids counts set = eqb (length counts) 1 && sameIds ids set
 
 abbrev pub areTwoSets : (ids counts old new : List ℕ) → Bool
 areTwoSets ids counts old new =
-    eqb (length counts) 2 && (sameIds (take (getD counts 0 0) ids) old && sameIds (drop (getD counts 0 0) ids) new)
+    eqb (length counts) 2 and sameIds (take (getD counts 0 0) ids) old and sameIds (drop (getD counts 0 0) ids) new

@@ -7,6 +7,7 @@ use mathlib.Core.Bool.{Bool, cond, false, not, true, _&&_, _||_}
 use mathlib.Core.List.{List, _∷_, []}
 use lib.Dec.{eqb, leb, ltb}
 use lib.ListN.{length}
+use Rattle.identity.specs.Conditions.{_and_}
 use Rattle.identity.specs.Identity.{fromNodeId}
 use Rattle.identity.specs.Answer.{isAccepted}
 use Rattle.identity.specs.Text.{every}
@@ -87,7 +88,7 @@ testsOf phase old new ids counts nodes known lingers =
       «is_old» = isOneSet ids counts old;
       «fits_old» = ltb phase joint && isSubset old nodes && leb (length nodes) (length ids + 1) && lingers;
       «has_candidate» = contains (leastNew old new noId) nodes;
-      «is_joint» = areTwoSets ids counts old new && (known && (isSubset old nodes && isSubset new nodes));
+      «is_joint» = areTwoSets ids counts old new and known and isSubset old nodes and isSubset new nodes;
       «is_new» = isOneSet ids counts new && sameIds nodes new;
     }
 

@@ -24,7 +24,7 @@ use Rattle.records.specs.Evidence.{validLogId}
 use Rattle.records.specs.Held.{HeldVoterSlotLogId}
 use Rattle.records.specs.Records.{prepared, snapshotInstalled, learnerAdded, caughtUp, fenced, joint, uniform, noMember, noSlotRecord, slotAt, memberAt}
 use Rattle.records.specs.Representable.{representableMember, representable}
-use Rattle.records.specs.Successor.{andThen, validateSuccessorOf}
+use Rattle.records.specs.Successor.{firstRefusal, validateSuccessorOf}
 use Rattle.records.specs.SuccessorLaws.{successor}
 use Rattle.records.specs.Validation.{claimsOf, targetPhase, validateMember, validity, validate}
 use Rattle.records.specs.ValidationLaws.{is-accepted}
@@ -52,7 +52,7 @@ use Rattle.control.specs.Observation.{Sight, eqIds, eqSets, isRising, al
 use Rattle.control.specs.Observation.Sight.{strange, nothingNew, newLearner, newJoint, newUniform}
 use Rattle.control.specs.Quorum.{isJoint, currentIds, successorIds, countsIn, among, isMajority, isQuorum, IsReplaced, Shared, AllLive, SharedLive, Near, QuorumsIn, Quorums}
 use Rattle.control.specs.Retired.{isBelowFloor, isRetiredIdentity, isRetired}
-use Rattle.control.specs.RetiredLaws.{made, replaced-retired}
+use Rattle.control.specs.RetiredLaws.{node-read, replaced-retired}
 use Rattle.control.specs.OpenLaws.{Open, opened, other-of}
 use Rattle.control.specs.SetLaws.{contains-insert}
 use Rattle.control.specs.SightLaws.{Fits, fits-see}
@@ -200,7 +200,7 @@ module _ (c : VoterConfiguration) (differ : (i j : ℕ) → i < c .count → j <
 
 -- the node of a member that the Rust types can hold
 read-node : (m : VoterSlotMember) → representableMember m ≡ true → fromNodeId (memberNode m) ≡ VoterSlotIdentityResult.Ok (m .identity)
-read-node m r = let w = says (member-is m) r in made (m .identity) (w .0) (w .1)
+read-node m r = let w = says (member-is m) r in node-read (m .identity) (w .0) (w .1)
 
 -- two such members of one node have one slot
 same-slot : (m n : VoterSlotMember) → representableMember m ≡ true → representableMember n ≡ true → memberNode m ≡ memberNode n → m .identity .slot ≡ n .identity .slot
@@ -613,7 +613,7 @@ module _ (t : VoterSlotTable) where
     begun-moves : (q : VoterReplacementRequest) → beginCheck t q cut ≡ Accepted → Moves t (begun t q cut)
     unfolding begunOperation beginCheck
     begun-moves q h =
-        let a = both-accepted (openCheck t q cut) (andThen (requestCheck q) (andThen (staleCheck t q) (andThen (candidateCheck t q) (fullCheck t)))) h .0 in
+        let a = both-accepted (openCheck t q cut) (firstRefusal (requestCheck q) (firstRefusal (staleCheck t q) (firstRefusal (candidateCheck t q) (fullCheck t)))) h .0 in
         inl (record { current = current-below (begun t q cut) refl; epoch = refl; still = λ j. absurd (not-fenced q a j) })
 
     begin-moves : (q : VoterReplacementRequest) → Every (Moves t) (begin t q cut)
@@ -765,19 +765,19 @@ settled t v (change next) m =
     (λ e. moved t next (successor next t (is-accepted (validateSuccessorOf next t) e) .new-valid) m)
     (λ _. stayed t v)
 
-pub stepped : (x : Call) (t : VoterSlotTable) → ValidTable t → Stepped t (after x t)
+pub call-stepped : (x : Call) (t : VoterSlotTable) → ValidTable t → Stepped t (after x t)
 unfolding applyControl observeMembership
-stepped (command x cut k c) t v =
+call-stepped (command x cut k c) t v =
     by-test (λ (y : Answer × VoterSlotTable). Stepped t (y .1)) (representable t && representableControl x)
     (λ _. by-test (λ (y : Answer × VoterSlotTable). Stepped t (y .1)) (isAccepted (validity t) && validLogId cut) (λ _. settled t v (decide t x cut) (decide-moves t cut x)) (λ _. stayed t v))
     (λ _. stayed t v)
-stepped (observation ids counts nodes cut c) t v =
+call-stepped (observation ids counts nodes cut c) t v =
     by-test (λ (y : Answer × VoterSlotTable). Stepped t (y .1)) (representable t && representableSets ids counts nodes)
     (λ _. by-test (λ (y : Answer × VoterSlotTable). Stepped t (y .1)) (allRising (splitSets ids counts) && isRising nodes)
     (λ _. settled t v (observe t (splitSets ids counts) nodes cut) (observe-moves t v cut c (splitSets ids counts) nodes))
     (λ _. stayed t v))
     (λ _. stayed t v)
-stepped (restart bytes) t v =
+call-stepped (restart bytes) t v =
     subst (λ (x : ℕ × VoterSlotTable). Stepped t (x .1)) (sym (restart-same t v (withRoom t bytes) (has-room t bytes))) (stayed t v)
 
 -- ---- several calls
@@ -832,7 +832,7 @@ valid-at (x ∷ calls) start v (suc i) = valid-at calls (after x start) (call-va
 stepped-at : (calls : List Call) (start : VoterSlotTable) → ValidTable start → (i : ℕ) → Stepped (tableAt start calls i) (tableAt start calls (suc i))
 stepped-at [] start v zero = stayed start v
 stepped-at [] start v (suc i) = stayed start v
-stepped-at (x ∷ calls) start v zero = stepped x start v
+stepped-at (x ∷ calls) start v zero = call-stepped x start v
 stepped-at (x ∷ calls) start v (suc i) = stepped-at calls (after x start) (call-valid x start v) i
 
 module _ (start : VoterSlotTable) (v : ValidTable start) (calls : List Call) where

@@ -95,9 +95,9 @@ is-made : (identity : VoterSlotIdentity) → isSlotId (identity .slot) ≡ true 
 unfolding nodeId validateVoterSlotIdentity validateVoterIncarnation
 is-made identity s i = rw (s, i)
 
-pub made : (identity : VoterSlotIdentity) → isSlotId (identity .slot) ≡ true → isVoterIncarnation (identity .incarnation) ≡ true
+pub node-read : (identity : VoterSlotIdentity) → isSlotId (identity .slot) ≡ true → isVoterIncarnation (identity .incarnation) ≡ true
     → fromNodeId (valueOfNumber (nodeId identity)) ≡ VoterSlotIdentityResult.Ok identity
-made identity s i = read-made identity (valueOfNumber (nodeId identity)) (is-made identity s i)
+node-read identity s i = read-made identity (valueOfNumber (nodeId identity)) (is-made identity s i)
 
 module _ (t : VoterSlotTable) (v : validate t ≡ Accepted) (is-open : t .«has_replacement» ≡ true) where
   o : Open t
@@ -120,8 +120,8 @@ module _ (t : VoterSlotTable) (v : validate t ≡ Accepted) (is-open : t .«has_
       let k = member-target (claimsOf op) (slotAt t i) m (memberAt (op .successor) i) (o .member i here) (sym number ∙ s) in
       let floor = o .slots .each i here .retired in
       let next = k .next in
-      let behind = k .earlier in
+      let after = k .earlier in
       let covered : isBelowFloor (m .identity) (slotAt t i) ≡ true =
       and-both _ _ (eq-eqb _ _ (sym number)) (le-leb (m .identity .incarnation) (slotAt t i .«retired_through») (omega arith)) in
       let w = says (member-is m) (member-fits (op .predecessor) (o .parts .predecessor) i l) in
-      rw (made (m .identity) (w .0) (w .1)) (some-below (λ j. not (isBelowFloor (m .identity) (slotAt t j))) (t .count) i here (ap not covered))
+      rw (node-read (m .identity) (w .0) (w .1)) (some-below (λ j. not (isBelowFloor (m .identity) (slotAt t j))) (t .count) i here (ap not covered))

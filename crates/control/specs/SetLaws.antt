@@ -102,9 +102,9 @@ unfolding isRising insertId
 rising-insert x [] h = refl
 rising-insert x (y ∷ l) h = by (ltb x y) refl (eqb x y) refl (rising-insert x l (rising-tail y l h))
   where
-    behind : y < x → (z : ℕ) (d : Bool) → eqb z x ≡ d → (d || contains z l) ≡ true → y < z
-    behind k z true e c = let q = eqb-true z x e in omega arith
-    behind k z false e c = head-least y l h z c
+    after : y < x → (z : ℕ) (d : Bool) → eqb z x ≡ d → (d || contains z l) ≡ true → y < z
+    after k z true e c = let q = eqb-true z x e in omega arith
+    after k z false e c = head-least y l h z c
 
     by : (lt : Bool) → ltb x y ≡ lt → (eq : Bool) → eqb x y ≡ eq → isRising (insertId x l) ≡ true → isRising (cond lt (x ∷ y ∷ l) (cond eq (y ∷ l) (y ∷ insertId x l))) ≡ true
     by true e eq f r = rw e h
@@ -112,7 +112,7 @@ rising-insert x (y ∷ l) h = by (ltb x y) refl (eqb x y) refl (rising-insert x 
     by false e false f r =
         let k = ltb-false x y e in
         let n = eqb-false x y f in
-        rising-head y (insertId x l) r (λ z c. behind (omega arith) z (eqb z x) refl (sym (contains-insert z x l) ∙ c))
+        rising-head y (insertId x l) r (λ z c. after (omega arith) z (eqb z x) refl (sym (contains-insert z x l) ∙ c))
 
 pub rising-union : (a b : List ℕ) → isRising b ≡ true → isRising (unionIds a b) ≡ true
 unfolding unionIds

@@ -23,7 +23,7 @@ use Rattle.records.specs.EqualityLaws.{eqBytes-refl, sameLostVoterAttestationV1
 use Rattle.records.specs.Evidence.{validEvidence, retains}
 use Rattle.records.specs.Records.{uniform, slotAt, memberAt}
 use Rattle.records.specs.Representable.{representableSlotRecord, representableEvidence, representable}
-use Rattle.records.specs.Successor.{requestSucceeds, orRegression, replacementSucceeds, succession, andThen, validateSuccessorOf}
+use Rattle.records.specs.Successor.{requestSucceeds, orRegression, replacementSucceeds, succession, firstRefusal, validateSuccessorOf}
 use Rattle.records.specs.Validation.{requireOf, targetPhase, validOperationHead, isCurrentEpoch, validOperation, claimsOf, retiredMember, validTarget, validateMember, validateMembers, hasTarget, validateOperation, validity}
 use Rattle.records.specs.With.{tableWith, operationWith, inPhase}
 use Rattle.records.specs.TestLaws.{says, passes, by-test, cond-true, cond-false, some-below}
@@ -198,5 +198,5 @@ module _ (t : VoterSlotTable) (o : Open t) (phase : ℕ) (later : t .replacement
         isAccepted (validateSuccessorOf (stepped t phase e) t) ≡ (validEvidence e phase && retains e (t .replacement .evidence) (t .replacement .phase))
     stepped-exactly =
         let kept = retains e (t .replacement .evidence) (t .replacement .phase) in
-        ap isAccepted (check-is (stepped t phase e) t step-fits (o .fits) (o .valid) ∙ ap₂ andThen step-valid step-succession)
+        ap isAccepted (check-is (stepped t phase e) t step-fits (o .fits) (o .valid) ∙ ap₂ firstRefusal step-valid step-succession)
         ∙ accepted-both (validEvidence e phase) kept

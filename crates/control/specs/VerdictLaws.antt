@@ -32,7 +32,7 @@ use Rattle.control.specs.Judgement.Move.{begins, recordsSnapshot, record
 use Rattle.control.specs.OpenLaws.{opened}
 use Rattle.records.specs.RepresentableLaws.{representable-count}
 use Rattle.control.specs.declared.control.VoterAdvance.{VoterAdvance}
-use Rattle.control.specs.Verdicts.{advanceIn, advanceOf, answerOf, appliedOf, checkedOf, entryVerdict, judgeOf, paired, routeOf, stepMade}
+use Rattle.control.specs.Verdicts.{advanceIn, advanceOutcome, answerOf, appliedOf, checkedOf, entryVerdict, judgeOf, paired, routeOf, stepMade}
 
 -- ---- what is made
 
@@ -152,7 +152,7 @@ by-verdict t c cut (moves fences) h = refl
 by-verdict t c cut (moves finalizes) h = refl
 
 pub advance-made : (t : VoterSlotTable) (c : VoterSlotControl) (cut : VoterSlotLogId)
-    → carried (made t c cut) t (judgeAdvance t (c .«request_id») (c .«request_digest») (c .step) cut) ≡ advanceOf t (advanceIn c cut)
+    → carried (made t c cut) t (judgeAdvance t (c .«request_id») (c .«request_digest») (c .step) cut) ≡ advanceOutcome t (advanceIn c cut)
 advance-made t c cut = by-verdict t c cut _ (never-begins t (c .«request_id») (c .«request_digest») (c .step) cut)
 
 -- ---- which kind a command has, by what it makes
@@ -188,7 +188,7 @@ count-fits t valid = representable-count t (valid-parts t valid .0)
 
 module _ (t : VoterSlotTable) (c : VoterAdvance) (v : Verdict Move) (is : judgeOf t c ≡ v) where
   -- the answer and the table
-  pub carried-as : carried (stepMade t (c .step) (c .cut)) t v ≡ advanceOf t c
+  pub carried-as : carried (stepMade t (c .step) (c .cut)) t v ≡ advanceOutcome t c
   carried-as = ap (carried (stepMade t (c .step) (c .cut)) t) (sym is)
 
   -- where something is made: there is room, and the slot being replaced is there

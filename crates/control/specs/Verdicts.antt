@@ -78,8 +78,8 @@ abbrev pub judgeOf : VoterSlotTable → VoterAdvance → Verdict Move
 judgeOf t c = judgeAdvance t (c .«request_id») (c .«request_digest») (c .step) (c .cut)
 
 -- an Advance on a valid table: the answer and the table
-abbrev pub advanceOf : VoterSlotTable → VoterAdvance → Answer × VoterSlotTable
-advanceOf t c = carried (stepMade t (c .step) (c .cut)) t (judgeOf t c)
+abbrev pub advanceOutcome : VoterSlotTable → VoterAdvance → Answer × VoterSlotTable
+advanceOutcome t c = carried (stepMade t (c .step) (c .cut)) t (judgeOf t c)
 
 -- any command on a valid table: the answer and the table
 abbrev pub appliedOf : VoterSlotTable → VoterSlotControl → VoterSlotLogId → Answer × VoterSlotTable

@@ -10,7 +10,7 @@ ghost use Rattle.identity.specs.declared.answer.Answer.the-variants.{Accepted};
 ghost use Rattle.records.specs.Validation.{validate};
 ghost use Rattle.control.specs.Control.{applyControl};
 ghost use Rattle.control.specs.Judgement.{judgeMarker};
-ghost use Rattle.control.specs.Verdicts.{advanceOf, answerOf, appliedOf, checkedOf, entryVerdict, paired, verdictOf};
+ghost use Rattle.control.specs.Verdicts.{advanceOutcome, answerOf, appliedOf, checkedOf, entryVerdict, paired, verdictOf};
 use crate::begin::begin;
 use crate::command::advance_of;
 use crate::command::begin_of;
@@ -28,6 +28,12 @@ use crate::control::VoterAdvance;
 use crate::control::VoterCommand;
 use crate::control::VoterSlotControl;
 use crate::judge::Judged;
+use crate::judge::ROUTE_BEGIN;
+use crate::judge::ROUTE_CAUGHT_UP;
+use crate::judge::ROUTE_CONTINUATION;
+use crate::judge::ROUTE_FENCE;
+use crate::judge::ROUTE_FINALIZE;
+use crate::judge::ROUTE_SNAPSHOT;
 use crate::judge::answer_of;
 use crate::judge::either;
 use crate::judge::judge_advance;
@@ -91,22 +97,22 @@ pub fn apply_control_in_place(t: &mut VoterSlotTable, c: VoterCommand) -> Answer
 {
     let judged = judge_entry(*t, c);
     match route(judged) {
-        1 => {
+        ROUTE_SNAPSHOT => {
             *t = make_snapshot(*t, c);
         }
-        2 => {
+        ROUTE_CAUGHT_UP => {
             *t = make_caught_up(*t, c);
         }
-        3 => {
+        ROUTE_CONTINUATION => {
             *t = make_continuation(*t, c);
         }
-        4 => {
+        ROUTE_FENCE => {
             *t = make_fence(*t, c);
         }
-        5 => {
+        ROUTE_FINALIZE => {
             *t = make_finalize(*t, c);
         }
-        6 => {
+        ROUTE_BEGIN => {
             *t = make_begin(*t, c);
         }
         _ => {}
@@ -155,7 +161,7 @@ fn mark(t: VoterSlotTable, c: VoterCommand) -> Controlled
 // An Advance, by value. The caller has made the tests that `apply_to_valid` names (`valid-advance`).
 pub fn advance(t: VoterSlotTable, c: VoterAdvance) -> Controlled
     requires { ⌜ validate t ≡ Accepted ⌝ }
-    ensures { λ r. ⌜ (r .answer, r .table) ≡ advanceOf t c ⌝ }
+    ensures { λ r. ⌜ (r .answer, r .table) ≡ advanceOutcome t c ⌝ }
 {
     let judged = judge_advance(t, c);
     match judged {
@@ -198,22 +204,22 @@ pub fn apply_in_place(t: &mut VoterSlotTable, c: VoterCommand) -> Answer
 {
     let judged = judge_command(*t, c);
     match route(judged) {
-        1 => {
+        ROUTE_SNAPSHOT => {
             *t = make_snapshot(*t, c);
         }
-        2 => {
+        ROUTE_CAUGHT_UP => {
             *t = make_caught_up(*t, c);
         }
-        3 => {
+        ROUTE_CONTINUATION => {
             *t = make_continuation(*t, c);
         }
-        4 => {
+        ROUTE_FENCE => {
             *t = make_fence(*t, c);
         }
-        5 => {
+        ROUTE_FINALIZE => {
             *t = make_finalize(*t, c);
         }
-        6 => {
+        ROUTE_BEGIN => {
             *t = make_begin(*t, c);
         }
         _ => {}
@@ -224,23 +230,23 @@ pub fn apply_in_place(t: &mut VoterSlotTable, c: VoterCommand) -> Answer
 // `advance` on a table that is lent: the caller has made the same tests.
 pub fn advance_in_place(t: &mut VoterSlotTable, c: VoterAdvance) -> Answer
     requires { ⌜ validate (now t) ≡ Accepted ⌝ }
-    ensures { λ v. ⌜ (v, now (t .exit)) ≡ advanceOf (now (t .entry)) c ⌝ }
+    ensures { λ v. ⌜ (v, now (t .exit)) ≡ advanceOutcome (now (t .entry)) c ⌝ }
 {
     let judged = judge_advance(*t, c);
     match route(judged) {
-        1 => {
+        ROUTE_SNAPSHOT => {
             *t = snapshot_table(*t, c);
         }
-        2 => {
+        ROUTE_CAUGHT_UP => {
             *t = catch_up_table(*t, c);
         }
-        3 => {
+        ROUTE_CONTINUATION => {
             *t = continue_table(*t, c);
         }
-        4 => {
+        ROUTE_FENCE => {
             *t = fence_table(*t, c);
         }
-        5 => {
+        ROUTE_FINALIZE => {
             *t = finalize_table(*t, c);
         }
         _ => {}

@@ -11,9 +11,9 @@ ghost use mathlib.Core.List.{map};
 ghost use Rattle.identity.specs.Answer.{isAccepted};
 ghost use Rattle.identity.specs.declared.answer.Answer.the-variants.{Accepted, IdempotencyConflict};
 ghost use Rattle.records.specs.Equality.{eqBytes};
-ghost use Rattle.records.specs.Successor.{andThen};
+ghost use Rattle.records.specs.Successor.{firstRefusal};
 ghost use Rattle.records.specs.Validation.{validate};
-ghost use Rattle.control.specs.BeginJudge.{beginOf, preparedAt, receiptLeft, slotFrom};
+ghost use Rattle.control.specs.BeginJudge.{beginOutcome, preparedAt, receiptLeft, slotFrom};
 ghost use Rattle.control.specs.Control.{begun, begunSlots, candidateCheck, currentConfiguration, full, fullCheck, isKnown, knownDigest, namedIndex, openCheck, staleCheck};
 ghost use Rattle.control.specs.Judgement.Verdict.{refused};
 ghost use Rattle.control.specs.Judgement.{beginTest, judgeBegin};
@@ -41,6 +41,7 @@ use records::equality::same32;
 use records::evidence::latest_cut;
 use records::evidence::log_id_follows;
 use records::records::FENCED;
+use records::records::MAX_FIXED_VOTER_SLOTS;
 use records::records::PENDING;
 use records::records::PREPARED;
 use records::records::SUPERSEDED;
@@ -56,7 +57,9 @@ use records::records::VoterSlotTable;
 
 // A Begin with the cut at which it is committed: what its judge, its maker and its thin call take.
 pub struct VoterBegin {
+    // The request.
     pub request: VoterReplacementRequest,
+    // Engine cut of the command.
     pub cut: VoterSlotLogId,
 }
 
@@ -85,8 +88,8 @@ fn or_refuse(answer: Answer, next: Judged) -> Judged
     Judged::Refuse(answer)
 }
 
-fn and_then(answer: Answer, next: Answer) -> Answer
-    ensures { λ a. ⌜ a ≡ andThen answer next ⌝ }
+fn first_refusal(answer: Answer, next: Answer) -> Answer
+    ensures { λ a. ⌜ a ≡ firstRefusal answer next ⌝ }
 {
     if accepted(answer) {
         return next;
@@ -123,14 +126,14 @@ fn begin_check(
     cut: VoterSlotLogId,
     valid: Answer,
 ) -> Answer
-    ensures { λ a. ⌜ a ≡ andThen (openCheck t r cut) (andThen valid (andThen (staleCheck t r) (andThen (candidateCheck t r) (fullCheck t)))) ⌝ }
+    ensures { λ a. ⌜ a ≡ firstRefusal (openCheck t r cut) (firstRefusal valid (firstRefusal (staleCheck t r) (firstRefusal (candidateCheck t r) (fullCheck t)))) ⌝ }
 {
     let open = open_check(t, r, cut);
     let slot = slot_check(t, r);
     let full = full_check(t);
-    let last = and_then(slot, full);
-    let rest = and_then(valid, last);
-    and_then(open, rest)
+    let last = first_refusal(slot, full);
+    let rest = first_refusal(valid, last);
+    first_refusal(open, rest)
 }
 
 // The open request against the one that is to supersede it: 15, 19, 25.
@@ -220,7 +223,7 @@ pub fn begin_table(t: VoterSlotTable, b: VoterBegin) -> VoterSlotTable
 
 // The first slot of that number gets the candidate. (Found here and not by `slot_index`, so that the
 // slots are copied once.)
-fn begun_slots(t: VoterSlotTable, b: VoterBegin) -> [VoterSlotRecord; 9]
+fn begun_slots(t: VoterSlotTable, b: VoterBegin) -> [VoterSlotRecord; MAX_FIXED_VOTER_SLOTS]
     requires { ⌜ (t .revision ≡ full → ⊥) × ((t .count ≤ 9) × (namedIndex t (b .request) < t .count)) ⌝ }
     ensures { λ l. ⌜ l ≡ begunSlots t (b .request) (b .cut) ⌝ }
 {
@@ -300,13 +303,15 @@ fn current_configuration(t: VoterSlotTable) -> VoterConfiguration
     }
 }
 
-fn members_of(slots: [VoterSlotRecord; 9]) -> [VoterSlotMember; 9]
+fn members_of(
+    slots: [VoterSlotRecord; MAX_FIXED_VOTER_SLOTS],
+) -> [VoterSlotMember; MAX_FIXED_VOTER_SLOTS]
     ensures { λ l. ⌜ l ≡ map (λ s. s .member) slots ⌝ }
 {
     let blank = blank_voter_slot_member();
-    let mut members = [blank; 9];
+    let mut members = [blank; MAX_FIXED_VOTER_SLOTS];
     let mut i: usize = 0;
-    while i < 9 {
+    while i < MAX_FIXED_VOTER_SLOTS {
         let slot = slots[i];
         let member = slot.member;
         members[i] = member;
@@ -338,7 +343,7 @@ fn prepared_at(cut: VoterSlotLogId) -> VoterReplacementEvidence
 // representable (`checkedOf` accepted); then the answer is `applyControl`'s (`valid-begin`).
 pub fn begin(t: VoterSlotTable, b: VoterBegin) -> Controlled
     requires { ⌜ validate t ≡ Accepted ⌝ }
-    ensures { λ r. ⌜ (r .answer, r .table) ≡ beginOf t b ⌝ }
+    ensures { λ r. ⌜ (r .answer, r .table) ≡ beginOutcome t b ⌝ }
 {
     let judged = judge_begin(t, b);
     let answer = answer_of(judged);
@@ -352,11 +357,11 @@ pub fn begin(t: VoterSlotTable, b: VoterBegin) -> Controlled
 // `begin` on a table that is lent: the caller has made the same tests.
 pub fn begin_in_place(t: &mut VoterSlotTable, b: VoterBegin) -> Answer
     requires { ⌜ validate (now t) ≡ Accepted ⌝ }
-    ensures { λ v. ⌜ (v, now (t .exit)) ≡ beginOf (now (t .entry)) b ⌝ }
+    ensures { λ v. ⌜ (v, now (t .exit)) ≡ beginOutcome (now (t .entry)) b ⌝ }
 {
     let judged = judge_begin(*t, b);
     match route(judged) {
-        6 => {
+        ROUTE_BEGIN => {
             *t = begin_table(*t, b);
         }
         _ => {}

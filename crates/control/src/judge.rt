@@ -10,7 +10,7 @@ ghost use mathlib.Core.Path.{_≡_};
 ghost use mathlib.Core.Bool.{cond, false, not, _||_};
 ghost use Rattle.identity.specs.declared.answer.Answer.the-variants.{InvalidTransition};
 ghost use Rattle.records.specs.Equality.{eqBytes};
-ghost use Rattle.records.specs.Evidence.{follows, validBeside};
+ghost use Rattle.records.specs.Evidence.{follows, inOrder};
 ghost use Rattle.records.specs.With.{present};
 ghost use Rattle.control.specs.Control.{isCompleted, isReceiptOf};
 ghost use Rattle.control.specs.Judgement.Verdict.{kept, refused};
@@ -28,13 +28,14 @@ use records::equality::same_voter_slot_log_id;
 use records::equality::same_voter_snapshot_evidence;
 use records::equality::same16;
 use records::equality::same32;
-use records::evidence::is_valid_beside;
+use records::evidence::is_in_order;
 use records::evidence::is_valid_snapshot_id;
 use records::evidence::log_id_follows;
 use records::records::CAUGHT_UP;
 use records::records::COMPLETED;
 use records::records::FENCED;
 use records::records::LEARNER_ADDED;
+use records::records::MAX_FIXED_VOTER_SLOTS;
 use records::records::OptionalLogId;
 use records::records::PREPARED;
 use records::records::UNIFORM;
@@ -108,21 +109,34 @@ pub fn answer_of(judged: Judged) -> Answer
     }
 }
 
-// The number of the table that a Begin makes.
+// The number of the table that a command makes.
+pub const ROUTE_SNAPSHOT: u64 = 1;
+
+pub const ROUTE_CAUGHT_UP: u64 = 2;
+
+pub const ROUTE_CONTINUATION: u64 = 3;
+
+pub const ROUTE_FENCE: u64 = 4;
+
+pub const ROUTE_FINALIZE: u64 = 5;
+
 pub const ROUTE_BEGIN: u64 = 6;
 
-// Which table is to be made, 0 for none: a thin call goes by this number.
+// No table is made.
+pub const ROUTE_NONE: u64 = 0;
+
+// Which table is to be made: a thin call goes by this number.
 pub fn route(judged: Judged) -> u64
     ensures { λ r. ⌜ r ≡ routeOf (verdictOf judged) ⌝ }
 {
     match judged {
-        Judged::Refuse(_) => 0,
-        Judged::Keep => 0,
-        Judged::RecordSnapshot => 1,
-        Judged::RecordCaughtUp => 2,
-        Judged::Continue => 3,
-        Judged::Fence => 4,
-        Judged::Finalize => 5,
+        Judged::Refuse(_) => ROUTE_NONE,
+        Judged::Keep => ROUTE_NONE,
+        Judged::RecordSnapshot => ROUTE_SNAPSHOT,
+        Judged::RecordCaughtUp => ROUTE_CAUGHT_UP,
+        Judged::Continue => ROUTE_CONTINUATION,
+        Judged::Fence => ROUTE_FENCE,
+        Judged::Finalize => ROUTE_FINALIZE,
         Judged::Begin => ROUTE_BEGIN,
     }
 }
@@ -183,7 +197,7 @@ fn is_completed(t: VoterSlotTable, id: [u8; 16], digest: [u8; 32]) -> bool
 {
     let mut none = true;
     let mut i: usize = 0;
-    while i < 9 {
+    while i < MAX_FIXED_VOTER_SLOTS {
         let slot = t.slots[i];
         let receipt = is_receipt_of(slot, id, digest);
         none = none & ((t.count <= i) | !receipt);
@@ -263,11 +277,11 @@ pub fn fits_continuation(
     cut: VoterSlotLogId,
     is_snapshot: bool,
 ) -> bool
-    ensures { λ r. ⌜ r ≡ (not (continuation .«is_some») || validBeside (continuation .cut) (present cut) «is_snapshot») ⌝ }
+    ensures { λ r. ⌜ r ≡ (not (continuation .«is_some») || inOrder (continuation .cut) (present cut) «is_snapshot») ⌝ }
 {
     let continued = continuation.cut;
     let added = OptionalLogId { is_some: true, cut };
-    let fits = is_valid_beside(continued, added, is_snapshot);
+    let fits = is_in_order(continued, added, is_snapshot);
     !continuation.is_some | fits
 }
 
@@ -312,9 +326,9 @@ fn judge_continuation(t: VoterSlotTable, cut: VoterSlotLogId) -> Judged
     };
     let learner = t.replacement.evidence.learner;
     let caught_up = t.replacement.evidence.caught_up;
-    let fits_snapshot = is_valid_beside(cut, snapshot, true);
-    let fits_learner = is_valid_beside(cut, learner, false);
-    let fits_caught_up = is_valid_beside(cut, caught_up, false);
+    let fits_snapshot = is_in_order(cut, snapshot, true);
+    let fits_learner = is_in_order(cut, learner, false);
+    let fits_caught_up = is_in_order(cut, caught_up, false);
     let change = change_if(
         fits_snapshot & (fits_learner & fits_caught_up),
         Judged::Continue,

@@ -23,6 +23,7 @@ ghost use Rattle.control.specs.Judgement.Verdict.{refused};
 ghost use Rattle.control.specs.Observation.{isObsolete, memberIndex, observeMembership, see, seePhase, splitSets, total};
 ghost use Rattle.control.specs.ObserveSight.{Room, Supplied, answerOfObserved, confirmed, entryWeighed, fewMembers, isChange, judgeClosed, judgeKnown, judgeMembers, judgeSeen, judgeSets, lingersAs, routeOfObserved, seenBy, seenOf, seenOld, sightOf, testsOf, verdictOfObserved, weighed};
 use crate::apply::Controlled;
+use crate::judge::ROUTE_NONE;
 use crate::sets::NO_ID;
 use crate::sets::add_up;
 use crate::sets::are_held;
@@ -42,12 +43,13 @@ use identity::answer::Answer;
 use identity::answer::accepted;
 use identity::identity::VoterSlotIdentity;
 use identity::identity::VoterSlotIdentityResult;
-use records::evidence::is_valid_beside;
+use records::evidence::is_in_order;
 use records::evidence::log_id_follows;
 use records::records::CATCHING_UP;
 use records::records::FENCED;
 use records::records::JOINT;
 use records::records::LEARNER_ADDED;
+use records::records::MAX_FIXED_VOTER_SLOTS;
 use records::records::OptionalLogId;
 use records::records::SNAPSHOT_INSTALLED;
 use records::records::UNIFORM;
@@ -61,10 +63,15 @@ use records::validation::validate_representable;
 
 // What sets and nodes are to the open request.
 pub enum Seen {
+    // Not what this phase allows.
     Strange,
+    // What this phase has already.
     NothingNew,
+    // The learner was added.
     NewLearner,
+    // The joint membership.
     NewJoint,
+    // The successor's membership alone.
     NewUniform,
 }
 
@@ -79,11 +86,17 @@ pub enum Observed {
 
 // The tests of the sets and the nodes.
 pub struct SetTests {
+    // The successor has no id that the predecessor lacks.
     pub no_candidate: bool,
+    // The one set is the predecessor's.
     pub is_old: bool,
+    // The phase and the nodes fit the predecessor's set.
     pub fits_old: bool,
+    // The candidate is among the nodes.
     pub has_candidate: bool,
+    // The sets are the predecessor's and the successor's, and the nodes fit them.
     pub is_joint: bool,
+    // The one set is the successor's, and so are the nodes.
     pub is_new: bool,
 }
 
@@ -294,8 +307,8 @@ fn is_learner_cut(t: VoterSlotTable, cut: VoterSlotLogId) -> bool
     let own = continuation.cut;
     let other = OptionalLogId { is_some: true, cut };
     let later = log_id_follows(cut, snapshot, false);
-    let beside = is_valid_beside(own, other, false);
-    later & (!continuation.is_some | beside)
+    let in_order = is_in_order(own, other, false);
+    later & (!continuation.is_some | in_order)
 }
 
 fn is_joint_cut(t: VoterSlotTable, cut: VoterSlotLogId) -> bool
@@ -322,8 +335,8 @@ fn slot_place(t: VoterSlotTable, slot: u16) -> usize
     requires { ⌜ t .count ≤ 9 ⌝ }
     ensures { λ r. ⌜ r ≡ slotIndex t slot ⌝ }
 {
-    let mut at: usize = 9;
-    let mut i: usize = 9;
+    let mut at: usize = MAX_FIXED_VOTER_SLOTS;
+    let mut i: usize = MAX_FIXED_VOTER_SLOTS;
     while 0 < i {
         i -= 1;
         if (t.count <= i) | (t.slots[i].member.identity.slot == slot) {
@@ -339,7 +352,7 @@ fn phase_at(t: VoterSlotTable, at: usize) -> u8
 {
     let mut phase = 0;
     let mut i: usize = 0;
-    while i < 9 {
+    while i < MAX_FIXED_VOTER_SLOTS {
         if i == at {
             phase = t.slots[i].phase;
         }
@@ -354,7 +367,7 @@ fn with_phase(t: VoterSlotTable, at: usize, phase: u8) -> VoterSlotTable
 {
     let mut u = t;
     let mut i: usize = 0;
-    while i < 9 {
+    while i < MAX_FIXED_VOTER_SLOTS {
         if i == at {
             u.slots[i].phase = phase;
         }
@@ -440,7 +453,8 @@ fn has_few_members(t: VoterSlotTable) -> bool
 {
     let old = t.replacement.predecessor.count;
     let new = t.replacement.successor.count;
-    (t.count <= 9) & (!t.has_replacement | ((old <= 9) & (new <= 9)))
+    (t.count <= MAX_FIXED_VOTER_SLOTS)
+        & (!t.has_replacement | ((old <= MAX_FIXED_VOTER_SLOTS) & (new <= MAX_FIXED_VOTER_SLOTS)))
 }
 
 // The verdict. On a table not known to be valid a change still needs `confirm`.
@@ -473,14 +487,14 @@ fn confirm(t: VoterSlotTable, judged: Observed) -> Observed
     requires { ⌜ t .count ≤ 9 ⌝ }
     ensures { λ r. ⌜ verdictOfObserved r ≡ confirmed (isAccepted (validity t)) (verdictOfObserved judged) ⌝ }
 {
-    if route(judged) == 0 {
+    if route_of_observed(judged) == ROUTE_NONE {
         return judged;
     }
     let valid = accepted(validate_representable(t));
     accept_if(valid, judged)
 }
 
-pub fn answer_of(judged: Observed) -> Answer
+pub fn answer_of_observed(judged: Observed) -> Answer
     ensures { λ r. ⌜ r ≡ answerOfObserved (verdictOfObserved judged) ⌝ }
 {
     match judged {
@@ -492,16 +506,23 @@ pub fn answer_of(judged: Observed) -> Answer
     }
 }
 
-// Which table is to be made; 0 for none.
-pub fn route(judged: Observed) -> u64
+// The number of the table that an observation makes.
+pub const ROUTE_LEARNER: u64 = 1;
+
+pub const ROUTE_JOINT: u64 = 2;
+
+pub const ROUTE_UNIFORM: u64 = 3;
+
+// Which table is to be made.
+pub fn route_of_observed(judged: Observed) -> u64
     ensures { λ r. ⌜ r ≡ routeOfObserved (verdictOfObserved judged) ⌝ }
 {
     match judged {
-        Observed::Refuse(_) => 0,
-        Observed::Keep => 0,
-        Observed::AddLearner => 1,
-        Observed::AddJoint => 2,
-        Observed::AddUniform => 3,
+        Observed::Refuse(_) => ROUTE_NONE,
+        Observed::Keep => ROUTE_NONE,
+        Observed::AddLearner => ROUTE_LEARNER,
+        Observed::AddJoint => ROUTE_JOINT,
+        Observed::AddUniform => ROUTE_UNIFORM,
     }
 }
 
@@ -644,19 +665,19 @@ pub fn observe_membership_in_place(
     ensures { λ b. ⌜ (b, now (t .exit)) ≡ observeMembership (now (t .entry)) (now (sets .entry)) (now (counts .entry)) (now (nodes .entry)) cut ⌝ }
 {
     let judged = weigh_entry(*t, sets, counts, nodes, cut);
-    match route(judged) {
-        1 => {
+    match route_of_observed(judged) {
+        ROUTE_LEARNER => {
             *t = learner_table(*t, cut);
         }
-        2 => {
+        ROUTE_JOINT => {
             *t = joint_table(*t, cut);
         }
-        3 => {
+        ROUTE_UNIFORM => {
             *t = uniform_table(*t, cut);
         }
         _ => {}
     }
-    answer_of(judged)
+    answer_of_observed(judged)
 }
 
 // An observation of a table that is lent and known to be valid.
@@ -671,17 +692,17 @@ pub fn observe_in_place(
     ensures { λ v. ⌜ (v, now (t .exit)) ≡ observeMembership (now (t .entry)) (now (sets .entry)) (now (counts .entry)) (now (nodes .entry)) cut ⌝ }
 {
     let judged = weigh(*t, sets, counts, nodes, cut);
-    match route(judged) {
-        1 => {
+    match route_of_observed(judged) {
+        ROUTE_LEARNER => {
             *t = learner_table(*t, cut);
         }
-        2 => {
+        ROUTE_JOINT => {
             *t = joint_table(*t, cut);
         }
-        3 => {
+        ROUTE_UNIFORM => {
             *t = uniform_table(*t, cut);
         }
         _ => {}
     }
-    answer_of(judged)
+    answer_of_observed(judged)
 }

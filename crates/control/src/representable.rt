@@ -1,5 +1,5 @@
-// The test for 30 of a command: whether the Rust types can hold it, and whether the parts that its
-// kind does not use are zero.
+// The representability check of a command: whether the Rust types can hold it, and whether the parts
+// that its kind does not use are zero.
 //
 // There is no such test in the original, whose types rule these values out. It is made after the
 // types of crates/opc-consensus/src/voter_slots/control.rs of openpacketcore-sdk, commit 717de332e7,

@@ -7,7 +7,7 @@
 // places, from the last to the first, and a place found later takes the place of one found before.
 ghost use mathlib.Core.Path.{_≡_};
 ghost use mathlib.Core.Bool.{cond};
-ghost use Rattle.records.specs.Successor.{andThen};
+ghost use Rattle.records.specs.Successor.{firstRefusal};
 ghost use Rattle.records.specs.Validation.{validAttestation};
 ghost use Rattle.control.specs.Control.{candidateCheck, currentConfiguration, isExpected, requestCheck, staleCheck, validRequest};
 ghost use Rattle.control.specs.BeginJudge.{attestedMember, hasDigest, hasReceipt, namedOf, newerThan, receiptState};
@@ -17,6 +17,8 @@ use records::blank::blank_voter_slot_member;
 use records::equality::same16;
 use records::equality::same32;
 use records::number::is_next;
+use records::records::MAX_FIXED_VOTER_SLOTS;
+use records::records::MIN_REPLACEMENT_SLOTS;
 use records::records::UNIFORM;
 use records::records::VoterSlotMember;
 use records::records::VoterSlotRecord;
@@ -75,22 +77,24 @@ fn are_valid_claims(r: VoterReplacementRequest) -> bool
     ensures { λ a. ⌜ a ≡ validAttestation (r .attestation) ⌝ }
 {
     let candidate = r.attestation.candidate_spiffe_id.bytes;
-    let t1 = is_valid_spiffe_id(r.attestation.candidate_spiffe_id.len, candidate);
+    let candidate_valid = is_valid_spiffe_id(r.attestation.candidate_spiffe_id.len, candidate);
     let controller = r.attestation.controller_spiffe_id.bytes;
-    let t2 = is_valid_spiffe_id(r.attestation.controller_spiffe_id.len, controller);
-    let t3 = are_valid_times(
+    let controller_valid = is_valid_spiffe_id(r.attestation.controller_spiffe_id.len, controller);
+    let times_valid = are_valid_times(
         r.attestation.admission_generation,
         r.attestation.observation_start_ms,
         r.attestation.decision_ms,
         r.attestation.issued_ms,
         r.attestation.expires_ms,
     );
-    t1 & (t2 & t3)
+    candidate_valid & (controller_valid & times_valid)
 }
 
-// Whether a slot has a receipt of that request; and whether the first one has that digest.
+// What the slots' receipts say of a request.
 pub struct Receipt {
+    // A slot has a receipt of that request.
     pub found: bool,
+    // The first such receipt has that digest.
     pub same: bool,
 }
 
@@ -99,7 +103,7 @@ pub fn find_receipt(t: VoterSlotTable, id: [u8; 16], digest: [u8; 32]) -> Receip
 {
     let mut found = false;
     let mut same = false;
-    let mut i: usize = 9;
+    let mut i: usize = MAX_FIXED_VOTER_SLOTS;
     while 0 < i {
         i -= 1;
         let slot = t.slots[i];
@@ -130,7 +134,7 @@ fn has_digest(slot: VoterSlotRecord, digest: [u8; 32]) -> bool
 // The request was made for this table, 13; there are three slots, 16; and its candidate is newer
 // than the slot's member, 12.
 pub fn slot_check(t: VoterSlotTable, r: VoterReplacementRequest) -> Answer
-    ensures { λ a. ⌜ a ≡ andThen (staleCheck t r) (candidateCheck t r) ⌝ }
+    ensures { λ a. ⌜ a ≡ firstRefusal (staleCheck t r) (candidateCheck t r) ⌝ }
 {
     let named = named_member(t, r.attestation.slot);
     let member = named.member;
@@ -143,13 +147,19 @@ pub fn slot_check(t: VoterSlotTable, r: VoterReplacementRequest) -> Answer
     let current = named.found
         & ((t.revision == r.expected_revision) & (expected & (same_cluster & attested)));
     let fits = answer_by(newer, Answer::Accepted, Answer::InvalidLossEvidence);
-    let enough = answer_by(3 <= t.count, fits, Answer::NoSurvivingQuorum);
+    let enough = answer_by(
+        MIN_REPLACEMENT_SLOTS <= t.count,
+        fits,
+        Answer::NoSurvivingQuorum,
+    );
     answer_by(current, enough, Answer::StaleIncarnation)
 }
 
-// The member of the first slot of that number, or a blank.
+// The first slot of a number.
 pub struct Named {
+    // There is such a slot.
     pub found: bool,
+    // Its member, or a blank.
     pub member: VoterSlotMember,
 }
 
@@ -158,7 +168,7 @@ fn named_member(t: VoterSlotTable, number: u16) -> Named
 {
     let mut found = false;
     let mut member = blank_voter_slot_member();
-    let mut i: usize = 9;
+    let mut i: usize = MAX_FIXED_VOTER_SLOTS;
     while 0 < i {
         i -= 1;
         let slot = t.slots[i];
@@ -185,12 +195,12 @@ fn is_expected(t: VoterSlotTable, r: VoterReplacementRequest) -> bool
 {
     let cluster = t.cluster_instance;
     let expected_cluster = r.expected_configuration.cluster_id;
-    let t1 = same32(cluster, expected_cluster);
+    let same_cluster = same32(cluster, expected_cluster);
     let id = r.supplied_configuration_id;
     let expected_id = r.expected_configuration.configuration_id;
-    let t2 = same32(id, expected_id);
+    let same_id = same32(id, expected_id);
     let epoch = current_epoch(t);
-    (t1 & t2) & (epoch == r.expected_configuration.configuration_epoch)
+    (same_cluster & same_id) & (epoch == r.expected_configuration.configuration_epoch)
 }
 
 // The epoch of the current configuration.

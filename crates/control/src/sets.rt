@@ -16,6 +16,7 @@ ghost use Rattle.control.specs.ObserveSets.{areTwoSets, firstOf, isOneSe
 use identity::identity::CONSENSUS_NODE_ID_MAX;
 use identity::identity::NumberResult;
 use identity::identity::VoterSlotIdentity;
+use records::records::MAX_FIXED_VOTER_SLOTS;
 use records::records::VoterConfiguration;
 use records::records::VoterSlotTable;
 
@@ -210,12 +211,12 @@ fn id_of(slot: u16, incarnation: u64) -> u64
 }
 
 // `member_ids` in the order of the nine places; the caller lends those in use.
-pub fn ids_of(c: VoterConfiguration) -> [u64; 9]
+pub fn ids_of(c: VoterConfiguration) -> [u64; MAX_FIXED_VOTER_SLOTS]
     ensures { λ r. ⌜ r ≡ listed c 9 ⌝ }
 {
-    let mut ids = [0; 9];
+    let mut ids = [0; MAX_FIXED_VOTER_SLOTS];
     let mut i: usize = 0;
-    while i < 9 {
+    while i < MAX_FIXED_VOTER_SLOTS {
         let id = id_of(
             c.members[i].identity.slot,
             c.members[i].identity.incarnation,
@@ -227,12 +228,12 @@ pub fn ids_of(c: VoterConfiguration) -> [u64; 9]
 }
 
 // The same of the slots.
-pub fn ids_of_slots(t: VoterSlotTable) -> [u64; 9]
+pub fn ids_of_slots(t: VoterSlotTable) -> [u64; MAX_FIXED_VOTER_SLOTS]
     ensures { λ r. ⌜ r ≡ listed (slotMembers t) 9 ⌝ }
 {
-    let mut ids = [0; 9];
+    let mut ids = [0; MAX_FIXED_VOTER_SLOTS];
     let mut i: usize = 0;
-    while i < 9 {
+    while i < MAX_FIXED_VOTER_SLOTS {
         let id = id_of(
             t.slots[i].member.identity.slot,
             t.slots[i].member.identity.incarnation,

@@ -58,7 +58,7 @@ smallest =
 
 -- ---- the largest: the request replaces slot 1, in its third incarnation, and is past its last step
 
--- the slots behind slot 1
+-- the slots after slot 1
 abbrev pub others : {A : Type 0} → (ℕ → A) → List A
 others f = f 2 ∷ f 3 ∷ f 4 ∷ f 5 ∷ f 6 ∷ f 7 ∷ f 8 ∷ f 9 ∷ []
 

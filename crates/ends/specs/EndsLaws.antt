@@ -8,11 +8,11 @@ use mathlib.Core.List.{_∷_}
 use lib.ListN.{length, replicate}
 use lib.Dec.{lit<}
 use Rattle.identity.specs.Text.{scheme, isIn, startsWith, isName, isSnapshotId, isUtf8, every}
-use Rattle.identity.specs.Utf8.{fits, widthIn, decoded, charsFrom, allChars}
+use Rattle.identity.specs.Utf8.{fits, widthIn, decodedChar, charsFrom, allChars}
 use Rattle.identity.specs.declared.answer.Answer.the-variants.{Accepted}
 use Rattle.records.specs.Blank.{blankVoterSlotIdentity, blankSpiffeId, blankSnapshotId, blankVoterSlotLogId, blankOptionalLogId, blankVoterSlotMember, blankVoterReplacementResult, blankVoterSlotRecord, blankVoterSnapshotEvidence, blankVoterConfiguration, blankLostVoterAttestationV1, blankVoterReplacementEvidence, blankVoterReplacementRecord}
 use Rattle.records.specs.Equality.{allTrue, eqList, sameVoterSlotIdentity, sameSpiffeId, sameSnapshotId, sameVoterSlotLogId, sameOptionalLogId, sameVoterSlotMember, sameVoterReplacementResult, sameVoterSlotRecord, sameVoterSnapshotEvidence, sameVoterConfiguration, sameLostVoterAttestationV1, sameVoterReplacementEvidence, sameVoterReplacementRecord}
-use Rattle.records.specs.Evidence.{follows, validStage, stageOr, validStages, validBeside, validContinuation, validEvidence}
+use Rattle.records.specs.Evidence.{follows, validStage, stageOr, validStages, inOrder, validContinuation, validEvidence}
 use Rattle.records.specs.Held.{AllOf, HeldArray, Byte, HeldBytes, HeldSpiffeId, HeldOptionalLogId, HeldVoterSlotMember, HeldVoterReplacementResult, HeldVoterSlotRecord, HeldVoterConfiguration, HeldLostVoterAttestationV1, HeldVoterReplacementEvidence, HeldVoterSlotTable}
 use Rattle.records.specs.HeldParts.{all-replicate, held-replicate, all-append, zeros-held, blank-result-held, blank-slot-held, blank-replacement-held}
 use Rattle.records.specs.Records.{allBelow}
@@ -27,11 +27,11 @@ use Rattle.ends.specs.Ends.{memberOf, cut, smallest, others, receiptOf, 
 use Rattle.records.specs.declared.records.VoterSlotTable.{VoterSlotTable}
 
 pub smallest-valid : validate smallest ≡ Accepted
-unfolding smallest isIn startsWith isName fits widthIn decoded charsFrom allChars eqList allTrue sameVoterSlotIdentity sameSpiffeId sameSnapshotId sameVoterSlotLogId sameOptionalLogId sameVoterSlotMember sameVoterReplacementResult sameVoterSlotRecord sameVoterSnapshotEvidence sameVoterConfiguration sameLostVoterAttestationV1 sameVoterReplacementEvidence sameVoterReplacementRecord blankVoterSlotIdentity blankSpiffeId blankSnapshotId blankVoterSlotLogId blankOptionalLogId blankVoterSlotMember blankVoterReplacementResult blankVoterSlotRecord blankVoterSnapshotEvidence blankVoterConfiguration blankLostVoterAttestationV1 blankVoterReplacementEvidence blankVoterReplacementRecord allBelow representableMember representableResult representableSlotRecord representable validResult validSlot validSlots validity validate
+unfolding smallest isIn startsWith isName fits widthIn decodedChar charsFrom allChars eqList allTrue sameVoterSlotIdentity sameSpiffeId sameSnapshotId sameVoterSlotLogId sameOptionalLogId sameVoterSlotMember sameVoterReplacementResult sameVoterSlotRecord sameVoterSnapshotEvidence sameVoterConfiguration sameLostVoterAttestationV1 sameVoterReplacementEvidence sameVoterReplacementRecord blankVoterSlotIdentity blankSpiffeId blankSnapshotId blankVoterSlotLogId blankOptionalLogId blankVoterSlotMember blankVoterReplacementResult blankVoterSlotRecord blankVoterSnapshotEvidence blankVoterConfiguration blankLostVoterAttestationV1 blankVoterReplacementEvidence blankVoterReplacementRecord allBelow representableMember representableResult representableSlotRecord representable validResult validSlot validSlots validity validate
 smallest-valid = refl
 
 pub largest-valid : validate largest ≡ Accepted
-unfolding largest isText isIn startsWith isName isSnapshotId isUtf8 every fits widthIn decoded charsFrom allChars eqList allTrue sameVoterSlotIdentity sameVoterSlotLogId sameVoterSlotMember allBelow representableOptionalLogId representableMember representableResult representableSlotRecord representableConfiguration representableAttestation representableEvidence representableReplacement representable follows validStage stageOr validStages validBeside validContinuation validEvidence validConfiguration validAttestation validResult validSlot validSlots validOperationHead isCurrentEpoch validOperation retiredMember validTarget validateMember validateMembers validateOperation validity validate
+unfolding largest isText isIn startsWith isName isSnapshotId isUtf8 every fits widthIn decodedChar charsFrom allChars eqList allTrue sameVoterSlotIdentity sameVoterSlotLogId sameVoterSlotMember allBelow representableOptionalLogId representableMember representableResult representableSlotRecord representableConfiguration representableAttestation representableEvidence representableReplacement representable follows validStage stageOr validStages inOrder validContinuation validEvidence validConfiguration validAttestation validResult validSlot validSlots validOperationHead isCurrentEpoch validOperation retiredMember validTarget validateMember validateMembers validateOperation validity validate
 largest-valid = refl
 
 -- ---- what the types hold

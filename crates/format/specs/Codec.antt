@@ -22,7 +22,7 @@ pub record Codec (A : Type 0) : Type 1 where
   pub Good : A → Type 0
   pub enc : A → List ℕ
   pub dec : List ℕ → Res A
-  -- what is written is read back, whatever stands behind it
+  -- what is written is read back, whatever comes after it
   pub back : (a : A) (rest : List ℕ) → Good a → dec (enc a ++ rest) ≡ ok a (length (enc a))
   -- no more is read than there is
   pub within : (bs : List ℕ) {a : A} {n : ℕ} → dec bs ≡ ok a n → n ≤ length bs

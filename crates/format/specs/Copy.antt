@@ -1,4 +1,4 @@
--- A copy into a place of its own from the front: the first i are the source's, and behind them stands what stood there.
+-- A copy into a place of its own from the front: the first i are the source's, and after them is what was there before.
 -- Assumes nothing.
 use Prim.Native.Nat.{ℕ, zero, suc, _+_, _-_, _≤_, _<_}
 use native.Mathlib.Nat.{le-of-suc-le-suc, not-suc-le-zero}

@@ -1,4 +1,4 @@
--- A list of n values of one form, one after the other; and a list in a place of fixed size, with blanks behind.
+-- A list of n values of one form, one after the other; and a list in a place of fixed size, with blanks after it.
 -- Assumes nothing.
 use Prim.Native.Nat.{ℕ, zero, suc, _+_, _-_, _≤_, _<_}
 use native.Mathlib.Omega.{arith}
@@ -108,7 +108,7 @@ module _ {A : Type 0} (C : Codec A) (blank : A) where
   unfolding vec
   vec-long n l g = g .0
 
--- n values in a place of k, with blanks behind
+-- n values in a place of k, with blanks after them
 module _ {A : Type 0} (C : Codec (List A)) (n k : ℕ) (blank : A) (long : (l : List A) → C .Good l → length l ≡ n) where
   abbrev pub pad : List A → List A
   pad l = l ++ replicate (k - n) blank
@@ -158,7 +158,7 @@ unfoldable pub either : {A : Type 0} → Bool → Codec A → Codec A → Codec 
 either true C D = C
 either false C D = D
 
--- a yes or no, and behind a yes the value; behind a no stands the blank
+-- a yes or no, and after a yes the value; a no stands for the blank
 unfoldable pub opt : {A : Type 0} → Codec A → A → Codec (Bool × A)
 opt C blank = dep flag (λ t. either t C (always blank))
 

@@ -21,7 +21,7 @@ unfoldable pub be : ℕ → ℕ → List ℕ
 be zero x = []
 be (suc k) x = be k (x / 256) ++ (x % 256 ∷ [])
 
--- the number that the bytes are, the highest first, behind a number a
+-- the number that the bytes are, the highest first, after a number a
 unfoldable pub val : ℕ → List ℕ → ℕ
 val a [] = a
 val a (b ∷ bs) = val (a * 256 + b) bs

@@ -12,7 +12,7 @@ use lib.Seq.{drop-cons, getD-set-same, drop-set-lt, take-length, paste, length-t
 unfoldable pub put : List ℕ → ℕ → List ℕ → List ℕ
 put e at xs = take at xs ++ (e ++ drop (at + length e) xs)
 
--- e was written at `at`: xs is what stood there before and ys what stands there now, and r is the place behind e
+-- e was written at `at`: xs is what stood there before and ys what stands there now, and r is the place after e
 pub record Put (e : List ℕ) (at : ℕ) (xs ys : List ℕ) (r : ℕ) : Type 0 where
   pub next : r ≡ at + length e
   pub bytes : ys ≡ put e at xs

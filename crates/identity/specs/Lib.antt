@@ -6,3 +6,4 @@ pub mod Utf8
 pub mod Utf8Laws
 pub mod Text
 pub mod TextLaws
+pub mod Conditions

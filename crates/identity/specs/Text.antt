@@ -6,6 +6,7 @@ use mathlib.Core.Bool.{Bool, true, false, cond, not, _&&_, _||_}
 use mathlib.Core.List.{List, [], _∷_}
 use lib.ListN.{length, drop}
 use lib.Dec.{eqb, leb, ltb}
+use Rattle.identity.specs.Conditions.{_and_}
 use Rattle.identity.specs.Utf8.{allChars}
 use Rattle.identity.specs.declared.text.Allowed.{Allowed}
 use Rattle.identity.specs.declared.text.Allowed.the-variants.{Any, NoControl, NoControlNoWhitespace}
@@ -69,7 +70,8 @@ maxSnapshotIdBytes = 256
 unfoldable pub isName : List ℕ → Bool
 isName s =
     (leb 10 (length s) && leb (length s) maxSpiffeIdBytes)
-    && (startsWith s scheme && allChars (allows NoControlNoWhitespace) s)
+    and startsWith s scheme
+    and allChars (allows NoControlNoWhitespace) s
 
 -- "A snapshot id is 1 to 256 bytes without control characters; spaces may stand in it."
 unfoldable pub isSnapshotId : List ℕ → Bool
@@ -118,7 +120,7 @@ areStrictParts (domain ∷ segments) = isTrustDomain domain && allSegments segme
 
 -- "At most 2,048 bytes in all: `spiffe://`, then a trust domain .., then no or more segments"
 unfoldable pub isStrictName : List ℕ → Bool
-isStrictName s = leb (length s) maxSpiffeIdBytes && (startsWith s scheme && areStrictParts (split (drop (length scheme) s)))
+isStrictName s = leb (length s) maxSpiffeIdBytes and startsWith s scheme and areStrictParts (split (drop (length scheme) s))
 
 -- The part of a strict name that is being read, and one byte more: the inner function `next_part`, by which a strict name is judged in one pass. A slash
 -- ends a part, which must not be empty; any other byte must be one of those that the part may hold, and a trust domain holds 255 at most.

@@ -12,7 +12,7 @@ use lib.Seq.{drop-cons}
 use lib.Dec.{eqb, leb, ltb}
 use borrow.Author.Tests.{not-true, ltb-true, ltb-false, lt-ltb, leb-true, le-leb, lt-leb, ne-eqb}
 use Rattle.identity.specs.Utf8.{Range, octets, within, charsFrom, allChars}
-use Rattle.identity.specs.Utf8Laws.{and-left, and-right, decoded-one, chars-end, chars-more}
+use Rattle.identity.specs.Utf8Laws.{and-left, and-right, char-one, chars-end, chars-more}
 use Rattle.identity.specs.Text.{isIn, whiteSpace, allows, firstAscii, lastAscii, every, startsWith, isDomainByte, isSegmentByte, prepend, split, allSegments, areStrictParts, nextPart}
 use Rattle.identity.specs.declared.text.Allowed.{Allowed}
 use Rattle.identity.specs.declared.text.Allowed.the-variants.{Any, NoControl, NoControlNoWhitespace}
@@ -95,7 +95,7 @@ module _ (p : ℕ → Bool) (r : Range) (good : (b : ℕ) → within r b ≡ tru
   ascii-from [] h = chars-end p 0 [] refl
   ascii-from (b ∷ t) h =
       let g = good b (and-left (within r b) (every (within r) t) h) in
-      chars-more p (length t) (b ∷ t) b 1 (omega arith) (decoded-one (b ∷ t) (omega arith) (g .0))
+      chars-more p (length t) (b ∷ t) b 1 (omega arith) (char-one (b ∷ t) (omega arith) (g .0))
       ∙ rw (g .1) (ascii-from t (and-right (within r b) (every (within r) t) h))
 
   pub ascii-chars : (s : List ℕ) → every (within r) s ≡ true → allChars p s ≡ true

@@ -66,11 +66,11 @@ abbrev pub decodedOf : ℕ → List ℕ → Decoded
 decodedOf zero s = Malformed
 decodedOf (suc n) s = Char (codePoint (suc n) s) (suc n)
 
-unfoldable pub decoded : List ℕ → Decoded
-decoded s = decodedOf (charWidth s) s
+unfoldable pub decodedChar : List ℕ → Decoded
+decodedChar s = decodedOf (charWidth s) s
 
 -- What stands at the front of s where the first byte has picked an alternative and rs are the ranges of the bytes after it: `decode_two`,
--- `decode_three`, `decode_four`, which are handed the bounds of the second byte.
+-- `decode_three`, `decode_four`, which take the bounds of the second byte.
 abbrev pub ledBy : List Range → List ℕ → Decoded
 ledBy rs s = decodedOf (cond (fits rs (drop 1 s)) (suc (length rs)) 0) s
 
@@ -81,7 +81,7 @@ passes p Malformed = false
 -- UTF8-octets = *( UTF8-char ): s is UTF-8, and p holds of each of its code points. No text of n bytes has more than n characters.
 unfoldable pub charsFrom : (ℕ → Bool) → ℕ → List ℕ → Bool
 charsFrom p zero s = eqb (length s) 0
-charsFrom p (suc n) s = cond (eqb (length s) 0) true (passes p (decoded s) && charsFrom p n (drop (charWidth s) s))
+charsFrom p (suc n) s = cond (eqb (length s) 0) true (passes p (decodedChar s) && charsFrom p n (drop (charWidth s) s))
 
 unfoldable pub allChars : (ℕ → Bool) → List ℕ → Bool
 allChars p s = charsFrom p (length s) s

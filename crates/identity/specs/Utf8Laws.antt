@@ -9,7 +9,7 @@ use native.Mathlib.Omega.{arith}
 use lib.ListN.{length, getD, take, drop}
 use lib.Dec.{leb, ltb}
 use borrow.Author.Tests.{ltb-true, leb-true, le-leb, lt-leb, eq-eqb, ne-eqb}
-use Rattle.identity.specs.Utf8.{Range, octets, within, utf8Tail, utf8Char, fits, widthIn, charWidth, codePoint, decodedOf, decoded, ledBy, charsFrom}
+use Rattle.identity.specs.Utf8.{Range, octets, within, utf8Tail, utf8Char, fits, widthIn, charWidth, codePoint, decodedOf, decodedChar, ledBy, charsFrom}
 use Rattle.identity.specs.declared.utf8.Decoded.the-variants.{Char, Malformed}
 
 pub and-left : (p q : Bool) → (p && q) ≡ true → p ≡ true
@@ -70,38 +70,38 @@ module _ (b : ℕ) (t : List ℕ) where
 
 -- ---- what stands at the front, by the range of the lead byte
 
-pub decoded-none : (s : List ℕ) → length s ≡ 0 → decoded s ≡ Malformed
-unfolding decoded widthIn fits
-decoded-none [] h = refl
-decoded-none (b ∷ t) h = absurd (omega arith)
+pub char-none : (s : List ℕ) → length s ≡ 0 → decodedChar s ≡ Malformed
+unfolding decodedChar widthIn fits
+char-none [] h = refl
+char-none (b ∷ t) h = absurd (omega arith)
 
 -- A lead byte in the first range of the alternative at n, those before it ending below and those after it starting above: the ranges after decide.
-pub decoded-led : (n : ℕ) (r : Range) (rs : List Range)
+pub char-led : (n : ℕ) (r : Range) (rs : List Range)
     → utf8Char ≡ take n utf8Char ++ ((r ∷ rs) ∷ drop (suc n) utf8Char)
     → endsBelow (r .low) (take n utf8Char) ≡ true → startsAbove (r .high) (drop (suc n) utf8Char) ≡ true
-    → (s : List ℕ) → 0 < length s → r .low ≤ getD s 0 0 → getD s 0 0 ≤ r .high → decoded s ≡ ledBy rs s
-unfolding decoded
-decoded-led n r rs e f g [] l h k = absurd (omega arith)
-decoded-led n r rs e f g (b ∷ t) l h k =
+    → (s : List ℕ) → 0 < length s → r .low ≤ getD s 0 0 → getD s 0 0 ≤ r .high → decodedChar s ≡ ledBy rs s
+unfolding decodedChar
+char-led n r rs e f g [] l h k = absurd (omega arith)
+char-led n r rs e f g (b ∷ t) l h k =
     ap (λ (w : ℕ). decodedOf w (b ∷ t)) (ap (λ (a : List (List Range)). widthIn a (b ∷ t)) e ∙ picked b t (take n utf8Char) r rs (drop (suc n) utf8Char) f g h k)
 
-pub decoded-one : (s : List ℕ) → 0 < length s → getD s 0 0 ≤ 0x7F → decoded s ≡ Char (getD s 0 0) 1
+pub char-one : (s : List ℕ) → 0 < length s → getD s 0 0 ≤ 0x7F → decodedChar s ≡ Char (getD s 0 0) 1
 unfolding fits
-decoded-one s l k = decoded-led 0 (octets 0x00 0x7F) [] refl refl refl s l (omega arith) k
+char-one s l k = char-led 0 (octets 0x00 0x7F) [] refl refl refl s l (omega arith) k
 
 -- A lead byte between two alternatives, the front n of them and the others.
-pub decoded-gap : (n low high : ℕ) → utf8Char ≡ take n utf8Char ++ drop n utf8Char
+pub char-gap : (n low high : ℕ) → utf8Char ≡ take n utf8Char ++ drop n utf8Char
     → endsBelow low (take n utf8Char) ≡ true → startsAbove high (drop n utf8Char) ≡ true
-    → (s : List ℕ) → 0 < length s → low ≤ getD s 0 0 → getD s 0 0 ≤ high → decoded s ≡ Malformed
-unfolding decoded
-decoded-gap n low high e f g [] l h k = absurd (omega arith)
-decoded-gap n low high e f g (b ∷ t) l h k =
+    → (s : List ℕ) → 0 < length s → low ≤ getD s 0 0 → getD s 0 0 ≤ high → decodedChar s ≡ Malformed
+unfolding decodedChar
+char-gap n low high e f g [] l h k = absurd (omega arith)
+char-gap n low high e f g (b ∷ t) l h k =
     let w : charWidth (b ∷ t) ≡ 0 = ap (λ (a : List (List Range)). widthIn a (b ∷ t)) e ∙ (skip b t low (take n utf8Char) (drop n utf8Char) f h ∙ none b t high (drop n utf8Char) g k) in
     rw w
 
 -- A lead byte after the last alternative.
-pub decoded-past : (s : List ℕ) → 0 < length s → 0xF5 ≤ getD s 0 0 → decoded s ≡ Malformed
-decoded-past s l h = decoded-gap 9 0xF5 (getD s 0 0) refl refl refl s l h (omega arith)
+pub char-past : (s : List ℕ) → 0 < length s → 0xF5 ≤ getD s 0 0 → decodedChar s ≡ Malformed
+char-past s l h = char-gap 9 0xF5 (getD s 0 0) refl refl refl s l h (omega arith)
 
 -- ---- the bytes after the lead: a byte that is missing counts as 0, which no range there holds
 
@@ -169,7 +169,7 @@ width-most n (a ∷ more) s e =
     (leb-true (length a) n (and-left (leb (length a) n) (shorter n more) e))
     (width-most n more s (and-right (leb (length a) n) (shorter n more) e))
 
--- What was decoded with a width takes that many bytes: one to four.
+-- What was decodedChar with a width takes that many bytes: one to four.
 pub record Sized (s : List ℕ) (width : ℕ) : Type 0 where
   pub exact : charWidth s ≡ width
   pub least : 1 ≤ width
@@ -179,8 +179,8 @@ sized-by : (w : ℕ) (s : List ℕ) (code width : ℕ) → decodedOf w s ≡ Cha
 sized-by zero s code width e = absurd (let z : _≡_ {A = ℕ} 0 1 = cc in omega arith)
 sized-by (suc n) s code width e = (cc, omega arith)
 
-pub sized : (s : List ℕ) (code width : ℕ) → decoded s ≡ Char code width → Sized s width
-unfolding decoded
+pub sized : (s : List ℕ) (code width : ℕ) → decodedChar s ≡ Char code width → Sized s width
+unfolding decodedChar
 sized s code width e =
     let b = sized-by (charWidth s) s code width e in
     let w : charWidth s ≡ width = b .0 in
@@ -195,12 +195,12 @@ module _ (p : ℕ → Bool) where
   chars-end (suc k) s h = rw (eq-eqb (length s) 0 h)
 
   -- a text that goes on with no character
-  pub chars-malformed : (k : ℕ) (s : List ℕ) → 0 < length s → decoded s ≡ Malformed → charsFrom p (suc k) s ≡ false
+  pub chars-malformed : (k : ℕ) (s : List ℕ) → 0 < length s → decodedChar s ≡ Malformed → charsFrom p (suc k) s ≡ false
   unfolding charsFrom
   chars-malformed k s h e = rw (ne-eqb (length s) 0 (omega arith), e)
 
   -- a text that goes on with a character: p must hold of it, and the rest follows
-  pub chars-more : (k : ℕ) (s : List ℕ) (code width : ℕ) → 0 < length s → decoded s ≡ Char code width
+  pub chars-more : (k : ℕ) (s : List ℕ) (code width : ℕ) → 0 < length s → decodedChar s ≡ Char code width
       → charsFrom p (suc k) s ≡ (p code && charsFrom p k (drop width s))
   unfolding charsFrom
   chars-more k s code width h e = rw (ne-eqb (length s) 0 (omega arith), e, sized s code width e .exact)

@@ -9,30 +9,50 @@ ghost use mathlib.Core.Path.{_≡_};
 ghost use Rattle.identity.specs.Answer.{numberOf, isAccepted};
 
 pub enum Answer {
+    // No refusal.
     Accepted,
-    // Identities and records.
+    // ---- `VoterSlotError`: identities and records
+    // The slot ordinal is zero.
     InvalidSlot,
+    // The incarnation is outside the signed-63-bit engine identity domain.
     InvalidIncarnation,
+    // No further incarnation fits the engine identity domain.
     IncarnationExhausted,
+    // A durable table has another format; it requires a fresh installation.
     FreshInstallationRequired,
+    // Encoded input or a variable field exceeds its fixed admission bound.
     TooLarge,
+    // The record is malformed, noncanonical, or structurally inconsistent.
     InvalidRecord,
+    // A proposed snapshot would change the installation or regress retained state.
     Regression,
-    // Commands and observations.
+    // ---- `VoterReplacementError`: commands and observations
+    // Loss claims, signature, validity or canonical request binding is invalid.
     InvalidLossEvidence,
+    // The caller's revision, configuration or incarnation is obsolete.
     StaleIncarnation,
+    // The same request id names different canonical claims.
     IdempotencyConflict,
+    // Another slot or effective uncommitted intent owns the operation slot.
     ReplacementInProgress,
+    // An unchanged authenticated engine quorum could not be proved.
     NoSurvivingQuorum,
+    // Authority has switched; this exact transition must finish forward.
     ReplacementPastFence,
+    // No successor uniform configuration epoch is representable.
     ConfigurationEpochExhausted,
+    // No further table revision is representable.
     RevisionExhausted,
+    // A command or membership is not the next authorized transition.
     InvalidTransition,
-    // Values that the Rust types cannot hold, sets that do not rise, a buffer that is too short, and
-    // a record of a replay that is not of its form: document 01's own.
+    // ---- document 01's own
+    // A value that the Rust types cannot hold.
     Unrepresentable,
+    // A set that is not strictly rising.
     NotRising,
+    // A buffer shorter than the table's bytes.
     BufferTooShort,
+    // A record of a replay that is not of its form.
     BadRecord,
 }
 

@@ -28,7 +28,7 @@ pub type VoterIncarnation = u64;
 // Largest node id: the engine's stores keep signed numbers of 64 bits.
 pub const CONSENSUS_NODE_ID_MAX: ConsensusNodeId = 9223372036854775807;
 
-// Largest incarnation: with it a node id still fits 63 bits.
+// Largest incarnation, 2^47: with it a node id still fits 63 bits.
 pub const MAX_VOTER_INCARNATION: VoterIncarnation = 140737488355328;
 
 // How many node ids one incarnation number takes: one for each number below 65,536, slots and 0.
@@ -36,15 +36,20 @@ const NODE_ID_SPAN: ConsensusNodeId = 65536;
 
 // The scope of a configuration: its cluster, its digest and its epoch.
 pub struct ConsensusIdentity {
+    // Cluster identity digest.
     pub cluster_id: ConsensusClusterId,
+    // Exact configuration digest.
     pub configuration_id: ConsensusConfigurationId,
+    // Monotonic configuration epoch.
     pub configuration_epoch: ConsensusConfigurationEpoch,
 }
 
 // One incarnation of one slot.
 #[repr(C)]
 pub struct VoterSlotIdentity {
+    // Stable ordinal assigned by the immutable installation manifest, 1 to 65,535.
     pub slot: SlotId,
+    // Positive within its slot, at most 2^47, never reused after retirement.
     pub incarnation: VoterIncarnation,
 }
 

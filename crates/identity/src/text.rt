@@ -12,10 +12,16 @@ ghost use Rattle.identity.specs.Text.{isControl, isIn, isWhitespace, all
 use crate::utf8::Decoded;
 use crate::utf8::decode;
 
+// Bytes of `spiffe://`, with which every name begins.
+const SCHEME_BYTES: usize = 9;
+// Shortest name, in bytes.
+const MIN_VOTER_SPIFFE_ID_BYTES: usize = SCHEME_BYTES + 1;
 // Longest name, in bytes.
 pub const MAX_VOTER_SPIFFE_ID_BYTES: usize = 2048;
 // Longest snapshot id, in bytes.
 pub const MAX_VOTER_SNAPSHOT_ID_BYTES: usize = 256;
+// Longest trust domain of a strict name, in bytes.
+const MAX_TRUST_DOMAIN_BYTES: usize = 255;
 
 // Unicode's 25 White_Space code points.
 const WHITE_SPACE: [u32; 25] = [
@@ -53,11 +59,13 @@ pub enum Allowed {
     NoControlNoWhitespace,
 }
 
-// The part of a strict name that is being read: whether all was right so far, whether the part is the
-// trust domain, and how many of its bytes were read.
+// The part of a strict name that is being read.
 struct Part {
+    // Whether all was right so far.
     good: bool,
+    // Whether the part is the trust domain.
     in_domain: bool,
+    // How many of its bytes were read.
     run: usize,
 }
 
@@ -65,14 +73,14 @@ struct Part {
 pub fn is_utf8(bytes: &[u8]) -> bool
     ensures { λ r. ⌜ r ≡ isUtf8 (now (bytes .entry)) ⌝ }
 {
-    is_text(bytes, Allowed::Any)
+    all_allowed(bytes, Allowed::Any)
 }
 
 // Whether the bytes are the name of a controller or a candidate.
 pub fn is_name(bytes: &[u8]) -> bool
     ensures { λ r. ⌜ r ≡ isName (now (bytes .entry)) ⌝ }
 {
-    if bytes.len() < 10 {
+    if bytes.len() < MIN_VOTER_SPIFFE_ID_BYTES {
         return false;
     }
     if MAX_VOTER_SPIFFE_ID_BYTES < bytes.len() {
@@ -81,7 +89,7 @@ pub fn is_name(bytes: &[u8]) -> bool
     if !starts_with(bytes, b"spiffe://") {
         return false;
     }
-    is_text(bytes, Allowed::NoControlNoWhitespace)
+    all_allowed(bytes, Allowed::NoControlNoWhitespace)
 }
 
 // Whether the bytes are the id of a snapshot.
@@ -94,7 +102,7 @@ pub fn is_snapshot_id(bytes: &[u8]) -> bool
     if MAX_VOTER_SNAPSHOT_ID_BYTES < bytes.len() {
         return false;
     }
-    is_text(bytes, Allowed::NoControl)
+    all_allowed(bytes, Allowed::NoControl)
 }
 
 // Whether the bytes are a strict name, after the SPIFFE-ID standard.
@@ -107,7 +115,7 @@ pub fn is_strict_name(bytes: &[u8]) -> bool
     if !starts_with(bytes, b"spiffe://") {
         return false;
     }
-    are_strict_parts(&bytes[9..])
+    are_strict_parts(&bytes[SCHEME_BYTES..])
 }
 
 // Whether the code point is a control character.
@@ -159,7 +167,7 @@ fn is_allowed(rule: Allowed, code: u32) -> bool
 
 // Whether the bytes are UTF-8 whose characters the rule allows. Text that is all ASCII, which nearly
 // every name is, is judged many bytes at a time.
-fn is_text(bytes: &[u8], rule: Allowed) -> bool
+fn all_allowed(bytes: &[u8], rule: Allowed) -> bool
     ensures { λ r. ⌜ r ≡ allChars (allows rule) (now (bytes .entry)) ⌝ }
 {
     if all_within(bytes, first_ascii(rule), last_ascii(rule)) {
@@ -267,7 +275,7 @@ fn next_part(part: Part, b: u8) -> Part
     }
     if part.in_domain {
         return Part {
-            good: part.good & (is_domain_byte(b) & (part.run < 255)),
+            good: part.good & (is_domain_byte(b) & (part.run < MAX_TRUST_DOMAIN_BYTES)),
             in_domain: true,
             run: part.run + 1,
         };

@@ -1,10 +1,10 @@
-// UTF-8 as RFC 3629 has it: the character at the front of some bytes. The original leans on Rust's
-// `str` for this.
+// UTF-8 as RFC 3629 has it: the character at the front of some bytes. The original relies on
+// Rust's `str` for this.
 ghost use Prim.Native.Nat.{_<_};
 ghost use mathlib.Core.Path.{_≡_};
 ghost use mathlib.Core.List.{[], _∷_};
 ghost use lib.ListN.{getD};
-ghost use Rattle.identity.specs.Utf8.{octets, within, utf8Tail, ledBy, decoded};
+ghost use Rattle.identity.specs.Utf8.{octets, within, utf8Tail, ledBy, decodedChar};
 
 // What stands at the front of some bytes.
 pub enum Decoded {
@@ -20,7 +20,7 @@ pub enum Decoded {
 // narrower bounds shut out overlong forms (after E0 and F0), surrogates (ED) and what is above 10FFFF
 // (F4).
 pub fn decode(bytes: &[u8]) -> Decoded
-    ensures { λ r. ⌜ r ≡ decoded (now (bytes .entry)) ⌝ }
+    ensures { λ r. ⌜ r ≡ decodedChar (now (bytes .entry)) ⌝ }
 {
     if bytes.len() == 0 {
         return Decoded::Malformed;

@@ -10,8 +10,8 @@ use Rattle.identity.specs.Answer.{numberOf}
 use Rattle.format.specs.Copy.{zeros}
 use Rattle.records.specs.Blank.{blankVoterSlotLogId, blankVoterSlotMember, blankVoterSnapshotEvidence}
 use Rattle.records.specs.declared.records.LostVoterAttestationV1.{LostVoterAttestationV1}
-use Rattle.layout.specs.declared.reading.Reading.{Reading}
-use Rattle.layout.specs.declared.reading.Reading.the-variants as reading
+use Rattle.layout.specs.declared.reading.Extent.{Extent}
+use Rattle.layout.specs.declared.reading.Extent.the-variants as reading
 use Rattle.codec.specs.Codec.{decodeLostVoterAttestation}
 use Rattle.control.specs.Blank.{blankConsensusIdentity}
 use Rattle.control.specs.declared.begin.VoterBegin.{VoterBegin}
@@ -42,7 +42,7 @@ blankBeginHead =
 -- ---- parts of the answers
 
 -- all of so many bytes were read
-abbrev pub isWhole : Reading → ℕ → Bool
+abbrev pub isWhole : Extent → ℕ → Bool
 isWhole (reading.To n) len = eqb n len
 isWhole (reading.Refused a) len = false
 
@@ -55,8 +55,8 @@ abbrev pub advanceBy : MarkerBody → VoterReplacementStep → VoterAdvance
 advanceBy named step = record { «request_id» = named .«request_id»; «request_digest» = named .«request_digest»; step = step; cut = named .cut }
 
 -- a Begin from its parts
-abbrev pub begun : BeginHead → LostVoterAttestationV1 → (digest configuration : List ℕ) → VoterBegin
-begun head attestation digest configuration =
+abbrev pub beginBy : BeginHead → LostVoterAttestationV1 → (digest configuration : List ℕ) → VoterBegin
+beginBy head attestation digest configuration =
     record {
       request = record {
         «expected_revision» = head .«expected_revision»;

@@ -29,8 +29,8 @@ use Rattle.records.specs.declared.records.LostVoterAttestationV1.{LostVoterAtte
 use Rattle.layout.specs.Format.{sized, choice, logId}
 use Rattle.layout.specs.Reading.{report, outcome}
 use Rattle.layout.specs.ReadingLaws.{told, told-not}
-use Rattle.layout.specs.declared.reading.Reading.{Reading}
-use Rattle.layout.specs.declared.reading.Reading.the-variants as reading
+use Rattle.layout.specs.declared.reading.Extent.{Extent}
+use Rattle.layout.specs.declared.reading.Extent.the-variants as reading
 use Rattle.codec.specs.Codec.{decoded, decodeLostVoterAttestation}
 use Rattle.control.specs.Blank.{blankVoterReplacementStep}
 use Rattle.control.specs.Control.{recordSnapshotKind, recordCaughtUpKind, finalizeKind}
@@ -39,7 +39,7 @@ use Rattle.control.specs.declared.control.VoterReplacementStep.{VoterReplacemen
 use Rattle.journal.specs.declared.bodies.BeginHead.{BeginHead}
 use Rattle.journal.specs.declared.bodies.MarkerBody.{MarkerBody}
 use Rattle.journal.specs.declared.replay.Mark.the-variants.{Ad, Bg}
-use Rattle.journal.specs.Bodies.{isWhole, partless, advanceBy, begun, suppliedBody, attestedAsking}
+use Rattle.journal.specs.Bodies.{isWhole, partless, advanceBy, beginBy, suppliedBody, attestedAsking}
 use Rattle.journal.specs.Records.{sizedBytes, markerBody, noSnapshotPart, snapshotPart, stepBody, advanceBody, beginHead, BeginBody, beginBody}
 use Rattle.journal.specs.RefusalLaws.{number, attestation-refused}
 use Rattle.journal.specs.Replay.{Asked, Asking, asking, formed, attested, snapshotIdOf, snapshotOf, stepOf, advanceOf, advanceControl, advanceAsked, beginControl, beginOf, beginAsked}
@@ -214,7 +214,7 @@ module _ {A : Type 0} (C : Codec A) (next : A → Asking) (bs : List ℕ) where
   formed-by false e q = rw (whole-by-count C bs false e q)
 
   -- whether all was read, as a reader's answer says it
-  pub whole-asks : (blank : A) (to : Reading) {v : A} → _≡_ {A = Res (Unit {0}) × A} (report to, v) (outcome blank (C .dec bs))
+  pub whole-asks : (blank : A) (to : Extent) {v : A} → _≡_ {A = Res (Unit {0}) × A} (report to, v) (outcome blank (C .dec bs))
       → cond (isWhole to (length bs)) (next v) bad ≡ formed (whole C bs) next
   whole-asks blank (reading.To n) e = sym (formed-by (eqb n (length bs)) (told blank _ e refl) refl)
   whole-asks blank (reading.Refused a) e = sym (formed-no (told-not blank {k = a} _ e refl))
@@ -231,7 +231,7 @@ module _ (bs : List ℕ) where
   unfolding asking advanceBody
   advance-bad e = formed-no advanceBody (λ b. asks (advanceAsked b)) bs (via-no _ _ _ _ bs (dep-no-1 markerBody (λ a. stepBody) bs e))
 
-  pub advance-asks : {named : MarkerBody} {n : ℕ} (to : Reading) {v : VoterReplacementStep} → markerBody .dec bs ≡ ok named n
+  pub advance-asks : {named : MarkerBody} {n : ℕ} (to : Extent) {v : VoterReplacementStep} → markerBody .dec bs ≡ ok named n
       → _≡_ {A = Res (Unit {0}) × VoterReplacementStep} (report to, v) (outcome blankVoterReplacementStep (decMap (stepBody .dec) stepOf (drop n bs)))
       → cond (isWhole to (length bs - n)) (asks (command (advanceControl (advanceBy named v)) (named .cut))) bad ≡ asking Ad bs
   unfolding asking advanceBody advanceAsked advanceOf
@@ -328,10 +328,10 @@ module _ (head : BeginHead) (bs supplied : List ℕ) (answer : Answer) (v : Lost
   asks-by-number (ok a n) e f never = ap (λ p. asks (next (p .1))) e
   asks-by-number (no k) e f never = absurd (never (ap no (sym (ap (λ p. p .0) e) ∙ eqb-true (numberOf answer) 0 f)))
 
-  pub attested-asks : {b : VoterBegin} {digest configuration : List ℕ} → b ≡ begun head v digest configuration → digest ≡ take 32 supplied → configuration ≡ take 32 (drop 32 supplied)
+  pub attested-asks : {b : VoterBegin} {digest configuration : List ℕ} → b ≡ beginBy head v digest configuration → digest ≡ take 32 supplied → configuration ≡ take 32 (drop 32 supplied)
       → Answers (decodeLostVoterAttestation bs) → isAccepted answer ≡ true → asks (command (beginControl (b .request)) (b .cut)) ≡ attestedAsking (suppliedBody head bs supplied)
   unfolding beginAsked beginOf
   attested-asks p q r e f =
       ap (λ b. asks (command (beginControl (b .request)) (b .cut))) p
-      ∙ ap₂ (λ digest configuration. asks (command (beginControl (begun head v digest configuration .request)) (head .cut))) q r
+      ∙ ap₂ (λ digest configuration. asks (command (beginControl (beginBy head v digest configuration .request)) (head .cut))) q r
       ∙ asks-by-number (decodeLostVoterAttestation bs) e f (attestation-refused bs)

@@ -39,7 +39,7 @@ number-not k bs e = number-by k bs (leb k (length bs)) refl e
 
 -- ---- the record at the front of a part of the bytes
 
--- the mark by its two bytes; one that is cut short is none
+-- the mark by its two bytes; one that is cut short is unknown
 pub mark-at : (l : List ℕ) → 2 ≤ length l → markOf (getD l 0 0 ∷ (getD l 1 0 ∷ [])) ≡ headMark l
 mark-at [] h = absurd (omega arith)
 mark-at (a ∷ []) h = absurd (omega arith)

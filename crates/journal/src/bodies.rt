@@ -1,5 +1,5 @@
-// The bodies of commands: MK, AD, BG. Each field has a reader, which is handed the rest of the bytes
-// and gives the count that it took.
+// The bodies of commands: MK, AD, BG. Each field has a reader, which takes the rest of the bytes and
+// returns the count that it read.
 //
 // Document 01, section "Replay program". No part of the original has them.
 ghost use mathlib.Core.Bool.{cond, false};
@@ -16,7 +16,7 @@ ghost use Rattle.records.specs.Blank.{blankSnapshotId, blankVoterSlotMember, bl
 ghost use Rattle.control.specs.Blank.{blankConsensusIdentity, blankVoterReplacementStep};
 ghost use Rattle.control.specs.Control.{finalizeKind, recordCaughtUpKind, recordSnapshotKind};
 ghost use Rattle.journal.specs.declared.replay.Mark.the-variants.{Ad, Bg, Mk};
-ghost use Rattle.journal.specs.Bodies.{advanceAsking, advanceBy, attestedAsking, beginAsking, begun, blankBeginHead, blankMarkerBody, isWhole, markerAsking, partless, suppliedBody};
+ghost use Rattle.journal.specs.Bodies.{advanceAsking, advanceBy, attestedAsking, beginAsking, beginBy, blankBeginHead, blankMarkerBody, isWhole, markerAsking, partless, suppliedBody};
 ghost use Rattle.journal.specs.Records.{anyIdentity, beginHead, candidate, expected, markerBody, sizedBytes, snapshotPart, stepBody};
 ghost use Rattle.journal.specs.Replay.{asking, snapshotIdOf, snapshotOf, stepOf};
 use codec::codec::decode_lost_voter_attestation;
@@ -33,6 +33,7 @@ use identity::identity::ConsensusConfigurationId;
 use identity::identity::ConsensusIdentity;
 use identity::identity::ConsensusRequestId;
 use identity::identity::VoterSlotIdentity;
+use identity::text::MAX_VOTER_SNAPSHOT_ID_BYTES;
 use layout::get::read_array16;
 use layout::get::read_array32;
 use layout::get::read_sized;
@@ -43,10 +44,10 @@ use layout::get::zeros32;
 use layout::get::zeros256;
 use layout::parts::member_of;
 use layout::put::put_bytes;
+use layout::reading::Extent;
 use layout::reading::IdentityRead;
 use layout::reading::LogIdRead;
 use layout::reading::MemberRead;
-use layout::reading::Reading;
 use layout::reading::SizedRead;
 use layout::reading::SnapshotIdRead;
 use layout::reading::SnapshotRead;
@@ -86,7 +87,7 @@ pub struct MarkerBody {
 }
 
 pub struct MarkerBodyRead {
-    pub answer: Reading,
+    pub answer: Extent,
     pub value: MarkerBody,
 }
 
@@ -99,19 +100,19 @@ pub fn read_marker_body(bytes: &[u8]) -> MarkerBodyRead
     };
     let request_id_read = read_array16(&bytes[at..]);
     let request_id_to = request_id_read.answer;
-    let Reading::To(n) = request_id_to else {
+    let Extent::To(n) = request_id_to else {
         return refused_marker_body(why(request_id_to));
     };
     let request_id = request_id_read.value;
     let at = at + n;
     let request_digest_read = read_array32(&bytes[at..]);
     let request_digest_to = request_digest_read.answer;
-    let Reading::To(n) = request_digest_to else {
+    let Extent::To(n) = request_digest_to else {
         return refused_marker_body(why(request_digest_to));
     };
     let request_digest = request_digest_read.value;
     MarkerBodyRead {
-        answer: Reading::To(at + n),
+        answer: Extent::To(at + n),
         value: MarkerBody {
             cut,
             request_id,
@@ -124,7 +125,7 @@ fn refused_marker_body(answer: Answer) -> MarkerBodyRead
     ensures { λ r. ⌜ (report (r .answer), r .value) ≡ outcome blankMarkerBody (no (numberOf answer)) ⌝ }
 {
     MarkerBodyRead {
-        answer: Reading::Refused(answer),
+        answer: Extent::Refused(answer),
         value: blank_marker_body(),
     }
 }
@@ -161,12 +162,12 @@ pub fn read_marker(body: &[u8]) -> MarkerRead
 }
 
 // All was read.
-fn is_whole(to: Reading, len: usize) -> bool
+fn is_whole(to: Extent, len: usize) -> bool
     ensures { λ r. ⌜ r ≡ isWhole to len ⌝ }
 {
     match to {
-        Reading::To(n) => n == len,
-        Reading::Refused(_) => false,
+        Extent::To(n) => n == len,
+        Extent::Refused(_) => false,
     }
 }
 
@@ -185,7 +186,7 @@ fn read_any_snapshot_id(bytes: &[u8]) -> SnapshotIdRead
     let mut place = zeros256();
     put_bytes(&mut place, 0, &bytes[at..stop]);
     SnapshotIdRead {
-        answer: Reading::To(at + len),
+        answer: Extent::To(at + len),
         value: SnapshotId { len, bytes: place },
     }
 }
@@ -194,10 +195,10 @@ fn read_any_snapshot_id(bytes: &[u8]) -> SnapshotIdRead
 fn at_most_256(len: usize) -> usize
     ensures { λ r. ⌜ r ≡ cond (ltb len maxSnapshotIdBytes) len maxSnapshotIdBytes ⌝ }
 {
-    if len < 256 {
+    if len < MAX_VOTER_SNAPSHOT_ID_BYTES {
         return len;
     }
-    256
+    MAX_VOTER_SNAPSHOT_ID_BYTES
 }
 
 fn read_snapshot_part(bytes: &[u8]) -> SnapshotRead
@@ -209,19 +210,19 @@ fn read_snapshot_part(bytes: &[u8]) -> SnapshotRead
     };
     let snapshot_id_read = read_any_snapshot_id(&bytes[at..]);
     let snapshot_id_to = snapshot_id_read.answer;
-    let Reading::To(n) = snapshot_id_to else {
+    let Extent::To(n) = snapshot_id_to else {
         return refused_snapshot(why(snapshot_id_to));
     };
     let snapshot_id = snapshot_id_read.value;
     let at = at + n;
     let digest_read = read_array32(&bytes[at..]);
     let digest_to = digest_read.answer;
-    let Reading::To(n) = digest_to else {
+    let Extent::To(n) = digest_to else {
         return refused_snapshot(why(digest_to));
     };
     let digest = digest_read.value;
     SnapshotRead {
-        answer: Reading::To(at + n),
+        answer: Extent::To(at + n),
         value: VoterSnapshotEvidence {
             cut,
             snapshot_id,
@@ -231,7 +232,7 @@ fn read_snapshot_part(bytes: &[u8]) -> SnapshotRead
 }
 
 pub struct StepRead {
-    pub answer: Reading,
+    pub answer: Extent,
     pub value: VoterReplacementStep,
 }
 
@@ -247,7 +248,7 @@ pub fn read_step(bytes: &[u8]) -> StepRead
         RECORD_SNAPSHOT => read_snapshot_step(bytes, at),
         RECORD_CAUGHT_UP => read_caught_up_step(bytes, at),
         _ => StepRead {
-            answer: Reading::To(at),
+            answer: Extent::To(at),
             value: step_of(kind),
         },
     }
@@ -260,13 +261,13 @@ fn read_snapshot_step(bytes: &[u8], at: usize) -> StepRead
 {
     let read = read_snapshot_part(&bytes[at..]);
     let to = read.answer;
-    let Reading::To(n) = to else {
+    let Extent::To(n) = to else {
         return refused_step(why(to));
     };
     let snapshot = read.value;
     let caught_up = blank_voter_slot_log_id();
     StepRead {
-        answer: Reading::To(at + n),
+        answer: Extent::To(at + n),
         value: VoterReplacementStep {
             kind: RECORD_SNAPSHOT,
             snapshot,
@@ -286,7 +287,7 @@ fn read_caught_up_step(bytes: &[u8], at: usize) -> StepRead
     };
     let snapshot = blank_voter_snapshot_evidence();
     StepRead {
-        answer: Reading::To(at + n),
+        answer: Extent::To(at + n),
         value: VoterReplacementStep {
             kind: RECORD_CAUGHT_UP,
             snapshot,
@@ -312,7 +313,7 @@ fn refused_step(answer: Answer) -> StepRead
     ensures { λ r. ⌜ (report (r .answer), r .value) ≡ outcome blankVoterReplacementStep (no (numberOf answer)) ⌝ }
 {
     StepRead {
-        answer: Reading::Refused(answer),
+        answer: Extent::Refused(answer),
         value: step_of(0),
     }
 }
@@ -328,7 +329,7 @@ pub fn read_advance(body: &[u8]) -> AdvanceRead
     let named_read = read_marker_body(body);
     let named_to = named_read.answer;
     let named = named_read.value;
-    let Reading::To(at) = named_to else {
+    let Extent::To(at) = named_to else {
         return refused_advance();
     };
     let step_read = read_step(&body[at..]);
@@ -389,18 +390,18 @@ fn read_candidate(bytes: &[u8]) -> MemberRead
     };
     let binding_read = read_binding(&bytes[at..]);
     let binding_to = binding_read.answer;
-    let Reading::To(n) = binding_to else {
+    let Extent::To(n) = binding_to else {
         return refused_member(why(binding_to));
     };
     let binding = binding_read.value;
     MemberRead {
-        answer: Reading::To(at + n),
+        answer: Extent::To(at + n),
         value: member_of(identity, binding),
     }
 }
 
 pub struct ExpectedRead {
-    pub answer: Reading,
+    pub answer: Extent,
     pub value: ConsensusIdentity,
 }
 
@@ -409,13 +410,13 @@ fn read_expected(bytes: &[u8]) -> ExpectedRead
 {
     let cluster_id_read = read_array32(bytes);
     let cluster_id_to = cluster_id_read.answer;
-    let Reading::To(at) = cluster_id_to else {
+    let Extent::To(at) = cluster_id_to else {
         return refused_expected(why(cluster_id_to));
     };
     let cluster_id = cluster_id_read.value;
     let configuration_id_read = read_array32(&bytes[at..]);
     let configuration_id_to = configuration_id_read.answer;
-    let Reading::To(n) = configuration_id_to else {
+    let Extent::To(n) = configuration_id_to else {
         return refused_expected(why(configuration_id_to));
     };
     let configuration_id = configuration_id_read.value;
@@ -425,7 +426,7 @@ fn read_expected(bytes: &[u8]) -> ExpectedRead
         return refused_expected(why_u64(configuration_epoch_read));
     };
     ExpectedRead {
-        answer: Reading::To(at + n),
+        answer: Extent::To(at + n),
         value: ConsensusIdentity {
             cluster_id,
             configuration_id,
@@ -438,7 +439,7 @@ fn refused_expected(answer: Answer) -> ExpectedRead
     ensures { λ r. ⌜ (report (r .answer), r .value) ≡ outcome blankConsensusIdentity (no (numberOf answer)) ⌝ }
 {
     ExpectedRead {
-        answer: Reading::Refused(answer),
+        answer: Extent::Refused(answer),
         value: blank_expected(),
     }
 }
@@ -462,7 +463,7 @@ pub struct BeginHead {
 }
 
 pub struct BeginHeadRead {
-    pub answer: Reading,
+    pub answer: Extent,
     pub value: BeginHead,
 }
 
@@ -480,19 +481,19 @@ fn read_begin_head(bytes: &[u8]) -> BeginHeadRead
     let at = at + n;
     let expected_configuration_read = read_expected(&bytes[at..]);
     let expected_configuration_to = expected_configuration_read.answer;
-    let Reading::To(n) = expected_configuration_to else {
+    let Extent::To(n) = expected_configuration_to else {
         return refused_begin_head(why(expected_configuration_to));
     };
     let expected_configuration = expected_configuration_read.value;
     let at = at + n;
     let candidate_read = read_candidate(&bytes[at..]);
     let candidate_to = candidate_read.answer;
-    let Reading::To(n) = candidate_to else {
+    let Extent::To(n) = candidate_to else {
         return refused_begin_head(why(candidate_to));
     };
     let candidate = candidate_read.value;
     BeginHeadRead {
-        answer: Reading::To(at + n),
+        answer: Extent::To(at + n),
         value: BeginHead {
             cut,
             expected_revision,
@@ -506,7 +507,7 @@ fn refused_begin_head(answer: Answer) -> BeginHeadRead
     ensures { λ r. ⌜ (report (r .answer), r .value) ≡ outcome blankBeginHead (no (numberOf answer)) ⌝ }
 {
     BeginHeadRead {
-        answer: Reading::Refused(answer),
+        answer: Extent::Refused(answer),
         value: blank_begin_head(),
     }
 }
@@ -537,8 +538,11 @@ pub struct BeginRead {
     pub value: VoterBegin,
 }
 
-// 64 bytes follow the attestation: the two supplied values.
-const SUPPLIED: usize = 64;
+// Bytes of a digest.
+const DIGEST: usize = 32;
+
+// Bytes after the attestation: the two supplied values.
+const SUPPLIED: usize = DIGEST + DIGEST;
 
 pub fn read_begin(body: &[u8]) -> BeginRead
     ensures { λ r. ⌜ beginAsking r ≡ asking Bg (now (body .entry)) ⌝ }
@@ -546,7 +550,7 @@ pub fn read_begin(body: &[u8]) -> BeginRead
     let head_read = read_begin_head(body);
     let head_to = head_read.answer;
     let head = head_read.value;
-    let Reading::To(at) = head_to else {
+    let Extent::To(at) = head_to else {
         return refused_begin(Asks::Bad, head);
     };
     let size = read_sized(&body[at..], 65535);
@@ -574,7 +578,7 @@ fn read_attested(head: BeginHead, attestation: &[u8], supplied: &[u8]) -> BeginR
     let attestation = decoded.attestation;
     let digest_read = read_array32(supplied);
     let digest = digest_read.value;
-    let configuration_read = read_array32(&supplied[32..]);
+    let configuration_read = read_array32(&supplied[DIGEST..]);
     let configuration = configuration_read.value;
     BeginRead {
         asks: Asks::Begin,
@@ -588,7 +592,7 @@ fn begin_of(
     supplied_request_digest: [u8; 32],
     supplied_configuration_id: ConsensusConfigurationId,
 ) -> VoterBegin
-    ensures { λ r. ⌜ r ≡ begun head attestation «supplied_request_digest» «supplied_configuration_id» ⌝ }
+    ensures { λ r. ⌜ r ≡ beginBy head attestation «supplied_request_digest» «supplied_configuration_id» ⌝ }
 {
     let cut = head.cut;
     let expected_configuration = head.expected_configuration;

@@ -14,7 +14,7 @@ use identity::answer::number;
 use layout::put::put_bytes;
 
 // Most bytes of a line: three numbers of up to 20 digits, a mark of 2, three spaces and the newline.
-pub const LONGEST_LINE: usize = 66;
+pub const LONGEST_LINE: usize = 3 * 20 + 2 + 3 + 1;
 
 // Puts a line at a place of the buffer, which has room for the longest, and gives the place after it.
 pub fn put_line(

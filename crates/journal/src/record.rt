@@ -11,8 +11,8 @@ use crate::replay::mark_of;
 use layout::get::read_u16;
 use layout::reading::U16Read;
 
-// Bytes before the body.
-pub const HEAD: usize = 4;
+// Bytes before the body: the mark and the size.
+pub const HEAD: usize = 2 + 2;
 
 // What stands at a place of the bytes: a whole record, one that ends the reading, or none, which
 // takes no bytes.

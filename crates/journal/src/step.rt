@@ -26,6 +26,12 @@ use crate::replay::Mark;
 use control::begin::begin_table;
 use control::begin::judge_begin;
 use control::judge::Judged;
+use control::judge::ROUTE_BEGIN;
+use control::judge::ROUTE_CAUGHT_UP;
+use control::judge::ROUTE_CONTINUATION;
+use control::judge::ROUTE_FENCE;
+use control::judge::ROUTE_NONE;
+use control::judge::ROUTE_SNAPSHOT;
 use control::judge::answer_of;
 use control::judge::judge_advance;
 use control::judge::judge_marker;
@@ -37,10 +43,13 @@ use control::make::fence_table;
 use control::make::finalize_table;
 use control::make::snapshot_table;
 use control::observe::Observed;
-use control::observe::answer_of as answer_of_observed;
+use control::observe::ROUTE_JOINT;
+use control::observe::ROUTE_LEARNER;
+use control::observe::ROUTE_UNIFORM;
+use control::observe::answer_of_observed;
 use control::observe::joint_table;
 use control::observe::learner_table;
-use control::observe::route as route_of_observed;
+use control::observe::route_of_observed;
 use control::observe::uniform_table;
 use control::observe::weigh;
 use control::representable::is_representable_request;
@@ -178,8 +187,8 @@ fn make_command(t: VoterSlotTable, body: &[u8], judged: Judged) -> VoterSlotTabl
     ensures { λ r. ⌜ r ≡ madeByCommand t (now (body .entry)) (verdictOf judged) ⌝ }
 {
     match route(judged) {
-        0 => t,
-        6 => make_begin(t, body, judged),
+        ROUTE_NONE => t,
+        ROUTE_BEGIN => make_begin(t, body, judged),
         _ => make_advance(t, body, judged),
     }
 }
@@ -200,10 +209,10 @@ fn make_advance(t: VoterSlotTable, body: &[u8], judged: Judged) -> VoterSlotTabl
     let read = read_advance(body);
     let advance = read.value;
     match route(judged) {
-        1 => snapshot_table(t, advance),
-        2 => catch_up_table(t, advance),
-        3 => continue_table(t, advance),
-        4 => fence_table(t, advance),
+        ROUTE_SNAPSHOT => snapshot_table(t, advance),
+        ROUTE_CAUGHT_UP => catch_up_table(t, advance),
+        ROUTE_CONTINUATION => continue_table(t, advance),
+        ROUTE_FENCE => fence_table(t, advance),
         _ => finalize_table(t, advance),
     }
 }
@@ -214,9 +223,9 @@ fn make_observation(t: VoterSlotTable, body: &[u8], observed: Observed) -> Voter
 {
     let cut = cut_of(body);
     match route_of_observed(observed) {
-        1 => learner_table(t, cut),
-        2 => joint_table(t, cut),
-        3 => uniform_table(t, cut),
+        ROUTE_LEARNER => learner_table(t, cut),
+        ROUTE_JOINT => joint_table(t, cut),
+        ROUTE_UNIFORM => uniform_table(t, cut),
         _ => t,
     }
 }

@@ -98,7 +98,7 @@ pub string-long : (bound : ℕ) (p : ℕ × List ℕ) → string bound .Good p �
 unfolding string sized check dep
 string-long bound p g = raw-long (p .0) (p .1) (g .0 .1)
 
--- text in a place of `bound` bytes, zeros behind it, and the text of the place
+-- text in a place of `bound` bytes, zeros after it, and the text of the place
 abbrev pub placed : ℕ → ℕ × List ℕ → List ℕ
 placed bound p = p .1 ++ replicate (bound - p .0) 0
 

@@ -242,7 +242,7 @@ tableHeadOf t =
       «configuration_epoch» = t .«configuration_epoch»;
     }
 
--- ---- lengths that the fields hold, which the test for 30 has tested
+-- ---- lengths that the fields hold, which the representability check has tested
 
 pub record ReplacementFits (r : VoterReplacementRecord) : Type 0 where
   pub candidate : r .attestation .«candidate_spiffe_id» .len ≤ 2048

@@ -1,5 +1,5 @@
 -- What the readers' answers say: for each case document 01's number and the values. An answer that carries a value is a reading of the format;
--- `report` is of an answer that stands beside its value, and `outcome` puts both together, with the blank beside a refusal.
+-- `report` is of an answer that comes with its value, and `outcome` puts both together, with the blank where it is a refusal.
 -- Assumes nothing.
 use Prim.Native.Nat.{ℕ, _+_}
 use mathlib.Core.Bool.{Bool}
@@ -15,8 +15,8 @@ use Rattle.records.specs.declared.records.VoterSlotLogId.{VoterSlotLogId}
 use Rattle.records.specs.declared.records.OptionalLogId.{OptionalLogId}
 use Rattle.layout.specs.declared.parts.ThreeCuts.{ThreeCuts}
 use Rattle.layout.specs.declared.parts.Times.{Times}
-use Rattle.layout.specs.declared.reading.Reading.{Reading}
-use Rattle.layout.specs.declared.reading.Reading.the-variants as reading
+use Rattle.layout.specs.declared.reading.Extent.{Extent}
+use Rattle.layout.specs.declared.reading.Extent.the-variants as reading
 use Rattle.layout.specs.declared.reading.SizedRead.{SizedRead}
 use Rattle.layout.specs.declared.reading.SizedRead.the-variants as sized-read
 use Rattle.layout.specs.declared.reading.U64Read.{U64Read}
@@ -39,17 +39,17 @@ use Rattle.layout.specs.declared.reading.TimesRead.{TimesRead}
 use Rattle.layout.specs.declared.reading.TimesRead.the-variants as times-read
 
 -- how far was read, or the number of the refusal
-abbrev pub report : Reading → Res (Unit {0})
+abbrev pub report : Extent → Res (Unit {0})
 report (reading.To n) = ok tt n
 report (reading.Refused a) = no (numberOf a)
 
--- the report of a reading, and its value, or the blank beside a refusal; of a writing, and the buffer, as it was beside a refusal
+-- the report of a reading, and its value, or the blank with a refusal; of a writing, and the buffer, unchanged with a refusal
 unfoldable pub outcome : {A : Type 0} → A → Res A → Res (Unit {0}) × A
 outcome blank (ok a n) = (ok tt n, a)
 outcome blank (no k) = (no k, blank)
 
 -- the refusal; of what was not refused, which nobody asks, some refusal (this and each `why..` below)
-abbrev pub whyOf : Reading → Answer
+abbrev pub whyOf : Extent → Answer
 whyOf (reading.To n) = InvalidRecord
 whyOf (reading.Refused a) = a
 

@@ -1,4 +1,4 @@
--- What an answer beside its value tells of the reading, and what the reading tells of it: all that a reader's proof cites of `report` and `outcome`.
+-- What an answer with its value tells of the reading, and what the reading tells of it: all that a reader's proof cites of `report` and `outcome`.
 -- Assumes nothing.
 use Prim.Native.Nat.{ℕ}
 use native.Mathlib.Omega.{arith}
@@ -8,8 +8,8 @@ use Rattle.format.specs.Res.Res.{ok, no}
 use Rattle.identity.specs.Answer.{numberOf}
 use Rattle.identity.specs.declared.answer.Answer.{Answer}
 use Rattle.layout.specs.Reading.{report, outcome}
-use Rattle.layout.specs.declared.reading.Reading.{Reading}
-use Rattle.layout.specs.declared.reading.Reading.the-variants as reading
+use Rattle.layout.specs.declared.reading.Extent.{Extent}
+use Rattle.layout.specs.declared.reading.Extent.the-variants as reading
 
 no-number : {A : Type 0} {j k : ℕ} → _≡_ {A = Res A} (no j) (no k) → j ≡ k
 no-number e = cc
@@ -17,7 +17,7 @@ no-number e = cc
 ok-no : {A : Type 0} {a : A} {k m : ℕ} → _≡_ {A = Res A} (ok a m) (no k) → ⊥
 ok-no e = let z : _≡_ {A = ℕ} 0 1 = cc in omega arith
 
-module _ {A : Type 0} (blank : A) {v : A} {a : Reading} where
+module _ {A : Type 0} (blank : A) {v : A} {a : Extent} where
   -- it was read up to n
   pub told : {n : ℕ} (x : Res A) → _≡_ {A = Res (Unit {0}) × A} (report a, v) (outcome blank x) → a ≡ reading.To n → x ≡ ok v n
   unfolding outcome

@@ -1,8 +1,8 @@
 // The readers of a number and of bytes, unchecked, next to the writers of put.rt: `Reader` of codec.rs.
 //
 // Ported from crates/opc-consensus/src/voter_slots/codec.rs of openpacketcore-sdk, commit
-// 717de332e7, Apache-2.0 (see NOTICE). Changed: each is handed the rest of the bytes and answers the
-// count that it took.
+// 717de332e7, Apache-2.0 (see NOTICE). Changed: each takes the rest of the bytes and returns the
+// count that it read.
 ghost use mathlib.Core.Path.{_≡_};
 ghost use Prim.Native.Nat.{_≤_};
 ghost use Rattle.format.specs.Copy.{zeros};
@@ -13,7 +13,7 @@ use crate::put::put_bytes;
 use crate::reading::Array16Read;
 use crate::reading::Array32Read;
 use crate::reading::Array64Read;
-use crate::reading::Reading;
+use crate::reading::Extent;
 use crate::reading::SizedRead;
 use crate::reading::U8Read;
 use crate::reading::U16Read;
@@ -81,7 +81,7 @@ pub fn read_array16(bytes: &[u8]) -> Array16Read
     let mut value = zeros16();
     put_bytes(&mut value, 0, &bytes[..16]);
     Array16Read {
-        answer: Reading::To(16),
+        answer: Extent::To(16),
         value,
     }
 }
@@ -96,7 +96,7 @@ pub fn read_array32(bytes: &[u8]) -> Array32Read
     let mut value = zeros32();
     put_bytes(&mut value, 0, &bytes[..32]);
     Array32Read {
-        answer: Reading::To(32),
+        answer: Extent::To(32),
         value,
     }
 }
@@ -111,7 +111,7 @@ pub fn read_array64(bytes: &[u8]) -> Array64Read
     let mut value = zeros64();
     put_bytes(&mut value, 0, &bytes[..64]);
     Array64Read {
-        answer: Reading::To(64),
+        answer: Extent::To(64),
         value,
     }
 }

@@ -15,6 +15,7 @@ use records::blank::blank_voter_slot_identity;
 use records::blank::blank_voter_slot_member;
 use records::blank::blank_voter_slot_table;
 use records::records::LostVoterAttestationV1;
+use records::records::MAX_FIXED_VOTER_SLOTS;
 use records::records::OptionalLogId;
 use records::records::SpiffeId;
 use records::records::VoterConfiguration;
@@ -106,7 +107,7 @@ pub struct Change {
     pub phase: u8,
 }
 
-// The front of a table, behind the magic and the version.
+// The front of a table, after the magic and the version.
 pub struct TableHead {
     pub cluster_instance: ConsensusClusterId,
     pub manifest_digest: [u8; 32],
@@ -372,10 +373,10 @@ pub fn replacement_of(
 }
 
 // A table of its parts.
-pub fn table_of(
+pub fn table_of_parts(
     head: TableHead,
     count: usize,
-    slots: [VoterSlotRecord; 9],
+    slots: [VoterSlotRecord; MAX_FIXED_VOTER_SLOTS],
     has_replacement: bool,
     replacement: VoterReplacementRecord,
 ) -> VoterSlotTable
@@ -397,7 +398,11 @@ pub fn table_of(
 
 // The table of its parts that has no open request: a blank one filled in, so that the open request's
 // 6 KB are cleared once and not copied.
-pub fn idle_table_of(head: TableHead, count: usize, slots: [VoterSlotRecord; 9]) -> VoterSlotTable
+pub fn idle_table_of(
+    head: TableHead,
+    count: usize,
+    slots: [VoterSlotRecord; MAX_FIXED_VOTER_SLOTS],
+) -> VoterSlotTable
     ensures { λ r. ⌜ r ≡ tableOf head count slots false blankVoterReplacementRecord ⌝ }
 {
     let cluster_instance = head.cluster_instance;

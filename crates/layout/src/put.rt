@@ -2,7 +2,7 @@
 //
 // Ported from crates/opc-consensus/src/voter_slots/codec.rs of openpacketcore-sdk, commit
 // 717de332e7, Apache-2.0 (see NOTICE). Changed: a buffer is lent and has room; each writer is given
-// the place to write at and gives the place behind.
+// the place to write at and gives the place after it.
 ghost use Prim.Native.Nat.{_+_, _≤_};
 ghost use lib.ListN.{length};
 ghost use Rattle.format.specs.Num.{uint};

@@ -1,7 +1,7 @@
 // What the readers answer, and how a refusal is passed on.
 //
 // An enum carries the value and the count of its bytes. Where an array comes with the value, which
-// no enum can hold, a struct has `Reading` and the value, and a refused one the blank.
+// no enum can hold, a struct has `Extent` and the value, and a refused one the blank.
 ghost use mathlib.Core.Path.{_≡_};
 ghost use Rattle.identity.specs.Answer.{numberOf};
 ghost use Rattle.format.specs.Res.Res.{no};
@@ -43,6 +43,7 @@ use records::blank::blank_voter_slot_record;
 use records::blank::blank_voter_slot_table;
 use records::blank::blank_voter_snapshot_evidence;
 use records::records::LostVoterAttestationV1;
+use records::records::MAX_FIXED_VOTER_SLOTS;
 use records::records::OptionalLogId;
 use records::records::SnapshotId;
 use records::records::SpiffeId;
@@ -57,7 +58,7 @@ use records::records::VoterSlotTable;
 use records::records::VoterSnapshotEvidence;
 
 // How far was read, or written; or why not.
-pub enum Reading {
+pub enum Extent {
     To(usize),
     Refused(Answer),
 }
@@ -115,156 +116,156 @@ pub enum TimesRead {
 }
 
 pub struct Array16Read {
-    pub answer: Reading,
+    pub answer: Extent,
     pub value: [u8; 16],
 }
 
 pub struct Array32Read {
-    pub answer: Reading,
+    pub answer: Extent,
     pub value: [u8; 32],
 }
 
 pub struct Array64Read {
-    pub answer: Reading,
+    pub answer: Extent,
     pub value: [u8; 64],
 }
 
 pub struct SpiffeIdRead {
-    pub answer: Reading,
+    pub answer: Extent,
     pub value: SpiffeId,
 }
 
 pub struct SnapshotIdRead {
-    pub answer: Reading,
+    pub answer: Extent,
     pub value: SnapshotId,
 }
 
 pub struct BindingRead {
-    pub answer: Reading,
+    pub answer: Extent,
     pub value: Binding,
 }
 
 pub struct MemberRead {
-    pub answer: Reading,
+    pub answer: Extent,
     pub value: VoterSlotMember,
 }
 
 pub struct MembersRead {
-    pub answer: Reading,
-    pub value: [VoterSlotMember; 9],
+    pub answer: Extent,
+    pub value: [VoterSlotMember; MAX_FIXED_VOTER_SLOTS],
 }
 
 pub struct ConfigurationRead {
-    pub answer: Reading,
+    pub answer: Extent,
     pub value: VoterConfiguration,
 }
 
 pub struct ResultHeadRead {
-    pub answer: Reading,
+    pub answer: Extent,
     pub value: ResultHead,
 }
 
 pub struct ResultRead {
-    pub answer: Reading,
+    pub answer: Extent,
     pub value: VoterReplacementResult,
 }
 
 pub struct OptionalResultRead {
-    pub answer: Reading,
+    pub answer: Extent,
     pub is_some: bool,
     pub value: VoterReplacementResult,
 }
 
 pub struct SlotMemberRead {
-    pub answer: Reading,
+    pub answer: Extent,
     pub value: SlotMember,
 }
 
 pub struct SlotRead {
-    pub answer: Reading,
+    pub answer: Extent,
     pub value: VoterSlotRecord,
 }
 
 pub struct SlotsRead {
-    pub answer: Reading,
-    pub value: [VoterSlotRecord; 9],
+    pub answer: Extent,
+    pub value: [VoterSlotRecord; MAX_FIXED_VOTER_SLOTS],
 }
 
 pub struct ClaimsRequestRead {
-    pub answer: Reading,
+    pub answer: Extent,
     pub value: ClaimsRequest,
 }
 
 pub struct ClaimsSlotRead {
-    pub answer: Reading,
+    pub answer: Extent,
     pub value: ClaimsSlot,
 }
 
 pub struct ClaimsNamesRead {
-    pub answer: Reading,
+    pub answer: Extent,
     pub value: ClaimsNames,
 }
 
 pub struct ClaimsEndRead {
-    pub answer: Reading,
+    pub answer: Extent,
     pub value: ClaimsEnd,
 }
 
 pub struct AttestationRead {
-    pub answer: Reading,
+    pub answer: Extent,
     pub value: LostVoterAttestationV1,
 }
 
 pub struct SnapshotRead {
-    pub answer: Reading,
+    pub answer: Extent,
     pub value: VoterSnapshotEvidence,
 }
 
 pub struct OptionalSnapshotRead {
-    pub answer: Reading,
+    pub answer: Extent,
     pub is_some: bool,
     pub value: VoterSnapshotEvidence,
 }
 
 pub struct EvidenceRead {
-    pub answer: Reading,
+    pub answer: Extent,
     pub value: VoterReplacementEvidence,
 }
 
 pub struct ChangeRead {
-    pub answer: Reading,
+    pub answer: Extent,
     pub value: Change,
 }
 
 pub struct ReplacementRead {
-    pub answer: Reading,
+    pub answer: Extent,
     pub value: VoterReplacementRecord,
 }
 
 pub struct TableHeadRead {
-    pub answer: Reading,
+    pub answer: Extent,
     pub value: TableHead,
 }
 
 pub struct TableFrontRead {
-    pub answer: Reading,
+    pub answer: Extent,
     pub head: TableHead,
     pub count: usize,
-    pub slots: [VoterSlotRecord; 9],
+    pub slots: [VoterSlotRecord; MAX_FIXED_VOTER_SLOTS],
 }
 
 pub struct TableRead {
-    pub answer: Reading,
+    pub answer: Extent,
     pub value: VoterSlotTable,
 }
 
 // The refusal of each; of what was read, which no caller asks, some refusal.
-pub fn why(answer: Reading) -> Answer
+pub fn why(answer: Extent) -> Answer
     ensures { λ r. ⌜ r ≡ whyOf answer ⌝ }
 {
     match answer {
-        Reading::To(_) => Answer::InvalidRecord,
-        Reading::Refused(refusal) => refusal,
+        Extent::To(_) => Answer::InvalidRecord,
+        Extent::Refused(refusal) => refusal,
     }
 }
 
@@ -363,7 +364,7 @@ pub fn refused_array16(answer: Answer) -> Array16Read
     ensures { λ r. ⌜ (report (r .answer), r .value) ≡ outcome (zeros 16) (no (numberOf answer)) ⌝ }
 {
     Array16Read {
-        answer: Reading::Refused(answer),
+        answer: Extent::Refused(answer),
         value: [0; 16],
     }
 }
@@ -372,7 +373,7 @@ pub fn refused_array32(answer: Answer) -> Array32Read
     ensures { λ r. ⌜ (report (r .answer), r .value) ≡ outcome (zeros 32) (no (numberOf answer)) ⌝ }
 {
     Array32Read {
-        answer: Reading::Refused(answer),
+        answer: Extent::Refused(answer),
         value: [0; 32],
     }
 }
@@ -381,7 +382,7 @@ pub fn refused_array64(answer: Answer) -> Array64Read
     ensures { λ r. ⌜ (report (r .answer), r .value) ≡ outcome (zeros 64) (no (numberOf answer)) ⌝ }
 {
     Array64Read {
-        answer: Reading::Refused(answer),
+        answer: Extent::Refused(answer),
         value: [0; 64],
     }
 }
@@ -390,7 +391,7 @@ pub fn refused_spiffe_id(answer: Answer) -> SpiffeIdRead
     ensures { λ r. ⌜ (report (r .answer), r .value) ≡ outcome blankSpiffeId (no (numberOf answer)) ⌝ }
 {
     SpiffeIdRead {
-        answer: Reading::Refused(answer),
+        answer: Extent::Refused(answer),
         value: blank_spiffe_id(),
     }
 }
@@ -399,7 +400,7 @@ pub fn refused_snapshot_id(answer: Answer) -> SnapshotIdRead
     ensures { λ r. ⌜ (report (r .answer), r .value) ≡ outcome blankSnapshotId (no (numberOf answer)) ⌝ }
 {
     SnapshotIdRead {
-        answer: Reading::Refused(answer),
+        answer: Extent::Refused(answer),
         value: blank_snapshot_id(),
     }
 }
@@ -408,7 +409,7 @@ pub fn refused_binding(answer: Answer) -> BindingRead
     ensures { λ r. ⌜ (report (r .answer), r .value) ≡ outcome blankBinding (no (numberOf answer)) ⌝ }
 {
     BindingRead {
-        answer: Reading::Refused(answer),
+        answer: Extent::Refused(answer),
         value: blank_binding(),
     }
 }
@@ -417,7 +418,7 @@ pub fn refused_member(answer: Answer) -> MemberRead
     ensures { λ r. ⌜ (report (r .answer), r .value) ≡ outcome blankVoterSlotMember (no (numberOf answer)) ⌝ }
 {
     MemberRead {
-        answer: Reading::Refused(answer),
+        answer: Extent::Refused(answer),
         value: blank_voter_slot_member(),
     }
 }
@@ -426,7 +427,7 @@ pub fn refused_members(answer: Answer) -> MembersRead
     ensures { λ r. ⌜ (report (r .answer), r .value) ≡ outcome blankVoterSlotMembers (no (numberOf answer)) ⌝ }
 {
     MembersRead {
-        answer: Reading::Refused(answer),
+        answer: Extent::Refused(answer),
         value: blank_voter_slot_members(),
     }
 }
@@ -435,7 +436,7 @@ pub fn refused_configuration(answer: Answer) -> ConfigurationRead
     ensures { λ r. ⌜ (report (r .answer), r .value) ≡ outcome blankVoterConfiguration (no (numberOf answer)) ⌝ }
 {
     ConfigurationRead {
-        answer: Reading::Refused(answer),
+        answer: Extent::Refused(answer),
         value: blank_voter_configuration(),
     }
 }
@@ -444,7 +445,7 @@ pub fn refused_result_head(answer: Answer) -> ResultHeadRead
     ensures { λ r. ⌜ (report (r .answer), r .value) ≡ outcome blankResultHead (no (numberOf answer)) ⌝ }
 {
     ResultHeadRead {
-        answer: Reading::Refused(answer),
+        answer: Extent::Refused(answer),
         value: blank_result_head(),
     }
 }
@@ -453,7 +454,7 @@ pub fn refused_result(answer: Answer) -> ResultRead
     ensures { λ r. ⌜ (report (r .answer), r .value) ≡ outcome blankVoterReplacementResult (no (numberOf answer)) ⌝ }
 {
     ResultRead {
-        answer: Reading::Refused(answer),
+        answer: Extent::Refused(answer),
         value: blank_voter_replacement_result(),
     }
 }
@@ -462,7 +463,7 @@ pub fn refused_optional_result(answer: Answer) -> OptionalResultRead
     ensures { λ r. ⌜ (report (r .answer), (r .«is_some», r .value)) ≡ outcome absentResult (no (numberOf answer)) ⌝ }
 {
     OptionalResultRead {
-        answer: Reading::Refused(answer),
+        answer: Extent::Refused(answer),
         is_some: false,
         value: blank_voter_replacement_result(),
     }
@@ -472,7 +473,7 @@ pub fn refused_slot_member(answer: Answer) -> SlotMemberRead
     ensures { λ r. ⌜ (report (r .answer), r .value) ≡ outcome blankSlotMember (no (numberOf answer)) ⌝ }
 {
     SlotMemberRead {
-        answer: Reading::Refused(answer),
+        answer: Extent::Refused(answer),
         value: blank_slot_member(),
     }
 }
@@ -481,7 +482,7 @@ pub fn refused_slot(answer: Answer) -> SlotRead
     ensures { λ r. ⌜ (report (r .answer), r .value) ≡ outcome blankVoterSlotRecord (no (numberOf answer)) ⌝ }
 {
     SlotRead {
-        answer: Reading::Refused(answer),
+        answer: Extent::Refused(answer),
         value: blank_voter_slot_record(),
     }
 }
@@ -490,7 +491,7 @@ pub fn refused_slots(answer: Answer) -> SlotsRead
     ensures { λ r. ⌜ (report (r .answer), r .value) ≡ outcome blankVoterSlotRecords (no (numberOf answer)) ⌝ }
 {
     SlotsRead {
-        answer: Reading::Refused(answer),
+        answer: Extent::Refused(answer),
         value: blank_voter_slot_records(),
     }
 }
@@ -499,7 +500,7 @@ pub fn refused_claims_request(answer: Answer) -> ClaimsRequestRead
     ensures { λ r. ⌜ (report (r .answer), r .value) ≡ outcome blankClaimsRequest (no (numberOf answer)) ⌝ }
 {
     ClaimsRequestRead {
-        answer: Reading::Refused(answer),
+        answer: Extent::Refused(answer),
         value: blank_claims_request(),
     }
 }
@@ -508,7 +509,7 @@ pub fn refused_claims_slot(answer: Answer) -> ClaimsSlotRead
     ensures { λ r. ⌜ (report (r .answer), r .value) ≡ outcome blankClaimsSlot (no (numberOf answer)) ⌝ }
 {
     ClaimsSlotRead {
-        answer: Reading::Refused(answer),
+        answer: Extent::Refused(answer),
         value: blank_claims_slot(),
     }
 }
@@ -517,7 +518,7 @@ pub fn refused_claims_names(answer: Answer) -> ClaimsNamesRead
     ensures { λ r. ⌜ (report (r .answer), r .value) ≡ outcome blankClaimsNames (no (numberOf answer)) ⌝ }
 {
     ClaimsNamesRead {
-        answer: Reading::Refused(answer),
+        answer: Extent::Refused(answer),
         value: blank_claims_names(),
     }
 }
@@ -526,7 +527,7 @@ pub fn refused_claims_end(answer: Answer) -> ClaimsEndRead
     ensures { λ r. ⌜ (report (r .answer), r .value) ≡ outcome blankClaimsEnd (no (numberOf answer)) ⌝ }
 {
     ClaimsEndRead {
-        answer: Reading::Refused(answer),
+        answer: Extent::Refused(answer),
         value: blank_claims_end(),
     }
 }
@@ -535,7 +536,7 @@ pub fn refused_attestation(answer: Answer) -> AttestationRead
     ensures { λ r. ⌜ (report (r .answer), r .value) ≡ outcome blankLostVoterAttestationV1 (no (numberOf answer)) ⌝ }
 {
     AttestationRead {
-        answer: Reading::Refused(answer),
+        answer: Extent::Refused(answer),
         value: blank_lost_voter_attestation_v1(),
     }
 }
@@ -544,7 +545,7 @@ pub fn refused_snapshot(answer: Answer) -> SnapshotRead
     ensures { λ r. ⌜ (report (r .answer), r .value) ≡ outcome blankVoterSnapshotEvidence (no (numberOf answer)) ⌝ }
 {
     SnapshotRead {
-        answer: Reading::Refused(answer),
+        answer: Extent::Refused(answer),
         value: blank_voter_snapshot_evidence(),
     }
 }
@@ -553,7 +554,7 @@ pub fn refused_optional_snapshot(answer: Answer) -> OptionalSnapshotRead
     ensures { λ r. ⌜ (report (r .answer), (r .«is_some», r .value)) ≡ outcome absentSnapshot (no (numberOf answer)) ⌝ }
 {
     OptionalSnapshotRead {
-        answer: Reading::Refused(answer),
+        answer: Extent::Refused(answer),
         is_some: false,
         value: blank_voter_snapshot_evidence(),
     }
@@ -563,7 +564,7 @@ pub fn refused_evidence(answer: Answer) -> EvidenceRead
     ensures { λ r. ⌜ (report (r .answer), r .value) ≡ outcome blankVoterReplacementEvidence (no (numberOf answer)) ⌝ }
 {
     EvidenceRead {
-        answer: Reading::Refused(answer),
+        answer: Extent::Refused(answer),
         value: blank_voter_replacement_evidence(),
     }
 }
@@ -572,7 +573,7 @@ pub fn refused_change(answer: Answer) -> ChangeRead
     ensures { λ r. ⌜ (report (r .answer), r .value) ≡ outcome blankChange (no (numberOf answer)) ⌝ }
 {
     ChangeRead {
-        answer: Reading::Refused(answer),
+        answer: Extent::Refused(answer),
         value: blank_change(),
     }
 }
@@ -581,7 +582,7 @@ pub fn refused_replacement(answer: Answer) -> ReplacementRead
     ensures { λ r. ⌜ (report (r .answer), r .value) ≡ outcome blankVoterReplacementRecord (no (numberOf answer)) ⌝ }
 {
     ReplacementRead {
-        answer: Reading::Refused(answer),
+        answer: Extent::Refused(answer),
         value: blank_voter_replacement_record(),
     }
 }
@@ -590,7 +591,7 @@ pub fn refused_table_head(answer: Answer) -> TableHeadRead
     ensures { λ r. ⌜ (report (r .answer), r .value) ≡ outcome blankTableHead (no (numberOf answer)) ⌝ }
 {
     TableHeadRead {
-        answer: Reading::Refused(answer),
+        answer: Extent::Refused(answer),
         value: blank_table_head(),
     }
 }
@@ -601,7 +602,7 @@ pub fn refused_table_front(answer: Answer) -> TableFrontRead
     let head = blank_table_head();
     let slots = blank_voter_slot_records();
     TableFrontRead {
-        answer: Reading::Refused(answer),
+        answer: Extent::Refused(answer),
         head,
         count: 0,
         slots,
@@ -612,21 +613,21 @@ pub fn refused_table(answer: Answer) -> TableRead
     ensures { λ r. ⌜ (report (r .answer), r .value) ≡ outcome blankVoterSlotTable (no (numberOf answer)) ⌝ }
 {
     TableRead {
-        answer: Reading::Refused(answer),
+        answer: Extent::Refused(answer),
         value: blank_voter_slot_table(),
     }
 }
 
-pub fn blank_voter_slot_members() -> [VoterSlotMember; 9]
+pub fn blank_voter_slot_members() -> [VoterSlotMember; MAX_FIXED_VOTER_SLOTS]
     ensures { λ r. ⌜ r ≡ blankVoterSlotMembers ⌝ }
 {
     let blank = blank_voter_slot_member();
-    [blank; 9]
+    [blank; MAX_FIXED_VOTER_SLOTS]
 }
 
-pub fn blank_voter_slot_records() -> [VoterSlotRecord; 9]
+pub fn blank_voter_slot_records() -> [VoterSlotRecord; MAX_FIXED_VOTER_SLOTS]
     ensures { λ r. ⌜ r ≡ blankVoterSlotRecords ⌝ }
 {
     let blank = blank_voter_slot_record();
-    [blank; 9]
+    [blank; MAX_FIXED_VOTER_SLOTS]
 }

@@ -14,10 +14,10 @@ use Rattle.format.specs.List.{decVec, encVec, vec, padded, flag, flagTest, opt,
 use Rattle.format.specs.Through.{whole}
 use Rattle.identity.specs.Identity.{validateSlotId, validateVoterIncarnation, validateVoterSlotIdentity, newVoterSlotIdentity, identityOf, nodeId, fromNodeId, numberOfNumber, valueOfNumber, numberOfIdentity, nextVoterIncarnation}
 use Rattle.identity.specs.Text.{scheme, isIn, startsWith, isName, isUtf8, isSnapshotId, every}
-use Rattle.identity.specs.Utf8.{fits, widthIn, decoded, charsFrom, allChars}
+use Rattle.identity.specs.Utf8.{fits, widthIn, decodedChar, charsFrom, allChars}
 use Rattle.records.specs.Blank.{blankVoterSlotIdentity, blankSpiffeId, blankSnapshotId, blankVoterSlotLogId, blankOptionalLogId, blankVoterSlotMember, blankVoterReplacementResult, blankVoterSlotRecord, blankVoterSnapshotEvidence, blankVoterConfiguration, blankLostVoterAttestationV1, blankVoterReplacementEvidence, blankVoterReplacementRecord, blankVoterSlotTable}
 use Rattle.records.specs.Equality.{allTrue, eqList, sameVoterSlotIdentity, sameSpiffeId, sameSnapshotId, sameVoterSlotLogId, sameOptionalLogId, sameVoterSlotMember, sameVoterReplacementResult, sameVoterSlotRecord, sameVoterSnapshotEvidence, sameVoterConfiguration, sameLostVoterAttestationV1, sameVoterReplacementEvidence, sameVoterReplacementRecord, sameVoterSlotTable}
-use Rattle.records.specs.Evidence.{follows, validStage, stageOr, validStages, validBeside, validContinuation, validEvidence, retainsCut, retainsMarker, retainsCuts, retains, laterOf, latest}
+use Rattle.records.specs.Evidence.{follows, validStage, stageOr, validStages, inOrder, validContinuation, validEvidence, retainsCut, retainsMarker, retainsCuts, retains, laterOf, latest}
 use Rattle.records.specs.Records.{voting, pending, allBelow, firstFrom}
 use Rattle.records.specs.Representable.{representableMember, representableResult, representableSlotRecord, representable, isText, representableOptionalLogId, representableConfiguration, representableAttestation, representableEvidence, representableReplacement}
 use Rattle.records.specs.Validation.{validResult, validSlot, validSlots, validity, validate, validConfiguration, validAttestation, validOperationHead, isCurrentEpoch, validOperation, retiredMember, validTarget, validateMember, validateMembers, validateOperation}
@@ -129,5 +129,5 @@ rows =
 -- ---- the theorem
 
 pub cases : Every rows
-unfolding validateVoterIncarnation validateVoterSlotIdentity newVoterSlotIdentity nodeId fromNodeId isIn startsWith isName fits widthIn decoded charsFrom allChars eqList allTrue sameVoterSlotIdentity sameSpiffeId sameSnapshotId sameVoterSlotLogId sameOptionalLogId sameVoterSlotMember sameVoterReplacementResult sameVoterSlotRecord sameVoterSnapshotEvidence sameVoterConfiguration sameLostVoterAttestationV1 sameVoterReplacementEvidence sameVoterReplacementRecord blankVoterSlotIdentity blankSpiffeId blankSnapshotId blankVoterSlotLogId blankOptionalLogId blankVoterSlotMember blankVoterReplacementResult blankVoterSlotRecord blankVoterSnapshotEvidence blankVoterConfiguration blankLostVoterAttestationV1 blankVoterReplacementEvidence blankVoterReplacementRecord allBelow representableMember representableResult representableSlotRecord representable follows validResult validSlot validSlots validity validate validateSlotId decodeVoterSlotTable bounded andThen whole pick gate answered tableBytes encodeVoterSlotTable restarted restartOutcome be encVec table magicAndVersion headTest via check dep raw decSeq decCheck decMap decRaw uint held decUint val tableHead epoch slotCount slots slot slotMember identity slotId incarnation binding choice result opt either always flag flagTest padded vec decVec isUtf8 isSnapshotId every blankVoterSlotTable sameVoterSlotTable firstFrom validStage stageOr validStages validBeside validContinuation validEvidence retainsCut retainsMarker retainsCuts retains laterOf latest isText representableOptionalLogId representableConfiguration representableAttestation representableEvidence representableReplacement validConfiguration validAttestation validOperationHead isCurrentEpoch validOperation retiredMember validTarget validateMember validateMembers validateOperation resultSucceeds slotSucceeds requestSucceeds ownReceipt requestEnded endedSucceeds replacementSucceeds headSucceeds succession validateSuccessorOf settle blankConsensusIdentity blankVoterReplacementRequest blankVoterReplacementStep sameConsensusIdentity sameVoterReplacementRequest sameVoterReplacementStep representableStep representableControl currentConfiguration validRequest requestCheck isOpenRequest receiptIndex knownDigest repeated openCheck isExpected isCurrent candidateCheck fullCheck beginCheck begunSlot begunOperation begin recordSnapshot recordCaughtUp recordContinuation fence finalizedSlot finalize isCompleted takeStep advanceOpen advance marker decide applyControl isRising allRising insertId contains unionIds difference splitSets total representableSets memberIdsBelow isObsolete mayLinger seePredecessor seeSets seeFrom observed observe observeMembership isRetiredIdentity retiredTest countsIn among isMajority isQuorum configuration members member resultHead version claims claimsEnd claimsNames claimsSlot claimsRequest times attestation spiffeId snapshotId string sized logId optionalLogId snapshot evidence threeCuts change replacement decodeLostVoterAttestation nextVoterIncarnation sizedBytes counted markerBody noSnapshotPart snapshotPart stepBody advanceBody anyIdentity candidate expected beginHead beginBody nodeIds nodeSets observationBody markOf knownMark frame markerControl markerAsked snapshotIdOf snapshotOf stepOf advanceOf advanceControl advanceAsked beginOf beginControl beginAsked observationAsked formed attested asking answered-call called opened opening step firstEntry entriesIn entries run ended decimalIn decimal revisionOf lineOf lines replayFrom replay flatten
+unfolding validateVoterIncarnation validateVoterSlotIdentity newVoterSlotIdentity nodeId fromNodeId isIn startsWith isName fits widthIn decodedChar charsFrom allChars eqList allTrue sameVoterSlotIdentity sameSpiffeId sameSnapshotId sameVoterSlotLogId sameOptionalLogId sameVoterSlotMember sameVoterReplacementResult sameVoterSlotRecord sameVoterSnapshotEvidence sameVoterConfiguration sameLostVoterAttestationV1 sameVoterReplacementEvidence sameVoterReplacementRecord blankVoterSlotIdentity blankSpiffeId blankSnapshotId blankVoterSlotLogId blankOptionalLogId blankVoterSlotMember blankVoterReplacementResult blankVoterSlotRecord blankVoterSnapshotEvidence blankVoterConfiguration blankLostVoterAttestationV1 blankVoterReplacementEvidence blankVoterReplacementRecord allBelow representableMember representableResult representableSlotRecord representable follows validResult validSlot validSlots validity validate validateSlotId decodeVoterSlotTable bounded andThen whole pick gate answered tableBytes encodeVoterSlotTable restarted restartOutcome be encVec table magicAndVersion headTest via check dep raw decSeq decCheck decMap decRaw uint held decUint val tableHead epoch slotCount slots slot slotMember identity slotId incarnation binding choice result opt either always flag flagTest padded vec decVec isUtf8 isSnapshotId every blankVoterSlotTable sameVoterSlotTable firstFrom validStage stageOr validStages inOrder validContinuation validEvidence retainsCut retainsMarker retainsCuts retains laterOf latest isText representableOptionalLogId representableConfiguration representableAttestation representableEvidence representableReplacement validConfiguration validAttestation validOperationHead isCurrentEpoch validOperation retiredMember validTarget validateMember validateMembers validateOperation resultSucceeds slotSucceeds requestSucceeds ownReceipt requestEnded endedSucceeds replacementSucceeds headSucceeds succession validateSuccessorOf settle blankConsensusIdentity blankVoterReplacementRequest blankVoterReplacementStep sameConsensusIdentity sameVoterReplacementRequest sameVoterReplacementStep representableStep representableControl currentConfiguration validRequest requestCheck isOpenRequest receiptIndex knownDigest repeated openCheck isExpected isCurrent candidateCheck fullCheck beginCheck begunSlot begunOperation begin recordSnapshot recordCaughtUp recordContinuation fence finalizedSlot finalize isCompleted takeStep advanceOpen advance marker decide applyControl isRising allRising insertId contains unionIds difference splitSets total representableSets memberIdsBelow isObsolete mayLinger seePredecessor seeSets seeFrom observed observe observeMembership isRetiredIdentity retiredTest countsIn among isMajority isQuorum configuration members member resultHead version claims claimsEnd claimsNames claimsSlot claimsRequest times attestation spiffeId snapshotId string sized logId optionalLogId snapshot evidence threeCuts change replacement decodeLostVoterAttestation nextVoterIncarnation sizedBytes counted markerBody noSnapshotPart snapshotPart stepBody advanceBody anyIdentity candidate expected beginHead beginBody nodeIds nodeSets observationBody markOf knownMark frame markerControl markerAsked snapshotIdOf snapshotOf stepOf advanceOf advanceControl advanceAsked beginOf beginControl beginAsked observationAsked formed attested asking answered-call called opened opening step firstEntry entriesIn entries run ended decimalIn decimal revisionOf lineOf lines replayFrom replay flatten
 cases = every-row rows tt

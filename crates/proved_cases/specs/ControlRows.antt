@@ -376,7 +376,7 @@ retiredRows =
     ∷ is-number (asked isFinalized 65538) 100
     ∷ is-number (asked isSuperseded 65538) 101
     ∷ is-number (asked isSuperseded 131074) 100
-    -- an id that is none, and one of a slot that is not there: no
+    -- an invalid id, and one of a slot that is not there: no
     ∷ is-number (asked isPrepared 0) 100
     ∷ is-number (asked isPrepared (2 ^ 63)) 100
     ∷ is-number (asked isPrepared 4) 100

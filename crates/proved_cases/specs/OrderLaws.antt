@@ -9,7 +9,7 @@ use lib.ListN.{take, drop}
 use Rattle.identity.specs.Answer.{numberOf}
 use Rattle.identity.specs.Identity.{validateSlotId, validateVoterIncarnation}
 use Rattle.identity.specs.Text.{isIn, startsWith, isName, isSnapshotId, isUtf8, every}
-use Rattle.identity.specs.Utf8.{fits, widthIn, decoded, charsFrom, allChars}
+use Rattle.identity.specs.Utf8.{fits, widthIn, decodedChar, charsFrom, allChars}
 use Rattle.identity.specs.declared.answer.Answer.the-variants.{Accepted}
 use Rattle.format.specs.Res.{andThen}
 use Rattle.format.specs.Res.Res.{ok, no}
@@ -19,7 +19,7 @@ use Rattle.format.specs.List.{decVec, vec, padded, flag, flagTest, opt, opt-som
 use Rattle.format.specs.Through.{whole, boxed, boxed-ok}
 use Rattle.records.specs.Blank.{blankVoterSlotIdentity, blankVoterSlotLogId, blankVoterSlotMember, blankVoterReplacementResult, blankVoterSlotRecord, blankVoterSnapshotEvidence, blankSnapshotId, blankVoterReplacementRecord}
 use Rattle.records.specs.Equality.{allTrue, eqList, sameVoterSlotIdentity, sameVoterSlotLogId, sameVoterSlotMember}
-use Rattle.records.specs.Evidence.{follows, validStage, stageOr, validStages, validBeside, validContinuation, validEvidence}
+use Rattle.records.specs.Evidence.{follows, validStage, stageOr, validStages, inOrder, validContinuation, validEvidence}
 use Rattle.records.specs.Records.{allBelow}
 use Rattle.records.specs.Validation.{validConfiguration, validAttestation, validResult, validSlot, validSlots, validOperationHead, isCurrentEpoch, validOperation, retiredMember, validTarget, validateMember, validateMembers, validateOperation, validity}
 use Rattle.layout.specs.Format.{maxAttestationBytes, table, magicAndVersion, headTest, tableHead, epoch, slotCount, slots, slot, slotMember, identity, slotId, incarnation, logId, optionalLogId, sized, string, spiffeId, snapshotId, binding, member, members, configuration, choice, resultHead, result, version, claimsRequest, claimsSlot, claimsNames, times, claimsEnd, claims, attestation, snapshot, threeCuts, evidence, change, replacement}
@@ -31,7 +31,7 @@ use Rattle.proved_cases.specs.Order.{orderedAttestation, orderedEvidence
 
 -- The attestation is read from its bytes, each field from its place.
 pub attestation-ordered : decodeLostVoterAttestation orderedAttestationBytes ≡ ok orderedAttestation 351
-unfolding orderedAttestation decodeLostVoterAttestation bounded andThen whole pick gate decSeq decCheck decMap dep check via held raw decRaw uint decUint val identity slotId incarnation validateSlotId validateVoterIncarnation sized string spiffeId choice version claimsRequest claimsSlot claimsNames times claimsEnd claims attestation isUtf8 isIn startsWith isName every fits widthIn decoded charsFrom allChars eqList allTrue validAttestation
+unfolding orderedAttestation decodeLostVoterAttestation bounded andThen whole pick gate decSeq decCheck decMap dep check via held raw decRaw uint decUint val identity slotId incarnation validateSlotId validateVoterIncarnation sized string spiffeId choice version claimsRequest claimsSlot claimsNames times claimsEnd claims attestation isUtf8 isIn startsWith isName every fits widthIn decodedChar charsFrom allChars eqList allTrue validAttestation
 attestation-ordered = refl
 
 -- ---- refusals of an attestation: its version is refused by 6, where a table's is by 4; a size over its bound is refused by 5 before the bytes are missed
@@ -40,7 +40,7 @@ pub version-two : decodeLostVoterAttestation (0 ∷ 2 ∷ drop 2 orderedAttestat
 unfolding decodeLostVoterAttestation bounded andThen whole pick gate decSeq decCheck decMap dep check via held raw decRaw uint decUint val identity slotId incarnation validateSlotId validateVoterIncarnation sized string spiffeId choice version claimsRequest claimsSlot claimsNames times claimsEnd claims attestation
 version-two = refl
 
--- it ends behind the size of the first name, 2,049: 5
+-- it ends after the size of the first name, 2,049: 5
 pub size-before-bytes : decodeLostVoterAttestation (take 164 orderedAttestationBytes ++ (8 ∷ 1 ∷ [])) ≡ no 5
 unfolding decodeLostVoterAttestation bounded andThen whole pick gate decSeq decCheck decMap dep check via held raw decRaw uint decUint val identity slotId incarnation validateSlotId validateVoterIncarnation sized string spiffeId choice version claimsRequest claimsSlot claimsNames times claimsEnd claims attestation
 size-before-bytes = refl
@@ -69,7 +69,7 @@ unfolding andThen pick gate decSeq decCheck decMap dep check via held raw decRaw
 change-ordered = refl
 
 evidence-ordered : evidence .dec (drop 872 requestBytes) ≡ ok orderedEvidence 173
-unfolding andThen pick gate decSeq decCheck decMap dep check via held raw decRaw uint decUint val logId optionalLogId sized string snapshotId snapshot threeCuts evidence opt either always flag flagTest isUtf8 every fits widthIn decoded charsFrom allChars blankVoterSlotLogId blankVoterSnapshotEvidence blankSnapshotId
+unfolding andThen pick gate decSeq decCheck decMap dep check via held raw decRaw uint decUint val logId optionalLogId sized string snapshotId snapshot threeCuts evidence opt either always flag flagTest isUtf8 every fits widthIn decodedChar charsFrom allChars blankVoterSlotLogId blankVoterSnapshotEvidence blankSnapshotId
 evidence-ordered = refl
 
 request-ordered : replacement .dec requestBytes ≡ ok orderedRequest 1045
@@ -94,7 +94,7 @@ fields-ordered =
     (dep-ok _ _ orderedTableBytes slots-ordered (opt-some replacement blankVoterReplacementRecord (drop 630 orderedTableBytes) flag-ordered request-ordered))
 
 ordered-valid : validity orderedTable ≡ Accepted
-unfolding orderedTable orderedAttestation isIn startsWith isName isSnapshotId isUtf8 every fits widthIn decoded charsFrom allChars eqList allTrue sameVoterSlotIdentity sameVoterSlotLogId sameVoterSlotMember allBelow follows validStage stageOr validStages validBeside validContinuation validEvidence validConfiguration validAttestation validResult validSlot validSlots validOperationHead isCurrentEpoch validOperation retiredMember validTarget validateMember validateMembers validateOperation validity
+unfolding orderedTable orderedAttestation isIn startsWith isName isSnapshotId isUtf8 every fits widthIn decodedChar charsFrom allChars eqList allTrue sameVoterSlotIdentity sameVoterSlotLogId sameVoterSlotMember allBelow follows validStage stageOr validStages inOrder validContinuation validEvidence validConfiguration validAttestation validResult validSlot validSlots validOperationHead isCurrentEpoch validOperation retiredMember validTarget validateMember validateMembers validateOperation validity
 ordered-valid = refl
 
 -- The table is read from its bytes, each field from its place.

@@ -1,6 +1,6 @@
 // Commands and observations in the bodies of questions: the records that document 01 has in "Replay
-// program". `is_..` tells whether a record's
-// body is of its form, `.._of` reads one that is: the value may still be one that the call refuses.
+// program". `is_..` tells whether a record's body is of its form, `.._of` reads one that is: the value
+// may still be one that the call refuses.
 ghost use Prim.Native.Nat.{_+_, _*_, _-_, _<_, _≤_};
 use crate::number::be16;
 use crate::number::be64;
@@ -32,17 +32,18 @@ use records::records::VoterSnapshotEvidence;
 // Where the parts of a command begin: each has the cut, 16 bytes, first.
 const REQUEST_ID: usize = 16;
 
-const REQUEST_DIGEST: usize = 32;
+const REQUEST_DIGEST: usize = REQUEST_ID + 16;
 
-const STEP: usize = 64;
+const STEP: usize = REQUEST_DIGEST + 32;
 
 // After the kind of the step.
-const STEP_CUT: usize = 65;
+const STEP_CUT: usize = STEP + 1;
 
-const SNAPSHOT_ID: usize = 83;
+// After the cut and a size of 2.
+const SNAPSHOT_ID: usize = STEP_CUT + 16 + 2;
 
 // After cut 16, expected_revision 8, expected_configuration 72, candidate 82 and a size of 2.
-pub const ATTESTATION: usize = 180;
+pub const ATTESTATION: usize = 16 + 8 + 72 + 82 + 2;
 
 // The longest body of a question.
 const LONGEST: usize = 70000;

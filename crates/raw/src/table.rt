@@ -10,6 +10,7 @@ use identity::identity::VoterSlotIdentity;
 use records::blank::blank_voter_slot_member;
 use records::blank::blank_voter_slot_record;
 use records::records::LostVoterAttestationV1;
+use records::records::MAX_FIXED_VOTER_SLOTS;
 use records::records::OptionalLogId;
 use records::records::SnapshotId;
 use records::records::SpiffeId;
@@ -26,27 +27,31 @@ use records::records::VoterSnapshotEvidence;
 // Where the parts of the table begin.
 const MANIFEST_DIGEST: usize = 32;
 
-const REVISION: usize = 64;
+const REVISION: usize = MANIFEST_DIGEST + 32;
 
-const CONFIGURATION_EPOCH: usize = 72;
+const CONFIGURATION_EPOCH: usize = REVISION + 8;
 
-const SLOTS: usize = 80;
+const SLOTS: usize = CONFIGURATION_EPOCH + 8;
 
-// Behind nine slot records: 80 + 9 * 181.
-const COUNT: usize = 1709;
+const COUNT: usize = SLOTS + MAX_FIXED_VOTER_SLOTS * SLOT_SIZE;
 
-const HAS_REPLACEMENT: usize = 1710;
+const HAS_REPLACEMENT: usize = COUNT + 1;
 
-const REPLACEMENT: usize = 1711;
+const REPLACEMENT: usize = HAS_REPLACEMENT + 1;
 
-// Behind expected_revision 8, the attestation 4,423, two configurations of 747 and the phase 1:
-// 1,711 + 5,926.
-const EVIDENCE: usize = 7637;
+// After expected_revision, the attestation, two configurations and the phase.
+const EVIDENCE: usize = REPLACEMENT + 8 + ATTESTATION_SIZE + 2 * CONFIGURATION_SIZE + 1;
 
-// The sizes of the parts of which there are nine.
+// The sizes of parts: the sums of the sizes that stand above the functions that read them.
 const MEMBER_SIZE: usize = 82;
 
-const SLOT_SIZE: usize = 181;
+const RESULT_SIZE: usize = 89;
+
+const SLOT_SIZE: usize = MEMBER_SIZE + 8 + 1 + 1 + RESULT_SIZE;
+
+const CONFIGURATION_SIZE: usize = 8 + MAX_FIXED_VOTER_SLOTS * MEMBER_SIZE + 1;
+
+const ATTESTATION_SIZE: usize = 4423;
 
 // How far the pieces of a raw table are laid.
 pub struct Place {
@@ -176,9 +181,9 @@ pub fn table_of(raw: &[u8; 8062]) -> VoterSlotTable {
     }
 }
 
-fn slots_of(raw: &[u8]) -> [VoterSlotRecord; 9] {
+fn slots_of(raw: &[u8]) -> [VoterSlotRecord; MAX_FIXED_VOTER_SLOTS] {
     let blank = blank_voter_slot_record();
-    let mut slots = [blank; 9];
+    let mut slots = [blank; MAX_FIXED_VOTER_SLOTS];
     let mut i = 0;
     while i < 9 {
         let slot = slot_at(raw, SLOTS + i * SLOT_SIZE);
@@ -188,7 +193,7 @@ fn slots_of(raw: &[u8]) -> [VoterSlotRecord; 9] {
     slots
 }
 
-// A record of each kind begins at at. Its fields lie one behind the other; their sizes, which give
+// A record of each kind begins at at. Its fields lie one after the other; their sizes, which give
 // the offsets, stand above each function.
 
 // member 82, retired_through 8, phase 1, has_last_result 1, last_result 89: 181 bytes.
@@ -342,11 +347,11 @@ fn configuration_at(raw: &[u8], at: usize) -> VoterConfiguration
 }
 
 // Nine members, from at on.
-fn members_at(raw: &[u8], at: usize) -> [VoterSlotMember; 9]
+fn members_at(raw: &[u8], at: usize) -> [VoterSlotMember; MAX_FIXED_VOTER_SLOTS]
     requires { ⌜ at + 738 ≤ 8062 ⌝ }
 {
     let blank = blank_voter_slot_member();
-    let mut members = [blank; 9];
+    let mut members = [blank; MAX_FIXED_VOTER_SLOTS];
     let mut i = 0;
     while i < 9 {
         let member = member_at(raw, at + i * MEMBER_SIZE);

@@ -1,9 +1,10 @@
 // The raw form of a table and of an attestation, as oracle/FORMAT.md has it: what `table` reads,
-// written. A byte behind the end of the place is left out, so that no caller has to show that a
+// written. A byte after the end of the place is left out, so that no caller has to show that a
 // record lies within.
 ghost use Prim.Native.Nat.{_+_, _≤_};
 use crate::table::copy;
 use records::records::LostVoterAttestationV1;
+use records::records::MAX_FIXED_VOTER_SLOTS;
 use records::records::OptionalLogId;
 use records::records::SnapshotId;
 use records::records::SpiffeId;
@@ -17,7 +18,7 @@ use records::records::VoterSlotRecord;
 use records::records::VoterSlotTable;
 use records::records::VoterSnapshotEvidence;
 
-// The offsets stand beside the readers of `table`.
+// The offsets stand at the readers of `table`.
 pub fn put_table(raw: &mut [u8], table: VoterSlotTable) {
     copy(raw, 0, 32, &table.cluster_instance, 0);
     copy(raw, 32, 64, &table.manifest_digest, 0);
@@ -76,7 +77,7 @@ fn put_signed_digests(raw: &mut [u8], at: usize, a: LostVoterAttestationV1)
     copy(raw, at + 4359, at + 4423, &a.signature, 0);
 }
 
-fn put_slots(raw: &mut [u8], slots: [VoterSlotRecord; 9]) {
+fn put_slots(raw: &mut [u8], slots: [VoterSlotRecord; MAX_FIXED_VOTER_SLOTS]) {
     let mut i = 0;
     while i < 9 {
         let slot = slots[i];
@@ -144,7 +145,7 @@ fn put_configuration(raw: &mut [u8], at: usize, c: VoterConfiguration)
     put(raw, at + 746, (c.count % 256) as u8);
 }
 
-fn put_members(raw: &mut [u8], at: usize, members: [VoterSlotMember; 9])
+fn put_members(raw: &mut [u8], at: usize, members: [VoterSlotMember; MAX_FIXED_VOTER_SLOTS])
     requires { ⌜ at + 738 ≤ 8062 ⌝ }
 {
     let mut i = 0;

@@ -1,8 +1,8 @@
 // The readers of the records, in the order of codec.rs.
 //
 // Ported from crates/opc-consensus/src/voter_slots/codec.rs of openpacketcore-sdk, commit
-// 717de332e7, Apache-2.0 (see NOTICE). Changed: each field has a reader of its own, which is handed
-// the rest of the bytes and gives the count that it took.
+// 717de332e7, Apache-2.0 (see NOTICE). Changed: each field has a reader of its own, which takes
+// the rest of the bytes and returns the count that it read.
 ghost use mathlib.Core.Path.{_≡_};
 ghost use Prim.Native.Nat.{_≤_};
 ghost use Rattle.format.specs.List.{opt};
@@ -46,7 +46,7 @@ use layout::parts::idle_table_of;
 use layout::parts::member_of;
 use layout::parts::replacement_of;
 use layout::parts::result_of;
-use layout::parts::table_of;
+use layout::parts::table_of_parts;
 use layout::reading::AttestationRead;
 use layout::reading::BindingRead;
 use layout::reading::BoolRead;
@@ -57,13 +57,13 @@ use layout::reading::ClaimsRequestRead;
 use layout::reading::ClaimsSlotRead;
 use layout::reading::ConfigurationRead;
 use layout::reading::EvidenceRead;
+use layout::reading::Extent;
 use layout::reading::IdentityRead;
 use layout::reading::LogIdRead;
 use layout::reading::MemberRead;
 use layout::reading::MembersRead;
 use layout::reading::OptionalResultRead;
 use layout::reading::OptionalSnapshotRead;
-use layout::reading::Reading;
 use layout::reading::ReplacementRead;
 use layout::reading::ResultHeadRead;
 use layout::reading::ResultRead;
@@ -134,13 +134,13 @@ pub fn read_binding(bytes: &[u8]) -> BindingRead
 {
     let key_digest_read = read_array32(bytes);
     let key_digest_to = key_digest_read.answer;
-    let Reading::To(at) = key_digest_to else {
+    let Extent::To(at) = key_digest_to else {
         return refused_binding(why(key_digest_to));
     };
     let key_digest = key_digest_read.value;
     let descriptor_digest_read = read_array32(&bytes[at..]);
     let descriptor_digest_to = descriptor_digest_read.answer;
-    let Reading::To(n) = descriptor_digest_to else {
+    let Extent::To(n) = descriptor_digest_to else {
         return refused_binding(why(descriptor_digest_to));
     };
     let descriptor_digest = descriptor_digest_read.value;
@@ -150,7 +150,7 @@ pub fn read_binding(bytes: &[u8]) -> BindingRead
         return refused_binding(why_u64(admission_generation_read));
     };
     BindingRead {
-        answer: Reading::To(at + n),
+        answer: Extent::To(at + n),
         value: Binding {
             key_digest,
             descriptor_digest,
@@ -169,17 +169,17 @@ pub fn read_member(bytes: &[u8]) -> MemberRead
     };
     let binding_read = read_binding(&bytes[at..]);
     let binding_to = binding_read.answer;
-    let Reading::To(n) = binding_to else {
+    let Extent::To(n) = binding_to else {
         return refused_member(why(binding_to));
     };
     let binding = binding_read.value;
     MemberRead {
-        answer: Reading::To(at + n),
+        answer: Extent::To(at + n),
         value: member_of(identity, binding),
     }
 }
 
-// The first so many of the nine places; blanks behind them.
+// The first so many of the nine places; blanks after them.
 fn read_members(bytes: &[u8], count: usize) -> MembersRead
     requires { ⌜ count ≤ 9 ⌝ }
     ensures { λ r. ⌜ (report (r .answer), r .value) ≡ outcome blankVoterSlotMembers (members count .dec (now (bytes .entry))) ⌝ }
@@ -190,7 +190,7 @@ fn read_members(bytes: &[u8], count: usize) -> MembersRead
     while i < count {
         let read = read_member(&bytes[at..]);
         let to = read.answer;
-        let Reading::To(n) = to else {
+        let Extent::To(n) = to else {
             return refused_members(why(to));
         };
         let place = read.value;
@@ -199,7 +199,7 @@ fn read_members(bytes: &[u8], count: usize) -> MembersRead
         i += 1;
     }
     MembersRead {
-        answer: Reading::To(at),
+        answer: Extent::To(at),
         value,
     }
 }
@@ -219,12 +219,12 @@ pub fn read_configuration(bytes: &[u8]) -> ConfigurationRead
     let at = at + n;
     let members_read = read_members(&bytes[at..], count as usize);
     let members_to = members_read.answer;
-    let Reading::To(n) = members_to else {
+    let Extent::To(n) = members_to else {
         return refused_configuration(why(members_to));
     };
     let members = members_read.value;
     ConfigurationRead {
-        answer: Reading::To(at + n),
+        answer: Extent::To(at + n),
         value: VoterConfiguration {
             epoch,
             members,
@@ -239,13 +239,13 @@ pub fn read_result_head(bytes: &[u8]) -> ResultHeadRead
 {
     let request_id_read = read_array16(bytes);
     let request_id_to = request_id_read.answer;
-    let Reading::To(at) = request_id_to else {
+    let Extent::To(at) = request_id_to else {
         return refused_result_head(why(request_id_to));
     };
     let request_id = request_id_read.value;
     let request_digest_read = read_array32(&bytes[at..]);
     let request_digest_to = request_digest_read.answer;
-    let Reading::To(n) = request_digest_to else {
+    let Extent::To(n) = request_digest_to else {
         return refused_result_head(why(request_digest_to));
     };
     let request_digest = request_digest_read.value;
@@ -260,7 +260,7 @@ pub fn read_result_head(bytes: &[u8]) -> ResultHeadRead
         return refused_result_head(why_u64(revision_read));
     };
     ResultHeadRead {
-        answer: Reading::To(at + n),
+        answer: Extent::To(at + n),
         value: ResultHead {
             request_id,
             request_digest,
@@ -276,7 +276,7 @@ pub fn read_result(bytes: &[u8]) -> ResultRead
 {
     let head_read = read_result_head(bytes);
     let head_to = head_read.answer;
-    let Reading::To(at) = head_to else {
+    let Extent::To(at) = head_to else {
         return refused_result(why(head_to));
     };
     let head = head_read.value;
@@ -295,7 +295,7 @@ pub fn read_result(bytes: &[u8]) -> ResultRead
         return refused_result(why_log_id(terminal_read));
     };
     ResultRead {
-        answer: Reading::To(at + n),
+        answer: Extent::To(at + n),
         value: result_of(head, configuration_epoch, kind, terminal),
     }
 }
@@ -310,19 +310,19 @@ fn read_optional_result(bytes: &[u8]) -> OptionalResultRead
     };
     if !is_some {
         return OptionalResultRead {
-            answer: Reading::To(at),
+            answer: Extent::To(at),
             is_some,
             value: blank_voter_replacement_result(),
         };
     }
     let read = read_result(&bytes[at..]);
     let to = read.answer;
-    let Reading::To(n) = to else {
+    let Extent::To(n) = to else {
         return refused_optional_result(why(to));
     };
     let value = read.value;
     OptionalResultRead {
-        answer: Reading::To(at + n),
+        answer: Extent::To(at + n),
         is_some,
         value,
     }
@@ -343,12 +343,12 @@ pub fn read_slot_member(bytes: &[u8]) -> SlotMemberRead
     let at = at + n;
     let binding_read = read_binding(&bytes[at..]);
     let binding_to = binding_read.answer;
-    let Reading::To(n) = binding_to else {
+    let Extent::To(n) = binding_to else {
         return refused_slot_member(why(binding_to));
     };
     let binding = binding_read.value;
     SlotMemberRead {
-        answer: Reading::To(at + n),
+        answer: Extent::To(at + n),
         value: SlotMember {
             member: member_of(identity, binding),
             retired_through,
@@ -362,7 +362,7 @@ pub fn read_slot(bytes: &[u8]) -> SlotRead
 {
     let head_read = read_slot_member(bytes);
     let head_to = head_read.answer;
-    let Reading::To(at) = head_to else {
+    let Extent::To(at) = head_to else {
         return refused_slot(why(head_to));
     };
     let head = head_read.value;
@@ -373,13 +373,13 @@ pub fn read_slot(bytes: &[u8]) -> SlotRead
     let at = at + n;
     let last_result_read = read_optional_result(&bytes[at..]);
     let last_result_to = last_result_read.answer;
-    let Reading::To(n) = last_result_to else {
+    let Extent::To(n) = last_result_to else {
         return refused_slot(why(last_result_to));
     };
     let last_result = last_result_read.value;
     let member = head.member;
     SlotRead {
-        answer: Reading::To(at + n),
+        answer: Extent::To(at + n),
         value: VoterSlotRecord {
             member,
             retired_through: head.retired_through,
@@ -390,7 +390,7 @@ pub fn read_slot(bytes: &[u8]) -> SlotRead
     }
 }
 
-// The first so many of the nine places; blanks behind them.
+// The first so many of the nine places; blanks after them.
 fn read_slots(bytes: &[u8], count: usize) -> SlotsRead
     requires { ⌜ count ≤ 9 ⌝ }
     ensures { λ r. ⌜ (report (r .answer), r .value) ≡ outcome blankVoterSlotRecords (slots count .dec (now (bytes .entry))) ⌝ }
@@ -401,7 +401,7 @@ fn read_slots(bytes: &[u8], count: usize) -> SlotsRead
     while i < count {
         let read = read_slot(&bytes[at..]);
         let to = read.answer;
-        let Reading::To(n) = to else {
+        let Extent::To(n) = to else {
             return refused_slots(why(to));
         };
         let place = read.value;
@@ -410,7 +410,7 @@ fn read_slots(bytes: &[u8], count: usize) -> SlotsRead
         i += 1;
     }
     SlotsRead {
-        answer: Reading::To(at),
+        answer: Extent::To(at),
         value,
     }
 }
@@ -420,24 +420,24 @@ pub fn read_claims_request(bytes: &[u8]) -> ClaimsRequestRead
     ensures { λ r. ⌜ (report (r .answer), r .value) ≡ outcome blankClaimsRequest (claimsRequest .dec (now (bytes .entry))) ⌝ }
 {
     let version = read_version(bytes);
-    let Reading::To(at) = version else {
+    let Extent::To(at) = version else {
         return refused_claims_request(why(version));
     };
     let request_id_read = read_array16(&bytes[at..]);
     let request_id_to = request_id_read.answer;
-    let Reading::To(n) = request_id_to else {
+    let Extent::To(n) = request_id_to else {
         return refused_claims_request(why(request_id_to));
     };
     let request_id = request_id_read.value;
     let at = at + n;
     let request_digest_read = read_array32(&bytes[at..]);
     let request_digest_to = request_digest_read.answer;
-    let Reading::To(n) = request_digest_to else {
+    let Extent::To(n) = request_digest_to else {
         return refused_claims_request(why(request_digest_to));
     };
     let request_digest = request_digest_read.value;
     ClaimsRequestRead {
-        answer: Reading::To(at + n),
+        answer: Extent::To(at + n),
         value: ClaimsRequest {
             request_id,
             request_digest,
@@ -450,7 +450,7 @@ pub fn read_claims_slot(bytes: &[u8]) -> ClaimsSlotRead
 {
     let cluster_instance_read = read_array32(bytes);
     let cluster_instance_to = cluster_instance_read.answer;
-    let Reading::To(at) = cluster_instance_to else {
+    let Extent::To(at) = cluster_instance_to else {
         return refused_claims_slot(why(cluster_instance_to));
     };
     let cluster_instance = cluster_instance_read.value;
@@ -461,19 +461,19 @@ pub fn read_claims_slot(bytes: &[u8]) -> ClaimsSlotRead
     let at = at + n;
     let old_descriptor_digest_read = read_array32(&bytes[at..]);
     let old_descriptor_digest_to = old_descriptor_digest_read.answer;
-    let Reading::To(n) = old_descriptor_digest_to else {
+    let Extent::To(n) = old_descriptor_digest_to else {
         return refused_claims_slot(why(old_descriptor_digest_to));
     };
     let old_descriptor_digest = old_descriptor_digest_read.value;
     let at = at + n;
     let candidate_key_digest_read = read_array32(&bytes[at..]);
     let candidate_key_digest_to = candidate_key_digest_read.answer;
-    let Reading::To(n) = candidate_key_digest_to else {
+    let Extent::To(n) = candidate_key_digest_to else {
         return refused_claims_slot(why(candidate_key_digest_to));
     };
     let candidate_key_digest = candidate_key_digest_read.value;
     ClaimsSlotRead {
-        answer: Reading::To(at + n),
+        answer: Extent::To(at + n),
         value: ClaimsSlot {
             cluster_instance,
             identity,
@@ -492,26 +492,26 @@ pub fn read_claims_names(bytes: &[u8]) -> ClaimsNamesRead
     };
     let candidate_spiffe_id_read = read_spiffe_id(&bytes[at..]);
     let candidate_spiffe_id_to = candidate_spiffe_id_read.answer;
-    let Reading::To(n) = candidate_spiffe_id_to else {
+    let Extent::To(n) = candidate_spiffe_id_to else {
         return refused_claims_names(why(candidate_spiffe_id_to));
     };
     let candidate_spiffe_id = candidate_spiffe_id_read.value;
     let at = at + n;
     let controller_spiffe_id_read = read_spiffe_id(&bytes[at..]);
     let controller_spiffe_id_to = controller_spiffe_id_read.answer;
-    let Reading::To(n) = controller_spiffe_id_to else {
+    let Extent::To(n) = controller_spiffe_id_to else {
         return refused_claims_names(why(controller_spiffe_id_to));
     };
     let controller_spiffe_id = controller_spiffe_id_read.value;
     let at = at + n;
     let signing_key_digest_read = read_array32(&bytes[at..]);
     let signing_key_digest_to = signing_key_digest_read.answer;
-    let Reading::To(n) = signing_key_digest_to else {
+    let Extent::To(n) = signing_key_digest_to else {
         return refused_claims_names(why(signing_key_digest_to));
     };
     let signing_key_digest = signing_key_digest_read.value;
     ClaimsNamesRead {
-        answer: Reading::To(at + n),
+        answer: Extent::To(at + n),
         value: ClaimsNames {
             admission_generation,
             candidate_spiffe_id,
@@ -530,7 +530,7 @@ pub fn read_claims_end(bytes: &[u8]) -> ClaimsEndRead
     };
     let policy_digest_read = read_array32(&bytes[at..]);
     let policy_digest_to = policy_digest_read.answer;
-    let Reading::To(n) = policy_digest_to else {
+    let Extent::To(n) = policy_digest_to else {
         return refused_claims_end(why(policy_digest_to));
     };
     let policy_digest = policy_digest_read.value;
@@ -542,12 +542,12 @@ pub fn read_claims_end(bytes: &[u8]) -> ClaimsEndRead
     let at = at + n;
     let signature_read = read_array64(&bytes[at..]);
     let signature_to = signature_read.answer;
-    let Reading::To(n) = signature_to else {
+    let Extent::To(n) = signature_to else {
         return refused_claims_end(why(signature_to));
     };
     let signature = signature_read.value;
     ClaimsEndRead {
-        answer: Reading::To(at + n),
+        answer: Extent::To(at + n),
         value: ClaimsEnd {
             reason,
             policy_digest,
@@ -557,38 +557,38 @@ pub fn read_claims_end(bytes: &[u8]) -> ClaimsEndRead
     }
 }
 
-// The fields of an attestation; whatever may stand behind them.
+// The fields of an attestation; anything may come after them.
 pub fn read_attestation(bytes: &[u8]) -> AttestationRead
     ensures { λ r. ⌜ (report (r .answer), r .value) ≡ outcome blankLostVoterAttestationV1 (claims .dec (now (bytes .entry))) ⌝ }
 {
     let request_read = read_claims_request(bytes);
     let request_to = request_read.answer;
-    let Reading::To(at) = request_to else {
+    let Extent::To(at) = request_to else {
         return refused_attestation(why(request_to));
     };
     let request = request_read.value;
     let slot_read = read_claims_slot(&bytes[at..]);
     let slot_to = slot_read.answer;
-    let Reading::To(n) = slot_to else {
+    let Extent::To(n) = slot_to else {
         return refused_attestation(why(slot_to));
     };
     let slot = slot_read.value;
     let at = at + n;
     let names_read = read_claims_names(&bytes[at..]);
     let names_to = names_read.answer;
-    let Reading::To(n) = names_to else {
+    let Extent::To(n) = names_to else {
         return refused_attestation(why(names_to));
     };
     let names = names_read.value;
     let at = at + n;
     let end_read = read_claims_end(&bytes[at..]);
     let end_to = end_read.answer;
-    let Reading::To(n) = end_to else {
+    let Extent::To(n) = end_to else {
         return refused_attestation(why(end_to));
     };
     let end = end_read.value;
     AttestationRead {
-        answer: Reading::To(at + n),
+        answer: Extent::To(at + n),
         value: attestation_of(request, slot, names, end),
     }
 }
@@ -599,7 +599,7 @@ pub fn read_whole_attestation(bytes: &[u8]) -> AttestationRead
 {
     let read = read_attestation(bytes);
     let to = read.answer;
-    let Reading::To(n) = to else {
+    let Extent::To(n) = to else {
         return read;
     };
     let value = read.value;
@@ -620,12 +620,12 @@ fn read_boxed_attestation(bytes: &[u8]) -> AttestationRead
     let end = at + len;
     let read = read_whole_attestation(&bytes[at..end]);
     let to = read.answer;
-    let Reading::To(_) = to else {
+    let Extent::To(_) = to else {
         return read;
     };
     let value = read.value;
     AttestationRead {
-        answer: Reading::To(end),
+        answer: Extent::To(end),
         value,
     }
 }
@@ -640,19 +640,19 @@ pub fn read_snapshot(bytes: &[u8]) -> SnapshotRead
     };
     let snapshot_id_read = read_snapshot_id(&bytes[at..]);
     let snapshot_id_to = snapshot_id_read.answer;
-    let Reading::To(n) = snapshot_id_to else {
+    let Extent::To(n) = snapshot_id_to else {
         return refused_snapshot(why(snapshot_id_to));
     };
     let snapshot_id = snapshot_id_read.value;
     let at = at + n;
     let digest_read = read_array32(&bytes[at..]);
     let digest_to = digest_read.answer;
-    let Reading::To(n) = digest_to else {
+    let Extent::To(n) = digest_to else {
         return refused_snapshot(why(digest_to));
     };
     let digest = digest_read.value;
     SnapshotRead {
-        answer: Reading::To(at + n),
+        answer: Extent::To(at + n),
         value: VoterSnapshotEvidence {
             cut,
             snapshot_id,
@@ -671,19 +671,19 @@ fn read_optional_snapshot(bytes: &[u8]) -> OptionalSnapshotRead
     };
     if !is_some {
         return OptionalSnapshotRead {
-            answer: Reading::To(at),
+            answer: Extent::To(at),
             is_some,
             value: blank_voter_snapshot_evidence(),
         };
     }
     let read = read_snapshot(&bytes[at..]);
     let to = read.answer;
-    let Reading::To(n) = to else {
+    let Extent::To(n) = to else {
         return refused_optional_snapshot(why(to));
     };
     let value = read.value;
     OptionalSnapshotRead {
-        answer: Reading::To(at + n),
+        answer: Extent::To(at + n),
         is_some,
         value,
     }
@@ -699,7 +699,7 @@ pub fn read_evidence(bytes: &[u8]) -> EvidenceRead
     };
     let snapshot_read = read_optional_snapshot(&bytes[at..]);
     let snapshot_to = snapshot_read.answer;
-    let Reading::To(n) = snapshot_to else {
+    let Extent::To(n) = snapshot_to else {
         return refused_evidence(why(snapshot_to));
     };
     let snapshot = snapshot_read.value;
@@ -714,7 +714,7 @@ pub fn read_evidence(bytes: &[u8]) -> EvidenceRead
         return refused_evidence(why_three_cuts(late_read));
     };
     EvidenceRead {
-        answer: Reading::To(at + n),
+        answer: Extent::To(at + n),
         value: evidence_of(prepare, snapshot_read.is_some, snapshot, early, late),
     }
 }
@@ -725,13 +725,13 @@ pub fn read_change(bytes: &[u8]) -> ChangeRead
 {
     let predecessor_read = read_configuration(bytes);
     let predecessor_to = predecessor_read.answer;
-    let Reading::To(at) = predecessor_to else {
+    let Extent::To(at) = predecessor_to else {
         return refused_change(why(predecessor_to));
     };
     let predecessor = predecessor_read.value;
     let successor_read = read_configuration(&bytes[at..]);
     let successor_to = successor_read.answer;
-    let Reading::To(n) = successor_to else {
+    let Extent::To(n) = successor_to else {
         return refused_change(why(successor_to));
     };
     let successor = successor_read.value;
@@ -741,7 +741,7 @@ pub fn read_change(bytes: &[u8]) -> ChangeRead
         return refused_change(why_u8(phase_read));
     };
     ChangeRead {
-        answer: Reading::To(at + n),
+        answer: Extent::To(at + n),
         value: Change {
             predecessor,
             successor,
@@ -760,26 +760,26 @@ pub fn read_replacement(bytes: &[u8]) -> ReplacementRead
     };
     let attestation_read = read_boxed_attestation(&bytes[at..]);
     let attestation_to = attestation_read.answer;
-    let Reading::To(n) = attestation_to else {
+    let Extent::To(n) = attestation_to else {
         return refused_replacement(why(attestation_to));
     };
     let attestation = attestation_read.value;
     let at = at + n;
     let change_read = read_change(&bytes[at..]);
     let change_to = change_read.answer;
-    let Reading::To(n) = change_to else {
+    let Extent::To(n) = change_to else {
         return refused_replacement(why(change_to));
     };
     let change = change_read.value;
     let at = at + n;
     let evidence_read = read_evidence(&bytes[at..]);
     let evidence_to = evidence_read.answer;
-    let Reading::To(n) = evidence_to else {
+    let Extent::To(n) = evidence_to else {
         return refused_replacement(why(evidence_to));
     };
     let evidence = evidence_read.value;
     ReplacementRead {
-        answer: Reading::To(at + n),
+        answer: Extent::To(at + n),
         value: replacement_of(expected_revision, attestation, change, evidence),
     }
 }
@@ -790,13 +790,13 @@ pub fn read_table_head(bytes: &[u8]) -> TableHeadRead
 {
     let cluster_instance_read = read_array32(bytes);
     let cluster_instance_to = cluster_instance_read.answer;
-    let Reading::To(at) = cluster_instance_to else {
+    let Extent::To(at) = cluster_instance_to else {
         return refused_table_head(why(cluster_instance_to));
     };
     let cluster_instance = cluster_instance_read.value;
     let manifest_digest_read = read_array32(&bytes[at..]);
     let manifest_digest_to = manifest_digest_read.answer;
-    let Reading::To(n) = manifest_digest_to else {
+    let Extent::To(n) = manifest_digest_to else {
         return refused_table_head(why(manifest_digest_to));
     };
     let manifest_digest = manifest_digest_read.value;
@@ -811,7 +811,7 @@ pub fn read_table_head(bytes: &[u8]) -> TableHeadRead
         return refused_table_head(why_u64(configuration_epoch_read));
     };
     TableHeadRead {
-        answer: Reading::To(at + n),
+        answer: Extent::To(at + n),
         value: TableHead {
             cluster_instance,
             manifest_digest,
@@ -826,12 +826,12 @@ pub fn read_table_front(bytes: &[u8]) -> TableFrontRead
     ensures { λ r. ⌜ (report (r .answer), (((tt, r .head), r .count), r .slots)) ≡ outcome blankTableFront (tableFront .dec (now (bytes .entry))) ⌝ }
 {
     let magic = read_head(bytes);
-    let Reading::To(at) = magic else {
+    let Extent::To(at) = magic else {
         return refused_table_front(why(magic));
     };
     let head_read = read_table_head(&bytes[at..]);
     let head_to = head_read.answer;
-    let Reading::To(n) = head_to else {
+    let Extent::To(n) = head_to else {
         return refused_table_front(why(head_to));
     };
     let head = head_read.value;
@@ -843,26 +843,26 @@ pub fn read_table_front(bytes: &[u8]) -> TableFrontRead
     let at = at + n;
     let slots_read = read_slots(&bytes[at..], count as usize);
     let slots_to = slots_read.answer;
-    let Reading::To(n) = slots_to else {
+    let Extent::To(n) = slots_to else {
         return refused_table_front(why(slots_to));
     };
     let slots = slots_read.value;
     TableFrontRead {
-        answer: Reading::To(at + n),
+        answer: Extent::To(at + n),
         head,
         count: count as usize,
         slots,
     }
 }
 
-// The fields of a table; whatever may stand behind them. The table is made here, where its cursor is
-// known: handed on by a reader of the open request's end, its 8 KB would be copied once more.
+// The fields of a table; anything may come after them. The table is made here, where its cursor is
+// known: passed on by a reader of the open request's end, its 8 KB would be copied once more.
 pub fn read_table(bytes: &[u8]) -> TableRead
     ensures { λ r. ⌜ (report (r .answer), r .value) ≡ outcome blankVoterSlotTable (table .dec (now (bytes .entry))) ⌝ }
 {
     let front = read_table_front(bytes);
     let front_to = front.answer;
-    let Reading::To(at) = front_to else {
+    let Extent::To(at) = front_to else {
         return refused_table(why(front_to));
     };
     let head = front.head;
@@ -874,18 +874,18 @@ pub fn read_table(bytes: &[u8]) -> TableRead
     let at = at + n;
     if !is_open {
         return TableRead {
-            answer: Reading::To(at),
+            answer: Extent::To(at),
             value: idle_table_of(head, front.count, slots),
         };
     }
     let replacement_read = read_replacement(&bytes[at..]);
     let replacement_to = replacement_read.answer;
-    let Reading::To(n) = replacement_to else {
+    let Extent::To(n) = replacement_to else {
         return refused_table(why(replacement_to));
     };
     let replacement = replacement_read.value;
     TableRead {
-        answer: Reading::To(at + n),
-        value: table_of(head, front.count, slots, true, replacement),
+        answer: Extent::To(at + n),
+        value: table_of_parts(head, front.count, slots, true, replacement),
     }
 }

@@ -2,8 +2,8 @@
 // Those of a plain number and of bytes stand in layout's get.rt.
 //
 // Ported from crates/opc-consensus/src/voter_slots/codec.rs of openpacketcore-sdk, commit
-// 717de332e7, Apache-2.0 (see NOTICE). Changed: each is handed the rest of the bytes and answers the
-// count that it took.
+// 717de332e7, Apache-2.0 (see NOTICE). Changed: each takes the rest of the bytes and returns the
+// count that it read.
 ghost use mathlib.Core.Path.{_≡_};
 ghost use Rattle.format.specs.List.{flag};
 ghost use Rattle.layout.specs.Reading.{report, outcome, u64Read, u16Read, u8Read, boolRead, identityRead, logIdRead, optionalLogIdRead, threeCutsRead, timesRead};
@@ -29,10 +29,10 @@ use layout::parts::Times;
 use layout::parts::VERSION;
 use layout::put::put_bytes;
 use layout::reading::BoolRead;
+use layout::reading::Extent;
 use layout::reading::IdentityRead;
 use layout::reading::LogIdRead;
 use layout::reading::OptionalLogIdRead;
-use layout::reading::Reading;
 use layout::reading::SizedRead;
 use layout::reading::SnapshotIdRead;
 use layout::reading::SpiffeIdRead;
@@ -266,7 +266,7 @@ pub fn read_spiffe_id(bytes: &[u8]) -> SpiffeIdRead
     let mut place = zeros2048();
     put_bytes(&mut place, 0, text);
     SpiffeIdRead {
-        answer: Reading::To(end),
+        answer: Extent::To(end),
         value: SpiffeId { len, bytes: place },
     }
 }
@@ -287,41 +287,41 @@ pub fn read_snapshot_id(bytes: &[u8]) -> SnapshotIdRead
     let mut place = zeros256();
     put_bytes(&mut place, 0, text);
     SnapshotIdRead {
-        answer: Reading::To(end),
+        answer: Extent::To(end),
         value: SnapshotId { len, bytes: place },
     }
 }
 
 // The version of an attestation.
-pub fn read_version(bytes: &[u8]) -> Reading
+pub fn read_version(bytes: &[u8]) -> Extent
     ensures { λ r. ⌜ report r ≡ version .dec (now (bytes .entry)) ⌝ }
 {
     let number = read_u16(bytes);
     let U16Read::Read(value, n) = number else {
-        return Reading::Refused(why_u16(number));
+        return Extent::Refused(why_u16(number));
     };
     if value as u64 != VERSION {
-        return Reading::Refused(Answer::InvalidRecord);
+        return Extent::Refused(Answer::InvalidRecord);
     }
-    Reading::To(n)
+    Extent::To(n)
 }
 
 // The magic and the version of a table: both are read before either is judged.
-pub fn read_head(bytes: &[u8]) -> Reading
+pub fn read_head(bytes: &[u8]) -> Extent
     ensures { λ r. ⌜ report r ≡ magicAndVersion .dec (now (bytes .entry)) ⌝ }
 {
     if bytes.len() < 4 {
-        return Reading::Refused(Answer::InvalidRecord);
+        return Extent::Refused(Answer::InvalidRecord);
     }
     let number = read_u16(&bytes[4..]);
     let U16Read::Read(value, n) = number else {
-        return Reading::Refused(why_u16(number));
+        return Extent::Refused(why_u16(number));
     };
     if !((bytes[0] == b'O') & ((bytes[1] == b'P') & ((bytes[2] == b'V') & (bytes[3] == b'I')))) {
-        return Reading::Refused(Answer::InvalidRecord);
+        return Extent::Refused(Answer::InvalidRecord);
     }
     if value as u64 != VERSION {
-        return Reading::Refused(Answer::FreshInstallationRequired);
+        return Extent::Refused(Answer::FreshInstallationRequired);
     }
-    Reading::To(4 + n)
+    Extent::To(4 + n)
 }

@@ -15,7 +15,7 @@ use Rattle.records.specs.declared.records.VoterSnapshotEvidence.{VoterSn
 use Rattle.records.specs.declared.records.VoterReplacementEvidence.{VoterReplacementEvidence}
 use Rattle.records.specs.Equality.{allTrue, sameVoterSlotLogId, sameVoterSnapshotEvidence}
 use Rattle.records.specs.EqualityLaws.{eq-same, sameVoterSlotLogId-true, sameVoterSlotLogId-refl, sameVoterSnapshotEvidence-refl}
-use Rattle.records.specs.Evidence.{validLogId, follows, validStage, stageOr, snapshotCut, validStages, validBeside, validContinuation, validSnapshotId, validEvidence, retainsCut, retainsMarker, retainsCuts, retains, laterOf, latest}
+use Rattle.records.specs.Evidence.{validLogId, follows, validStage, stageOr, snapshotCut, validStages, inOrder, validContinuation, validSnapshotId, validEvidence, retainsCut, retainsMarker, retainsCuts, retains, laterOf, latest}
 use Rattle.records.specs.EvidenceLaws.{follows-index, retainsCut-refl, retainsMarker-refl}
 use Rattle.records.specs.Records.{prepared, snapshotInstalled, learnerAdded, caughtUp, fenced, joint, uniform}
 use Rattle.records.specs.Representable.{representableSnapshot, representableOptionalLogId, representableEvidence}
@@ -59,7 +59,7 @@ module _ (e : VoterReplacementEvidence) (h : representableEvidence e ≡ true) w
 
 -- ---- the order of cuts
 
--- a cut that follows one that is no zero is none
+-- a cut that follows one that is not zero is not zero
 follows-valid : (a b : VoterSlotLogId) (allowEqual : Bool) → validLogId b ≡ true → follows a b allowEqual ≡ true → validLogId a ≡ true
 unfolding follows
 follows-valid a b allowEqual v h = go (eqb (a .index) (b .index)) h
@@ -133,9 +133,9 @@ stage-or : (stage : OptionalLogId) (previous : VoterSlotLogId) → stage .«is_s
 unfolding stageOr
 stage-or stage previous h = ap (λ (b : Bool). cond b (stage .cut) previous) h
 
-beside-absent : (c : VoterSlotLogId) (other : OptionalLogId) (isSnapshot : Bool) → other .«is_some» ≡ false → validBeside c other isSnapshot ≡ true
-unfolding validBeside
-beside-absent c other isSnapshot h =
+order-absent : (c : VoterSlotLogId) (other : OptionalLogId) (isSnapshot : Bool) → other .«is_some» ≡ false → inOrder c other isSnapshot ≡ true
+unfolding inOrder
+order-absent c other isSnapshot h =
     ap
     (λ (b : Bool). not b || cond (leb (other .cut .index) (c .index)) (follows c (other .cut) isSnapshot) (follows (other .cut) c false))
     h
@@ -208,12 +208,12 @@ module _ (e : VoterReplacementEvidence) where
   pub no-uniform : validEvidence e joint ≡ true → e .uniform .«is_some» ≡ false
   no-uniform h = stage-some (e .uniform) false (after-joint e) false (evidence-parts e joint h .stages .1 .1 .1 .1 .1)
 
-  -- the caught-up mark: none while a learner is added, and behind the learner's cut afterwards
+  -- the caught-up mark: none while a learner is added, and after the learner's cut from then on
   pub no-mark : validEvidence e learnerAdded ≡ true → e .«caught_up» .«is_some» ≡ false
   no-mark h = stage-some (e .«caught_up») false (after-learner e) false (evidence-parts e learnerAdded h .stages .1 .1 .0)
 
-  pub mark-behind : validEvidence e caughtUp ≡ true → (e .«caught_up» .«is_some» ≡ true) × (follows (e .«caught_up» .cut) (e .learner .cut) false ≡ true)
-  mark-behind h =
+  pub mark-after : validEvidence e caughtUp ≡ true → (e .«caught_up» .«is_some» ≡ true) × (follows (e .«caught_up» .cut) (e .learner .cut) false ≡ true)
+  mark-after h =
       let s = evidence-parts e caughtUp h .stages in
       let l = stage-or (e .learner) (after-snapshot e) (stage-some (e .learner) true (after-snapshot e) false (s .1 .0)) in (
         stage-some (e .«caught_up») true (after-learner e) false (s .1 .1 .0),
@@ -226,7 +226,7 @@ stage-added : (cut previous : VoterSlotLogId) (allowEqual : Bool) → validLogId
 unfolding validStage
 stage-added cut previous allowEqual v = valid-follows cut previous allowEqual v
 
--- behind a stage that is there
+-- after a stage that is there
 stage-next : (stage : OptionalLogId) (older cut : VoterSlotLogId) (allowOlder allowEqual : Bool) → validStage stage true older allowOlder ≡ true
     → validStage (present cut) true (stageOr stage older) allowEqual ≡ follows cut (stage .cut) allowEqual
 stage-next stage older cut allowOlder allowEqual h =
@@ -248,13 +248,13 @@ if-some false old new y h k = refl
 module _ (e : VoterReplacementEvidence) (cut : VoterSlotLogId) where
   -- ---- joint and uniform
 
-  joint-beside : validContinuation (withJoint e cut) ≡ validContinuation e
+  joint-in-order : validContinuation (withJoint e cut) ≡ validContinuation e
   unfolding validContinuation
-  joint-beside = refl
+  joint-in-order = refl
 
-  uniform-beside : validContinuation (withUniform e cut) ≡ validContinuation e
+  uniform-in-order : validContinuation (withUniform e cut) ≡ validContinuation e
   unfolding validContinuation
-  uniform-beside = refl
+  uniform-in-order = refl
 
   pub joint-test : validEvidence e fenced ≡ true → validEvidence (withJoint e cut) joint ≡ follows cut (e .fence .cut) false
   unfolding validEvidence validStages
@@ -263,7 +263,7 @@ module _ (e : VoterReplacementEvidence) (cut : VoterSlotLogId) where
       let s = v .stages in
       let u = stage-absent (e .uniform) (after-joint (withJoint e cut)) false (stage-some (e .uniform) false (after-joint e) false (s .1 .1 .1 .1 .1)) in
       let n = stage-next (e .fence) (after-caught-up e) cut false false (s .1 .1 .1 .0) in
-      rw (v .prepare, v .id, s .0, s .1 .0, s .1 .1 .0, s .1 .1 .1 .0, u, joint-beside, v .continuation, n)
+      rw (v .prepare, v .id, s .0, s .1 .0, s .1 .1 .0, s .1 .1 .1 .0, u, joint-in-order, v .continuation, n)
       (and-both-true (follows cut (e .fence .cut) false))
 
   pub uniform-test : validEvidence e joint ≡ true → validEvidence (withUniform e cut) uniform ≡ follows cut (e .joint .cut) false
@@ -272,15 +272,15 @@ module _ (e : VoterReplacementEvidence) (cut : VoterSlotLogId) where
       let v = evidence-parts e joint h in
       let s = v .stages in
       let n = stage-next (e .joint) (after-fence e) cut false false (s .1 .1 .1 .1 .0) in
-      rw (v .prepare, v .id, s .0, s .1 .0, s .1 .1 .0, s .1 .1 .1 .0, s .1 .1 .1 .1 .0, uniform-beside, v .continuation, n)
+      rw (v .prepare, v .id, s .0, s .1 .0, s .1 .1 .0, s .1 .1 .1 .0, s .1 .1 .1 .1 .0, uniform-in-order, v .continuation, n)
       (and-true (follows cut (e .joint .cut) false))
 
   -- ---- the fence
 
-  fence-beside : validContinuation e ≡ true
+  fence-in-order : validContinuation e ≡ true
       → validContinuation (withFence e cut) ≡ (not (e .continuation .«is_some») || follows cut (e .continuation .cut) false)
   unfolding validContinuation
-  fence-beside h =
+  fence-in-order h =
       let c = e .continuation .cut in
       if-some (e .continuation .«is_some») _ _ (follows cut c false) h
       (λ h. under (validLogId c) _ _ (follows cut c false) h (λ h. under (follows c (e .prepare) false) _ _ (follows cut c false) h
@@ -296,28 +296,28 @@ module _ (e : VoterReplacementEvidence) (cut : VoterSlotLogId) where
       let j = stage-absent (e .joint) (after-fence (withFence e cut)) false (stage-some (e .joint) false (after-fence e) false (s .1 .1 .1 .1 .0)) in
       let u = stage-absent (e .uniform) (after-joint (withFence e cut)) false (stage-some (e .uniform) false (after-joint e) false (s .1 .1 .1 .1 .1)) in
       let n = stage-next (e .«caught_up») (after-learner e) cut false false (s .1 .1 .0) in
-      rw (v .prepare, v .id, s .0, s .1 .0, s .1 .1 .0, j, u, fence-beside (v .continuation), n)
+      rw (v .prepare, v .id, s .0, s .1 .0, s .1 .1 .0, j, u, fence-in-order (v .continuation), n)
       (ap
       (λ (b : Bool). b && (not (e .continuation .«is_some») || follows cut (e .continuation .cut) false))
       (and-true (follows cut (e .«caught_up» .cut) false)))
 
   -- ---- the learner
 
-  learner-beside : validContinuation e ≡ true
-      → validContinuation (withLearner e cut) ≡ (not (e .continuation .«is_some») || validBeside (e .continuation .cut) (present cut) false)
+  learner-in-order : validContinuation e ≡ true
+      → validContinuation (withLearner e cut) ≡ (not (e .continuation .«is_some») || inOrder (e .continuation .cut) (present cut) false)
   unfolding validContinuation
-  learner-beside h =
+  learner-in-order h =
       let c = e .continuation .cut in
-      let y = validBeside c (present cut) false in
+      let y = inOrder c (present cut) false in
       if-some (e .continuation .«is_some») _ _ y h
       (λ h. under (validLogId c) _ _ y h
       (λ h. under (follows c (e .prepare) false) _ _ y h
       (λ h. under (not (e .fence .«is_some») || follows (e .fence .cut) c false) _ _ y h
-      (λ h. under (validBeside c (snapshotCut e) true) _ _ y h (λ h. here (validBeside c (e .learner) false) _ y h)))))
+      (λ h. under (inOrder c (snapshotCut e) true) _ _ y h (λ h. here (inOrder c (e .learner) false) _ y h)))))
 
   pub learner-test : validEvidence e snapshotInstalled ≡ true
       → validEvidence (withLearner e cut) learnerAdded
-      ≡ (follows cut (e .snapshot .cut) false && (not (e .continuation .«is_some») || validBeside (e .continuation .cut) (present cut) false))
+      ≡ (follows cut (e .snapshot .cut) false && (not (e .continuation .«is_some») || inOrder (e .continuation .cut) (present cut) false))
   unfolding validEvidence validStages
   learner-test h =
       let v = evidence-parts e snapshotInstalled h in
@@ -328,29 +328,29 @@ module _ (e : VoterReplacementEvidence) (cut : VoterSlotLogId) where
       let j = stage-absent (e .joint) (after-fence n) false (stage-some (e .joint) false (after-fence e) false (s .1 .1 .1 .1 .0)) in
       let u = stage-absent (e .uniform) (after-joint n) false (stage-some (e .uniform) false (after-joint e) false (s .1 .1 .1 .1 .1)) in
       let q = stage-next (snapshotCut e) (e .prepare) cut true false (s .0) in
-      rw (v .prepare, v .id, s .0, k, f, j, u, learner-beside (v .continuation), q)
+      rw (v .prepare, v .id, s .0, k, f, j, u, learner-in-order (v .continuation), q)
       (ap
-      (λ (b : Bool). b && (not (e .continuation .«is_some») || validBeside (e .continuation .cut) (present cut) false))
+      (λ (b : Bool). b && (not (e .continuation .«is_some») || inOrder (e .continuation .cut) (present cut) false))
       (and-true (follows cut (e .snapshot .cut) false)))
 
   -- ---- the caught-up mark, first and moved on
 
-  caught-up-beside : validContinuation e ≡ true
-      → validContinuation (withCaughtUp e cut) ≡ (not (e .continuation .«is_some») || validBeside (e .continuation .cut) (present cut) false)
+  caught-up-in-order : validContinuation e ≡ true
+      → validContinuation (withCaughtUp e cut) ≡ (not (e .continuation .«is_some») || inOrder (e .continuation .cut) (present cut) false)
   unfolding validContinuation
-  caught-up-beside h =
+  caught-up-in-order h =
       let c = e .continuation .cut in
-      let y = validBeside c (present cut) false in
+      let y = inOrder c (present cut) false in
       if-some (e .continuation .«is_some») _ _ y h
       (λ h. under (validLogId c) _ _ y h
       (λ h. under (follows c (e .prepare) false) _ _ y h
       (λ h. under (not (e .fence .«is_some») || follows (e .fence .cut) c false) _ _ y h
-      (λ h. under (validBeside c (snapshotCut e) true) _ _ y h (λ h. under (validBeside c (e .learner) false) _ _ y h (λ h. refl))))))
+      (λ h. under (inOrder c (snapshotCut e) true) _ _ y h (λ h. under (inOrder c (e .learner) false) _ _ y h (λ h. refl))))))
 
   pub caught-up-test : (phase : ℕ) → leb snapshotInstalled phase ≡ true → leb learnerAdded phase ≡ true → leb fenced phase ≡ false → leb joint phase ≡ false → leb uniform phase ≡ false
       → validEvidence e phase ≡ true
       → validEvidence (withCaughtUp e cut) caughtUp
-      ≡ (follows cut (e .learner .cut) false && (not (e .continuation .«is_some») || validBeside (e .continuation .cut) (present cut) false))
+      ≡ (follows cut (e .learner .cut) false && (not (e .continuation .«is_some») || inOrder (e .continuation .cut) (present cut) false))
   unfolding validEvidence validStages
   caught-up-test phase is-one is-two no-four no-five no-six h =
       let v = evidence-parts e phase h in
@@ -362,9 +362,9 @@ module _ (e : VoterReplacementEvidence) (cut : VoterSlotLogId) where
       let j = stage-absent (e .joint) (after-fence n) false (stage-some (e .joint) (leb joint phase) (after-fence e) false (s .1 .1 .1 .1 .0) ∙ no-five) in
       let u = stage-absent (e .uniform) (after-joint n) false (stage-some (e .uniform) (leb uniform phase) (after-joint e) false (s .1 .1 .1 .1 .1) ∙ no-six) in
       let q = stage-next (e .learner) (after-snapshot e) cut false false s1 in
-      rw (v .prepare, v .id, s0, s1, f, j, u, caught-up-beside (v .continuation), q)
+      rw (v .prepare, v .id, s0, s1, f, j, u, caught-up-in-order (v .continuation), q)
       (ap
-      (λ (b : Bool). b && (not (e .continuation .«is_some») || validBeside (e .continuation .cut) (present cut) false))
+      (λ (b : Bool). b && (not (e .continuation .«is_some») || inOrder (e .continuation .cut) (present cut) false))
       (and-true (follows cut (e .learner .cut) false)))
 
   -- ---- the continuation
@@ -376,7 +376,7 @@ module _ (e : VoterReplacementEvidence) (cut : VoterSlotLogId) where
   pub continuation-test : (phase : ℕ) → leb fenced phase ≡ false → validEvidence e phase ≡ true
       → validEvidence (withContinuation e cut) phase
       ≡ (follows cut (e .prepare) false
-      && (validBeside cut (snapshotCut e) true && (validBeside cut (e .learner) false && validBeside cut (e .«caught_up») false)))
+      && (inOrder cut (snapshotCut e) true && (inOrder cut (e .learner) false && inOrder cut (e .«caught_up») false)))
   unfolding validEvidence validContinuation
   continuation-test phase no-four h =
       let v = evidence-parts e phase h in
@@ -388,31 +388,31 @@ module _ (e : VoterReplacementEvidence) (cut : VoterSlotLogId) where
       validLogId cut
       && (follows cut (e .prepare) false
       && ((not b || follows (e .fence .cut) cut false)
-      && (validBeside cut (snapshotCut e) true && (validBeside cut (e .learner) false && validBeside cut (e .«caught_up») false)))))
+      && (inOrder cut (snapshotCut e) true && (inOrder cut (e .learner) false && inOrder cut (e .«caught_up») false)))))
       f
       ∙ implied (validLogId cut)
-      (follows cut (e .prepare) false && (validBeside cut (snapshotCut e) true && (validBeside cut (e .learner) false && validBeside cut (e .«caught_up») false)))
+      (follows cut (e .prepare) false && (inOrder cut (snapshotCut e) true && (inOrder cut (e .learner) false && inOrder cut (e .«caught_up») false)))
       (λ k. follows-valid cut (e .prepare) false (v .prepare) (and-left (follows cut (e .prepare) false) _ k)))
 
 -- ---- the snapshot
 
 module _ (e : VoterReplacementEvidence) (snapshot : VoterSnapshotEvidence) where
-  snapshot-beside : validContinuation e ≡ true
-      → validContinuation (withSnapshot e snapshot) ≡ (not (e .continuation .«is_some») || validBeside (e .continuation .cut) (present (snapshot .cut)) true)
+  snapshot-in-order : validContinuation e ≡ true
+      → validContinuation (withSnapshot e snapshot) ≡ (not (e .continuation .«is_some») || inOrder (e .continuation .cut) (present (snapshot .cut)) true)
   unfolding validContinuation
-  snapshot-beside h =
+  snapshot-in-order h =
       let c = e .continuation .cut in
-      let y = validBeside c (present (snapshot .cut)) true in
+      let y = inOrder c (present (snapshot .cut)) true in
       if-some (e .continuation .«is_some») _ _ y h
       (λ h. under (validLogId c) _ _ y h
       (λ h. under (follows c (e .prepare) false) _ _ y h
-      (λ h. under (not (e .fence .«is_some») || follows (e .fence .cut) c false) _ _ y h (λ h. here (validBeside c (snapshotCut e) true) _ y h))))
+      (λ h. under (not (e .fence .«is_some») || follows (e .fence .cut) c false) _ _ y h (λ h. here (inOrder c (snapshotCut e) true) _ y h))))
 
   pub snapshot-test : validEvidence e prepared ≡ true
       → validEvidence (withSnapshot e snapshot) snapshotInstalled
       ≡ (validSnapshotId (snapshot .«snapshot_id»)
       && (follows (snapshot .cut) (e .prepare) true
-      && (not (e .continuation .«is_some») || validBeside (e .continuation .cut) (present (snapshot .cut)) true)))
+      && (not (e .continuation .«is_some») || inOrder (e .continuation .cut) (present (snapshot .cut)) true)))
   unfolding validEvidence validStages
   snapshot-test h =
       let v = evidence-parts e prepared h in
@@ -423,11 +423,11 @@ module _ (e : VoterReplacementEvidence) (snapshot : VoterSnapshotEvidence) where
       let f = stage-absent (e .fence) (after-caught-up n) false (stage-some (e .fence) false (after-caught-up e) false (s .1 .1 .1 .0)) in
       let j = stage-absent (e .joint) (after-fence n) false (stage-some (e .joint) false (after-fence e) false (s .1 .1 .1 .1 .0)) in
       let u = stage-absent (e .uniform) (after-joint n) false (stage-some (e .uniform) false (after-joint e) false (s .1 .1 .1 .1 .1)) in
-      rw (v .prepare, l, k, f, j, u, snapshot-beside (v .continuation), stage-added (snapshot .cut) (e .prepare) true (v .prepare))
+      rw (v .prepare, l, k, f, j, u, snapshot-in-order (v .continuation), stage-added (snapshot .cut) (e .prepare) true (v .prepare))
       (ap
       (λ (b : Bool).
       validSnapshotId (snapshot .«snapshot_id»)
-      && (b && (not (e .continuation .«is_some») || validBeside (e .continuation .cut) (present (snapshot .cut)) true)))
+      && (b && (not (e .continuation .«is_some») || inOrder (e .continuation .cut) (present (snapshot .cut)) true)))
       (and-true (follows (snapshot .cut) (e .prepare) true)))
 
 -- ---- what was there is kept
@@ -545,7 +545,7 @@ unfolding laterOf
 later-last a stage some h =
     cond-true (stage .«is_some» && ltb (a .index) (stage .cut .index)) (stage .cut) a (and-both _ _ some (lt-ltb (a .index) (stage .cut .index) h))
 
--- a stage behind one that is there has the greater index
+-- a stage after one that is there has the greater index
 stage-above : (stage before : OptionalLogId) (older : VoterSlotLogId) → validStage stage true (stageOr before older) false ≡ true → before .«is_some» ≡ true
     → before .cut .index < stage .cut .index
 stage-above stage before older h some =

@@ -58,11 +58,11 @@ beq-refl : (a : Bool) → Bool·beq a a ≡ true
 beq-refl true = refl
 beq-refl false = refl
 
-abbrev Each : List Bool → Type 0
-Each [] = Unit {0}
-Each (p ∷ ps) = (p ≡ true) × Each ps
+abbrev EachTrue : List Bool → Type 0
+EachTrue [] = Unit {0}
+EachTrue (p ∷ ps) = (p ≡ true) × EachTrue ps
 
-all-each : (ps : List Bool) → allTrue ps ≡ true → Each ps
+all-each : (ps : List Bool) → allTrue ps ≡ true → EachTrue ps
 unfolding allTrue
 all-each [] h = tt
 all-each (p ∷ []) h = (h, tt)

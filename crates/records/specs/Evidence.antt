@@ -5,6 +5,7 @@ use Prim.Native.Nat.{ℕ}
 use mathlib.Core.Bool.{Bool, true, false, cond, not, Bool·beq, _&&_, _||_}
 use lib.ListN.{take}
 use lib.Dec.{eqb, leb, ltb}
+use Rattle.identity.specs.Conditions.{_and_}
 use Rattle.identity.specs.Text.{isSnapshotId, maxSnapshotIdBytes}
 use Rattle.records.specs.Equality.{sameVoterSlotLogId, sameVoterSnapshotEvidence}
 use Rattle.records.specs.Records.{snapshotInstalled, learnerAdded, caughtUp, fenced, joint, uniform}
@@ -38,20 +39,21 @@ snapshotCut e = record { «is_some» = e .«has_snapshot»; cut = e .snapshot .c
 -- "Evidence runs prepare, snapshot, learner, caught up, fence, joint, uniform ..; only a snapshot cut may equal prepare."
 unfoldable pub validStages : VoterReplacementEvidence → ℕ → Bool
 validStages e phase =
-    let first = stageOr (snapshotCut e) (e .prepare) in
-    let second = stageOr (e .learner) first in
-    let third = stageOr (e .«caught_up») second in
-    let fourth = stageOr (e .fence) third in
-    let fifth = stageOr (e .joint) fourth in
+    let toSnapshot = stageOr (snapshotCut e) (e .prepare) in
+    let toLearner = stageOr (e .learner) toSnapshot in
+    let toCaughtUp = stageOr (e .«caught_up») toLearner in
+    let toFence = stageOr (e .fence) toCaughtUp in
+    let toJoint = stageOr (e .joint) toFence in
     validStage (snapshotCut e) (leb snapshotInstalled phase) (e .prepare) true
-    && (validStage (e .learner) (leb learnerAdded phase) first false
-    && (validStage (e .«caught_up») (leb caughtUp phase) second false
-    && (validStage (e .fence) (leb fenced phase) third false
-    && (validStage (e .joint) (leb joint phase) fourth false && validStage (e .uniform) (leb uniform phase) fifth false))))
+    and validStage (e .learner) (leb learnerAdded phase) toSnapshot false
+    and validStage (e .«caught_up») (leb caughtUp phase) toLearner false
+    and validStage (e .fence) (leb fenced phase) toCaughtUp false
+    and validStage (e .joint) (leb joint phase) toFence false
+    and validStage (e .uniform) (leb uniform phase) toJoint false
 
 -- The continuation and one other cut, whichever of the two is later.
-unfoldable pub validBeside : VoterSlotLogId → OptionalLogId → Bool → Bool
-validBeside continuation other isSnapshot =
+unfoldable pub inOrder : VoterSlotLogId → OptionalLogId → Bool → Bool
+inOrder continuation other isSnapshot =
     not (other .«is_some»)
     || cond (leb (other .cut .index) (continuation .index)) (follows continuation (other .cut) isSnapshot) (follows (other .cut) continuation false)
 
@@ -60,9 +62,11 @@ validContinuation e =
     let c = e .continuation .cut in
     not (e .continuation .«is_some»)
     || (validLogId c
-    && (follows c (e .prepare) false
-    && ((not (e .fence .«is_some») || follows (e .fence .cut) c false)
-    && (validBeside c (snapshotCut e) true && (validBeside c (e .learner) false && validBeside c (e .«caught_up») false)))))
+    and follows c (e .prepare) false
+    and (not (e .fence .«is_some») || follows (e .fence .cut) c false)
+    and inOrder c (snapshotCut e) true
+    and inOrder c (e .learner) false
+    and inOrder c (e .«caught_up») false)
 
 -- A snapshot id. One that is longer than its field is invalid, whatever the field holds.
 abbrev pub validSnapshotId : SnapshotId → Bool
@@ -72,8 +76,9 @@ validSnapshotId s = leb (s .len) maxSnapshotIdBytes && isSnapshotId (take (s .le
 unfoldable pub validEvidence : VoterReplacementEvidence → ℕ → Bool
 validEvidence e phase =
     validLogId (e .prepare)
-    && ((not (e .«has_snapshot») || validSnapshotId (e .snapshot .«snapshot_id»))
-    && (validStages e phase && validContinuation e))
+    and (not (e .«has_snapshot») || validSnapshotId (e .snapshot .«snapshot_id»))
+    and validStages e phase
+    and validContinuation e
 
 -- A cut that was there is still there.
 unfoldable pub retainsCut : OptionalLogId → OptionalLogId → Bool
@@ -88,15 +93,18 @@ retainsMarker new old oldPhase =
 unfoldable pub retainsCuts : VoterReplacementEvidence → VoterReplacementEvidence → Bool
 retainsCuts new old =
     retainsCut (new .learner) (old .learner)
-    && (retainsCut (new .continuation) (old .continuation)
-    && (retainsCut (new .fence) (old .fence) && (retainsCut (new .joint) (old .joint) && retainsCut (new .uniform) (old .uniform))))
+    and retainsCut (new .continuation) (old .continuation)
+    and retainsCut (new .fence) (old .fence)
+    and retainsCut (new .joint) (old .joint)
+    and retainsCut (new .uniform) (old .uniform)
 
 -- `VoterReplacementEvidence::retains`
 unfoldable pub retains : VoterReplacementEvidence → VoterReplacementEvidence → ℕ → Bool
 retains new old oldPhase =
     sameVoterSlotLogId (new .prepare) (old .prepare)
-    && ((not (old .«has_snapshot») || (new .«has_snapshot» && sameVoterSnapshotEvidence (new .snapshot) (old .snapshot)))
-    && (retainsMarker (new .«caught_up») (old .«caught_up») oldPhase && retainsCuts new old))
+    and (not (old .«has_snapshot») || (new .«has_snapshot» && sameVoterSnapshotEvidence (new .snapshot) (old .snapshot)))
+    and retainsMarker (new .«caught_up») (old .«caught_up») oldPhase
+    and retainsCuts new old
 
 -- of two cuts the one of the higher index; of one index the first
 unfoldable pub laterOf : VoterSlotLogId → OptionalLogId → VoterSlotLogId
@@ -105,5 +113,10 @@ laterOf latest stage = cond (stage .«is_some» && ltb (latest .index) (stage .c
 -- `VoterReplacementEvidence::latest`, in the order of the evidence
 unfoldable pub latest : VoterReplacementEvidence → VoterSlotLogId
 latest e =
-    laterOf (laterOf (laterOf (laterOf (laterOf (laterOf (laterOf (e .prepare) (snapshotCut e)) (e .learner)) (e .«caught_up»)) (e .continuation)) (e .fence)) (e .joint))
-    (e .uniform)
+    let toSnapshot = laterOf (e .prepare) (snapshotCut e) in
+    let toLearner = laterOf toSnapshot (e .learner) in
+    let toCaughtUp = laterOf toLearner (e .«caught_up») in
+    let toContinuation = laterOf toCaughtUp (e .continuation) in
+    let toFence = laterOf toContinuation (e .fence) in
+    let toJoint = laterOf toFence (e .joint) in
+    laterOf toJoint (e .uniform)

@@ -80,7 +80,7 @@ pub retains-caught-up :
     retains new old phase ≡ true → old .«caught_up» .«is_some» ≡ true → Kept (new .«caught_up») (old .«caught_up»)
 unfolding retains
 retains-caught-up new old phase h there =
-    let behind = and-eq-true-iff (sameVoterSlotLogId (new .prepare) (old .prepare)) _ .0 h .1 in
-    let marks = and-eq-true-iff (not (old .«has_snapshot») || (new .«has_snapshot» && sameVoterSnapshotEvidence (new .snapshot) (old .snapshot))) _ .0 behind .1 in
+    let rest = and-eq-true-iff (sameVoterSlotLogId (new .prepare) (old .prepare)) _ .0 h .1 in
+    let marks = and-eq-true-iff (not (old .«has_snapshot») || (new .«has_snapshot» && sameVoterSnapshotEvidence (new .snapshot) (old .snapshot))) _ .0 rest .1 in
     let mark = and-eq-true-iff (retainsMarker (new .«caught_up») (old .«caught_up») phase) _ .0 marks .0 in
     retainsMarker-kept (new .«caught_up») (old .«caught_up») phase mark there

@@ -66,12 +66,12 @@ unfoldable pub allBelow : (ℕ → Bool) → ℕ → Bool
 allBelow p zero = true
 allBelow p (suc n) = allBelow p n && p n
 
--- the first of k numbers from i on of which p holds, or the one behind them
+-- the first of k numbers from i on of which p holds, or the one after them
 unfoldable pub firstFrom : (ℕ → Bool) → ℕ → ℕ → ℕ
 firstFrom p zero i = i
 firstFrom p (suc k) i = cond (p i) i (firstFrom p k (i + 1))
 
--- What is read behind the end of a list; no code does.
+-- What is read after the end of a list; no code does that.
 abbrev noLogId : VoterSlotLogId
 noLogId = record { term = 0; index = 0 }
 

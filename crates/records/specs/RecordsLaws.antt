@@ -33,21 +33,21 @@ allBelow-on p n (suc d) s =
     rw (e, s (n + d) (omega arith), allBelow-on p n d s) (and-true (allBelow p n))
 
 -- a test that is another one below n, and holds from n on
-pub allBelow-behind : (p q : ℕ → Bool) (n m : ℕ) → n ≤ m → ((i : ℕ) → i < n → q i ≡ p i) → ((i : ℕ) → n ≤ i → q i ≡ true)
+pub allBelow-after : (p q : ℕ → Bool) (n m : ℕ) → n ≤ m → ((i : ℕ) → i < n → q i ≡ p i) → ((i : ℕ) → n ≤ i → q i ≡ true)
     → allBelow q m ≡ allBelow p n
-allBelow-behind p q n m h s t =
+allBelow-after p q n m h s t =
     let e : m ≡ n + (m - n) = omega arith in
     ap (allBelow q) e ∙ (allBelow-on q n (m - n) t ∙ allBelow-same q p n s)
 
 -- a loop over all m places, of which n are in use
 pub allBelow-nine : (p : ℕ → Bool) (n m : ℕ) → n ≤ m → allBelow (λ i. leb n i || p i) m ≡ allBelow p n
 allBelow-nine p n m h =
-    allBelow-behind p (λ i. leb n i || p i) n m h (λ i k. rw (lt-leb n i k)) (λ i k. rw (le-leb n i k))
+    allBelow-after p (λ i. leb n i || p i) n m h (λ i k. rw (lt-leb n i k)) (λ i k. rw (le-leb n i k))
 
 -- a loop over all m neighbours
 pub allBelow-eight : (p : ℕ → Bool) (n m : ℕ) → n - 1 ≤ m → allBelow (λ i. leb n (i + 1) || p i) m ≡ allBelow p (n - 1)
 allBelow-eight p n m h =
-    allBelow-behind p (λ i. leb n (i + 1) || p i) (n - 1) m h (λ i k. rw (lt-leb n (i + 1) (omega arith))) (λ i k. rw (le-leb n (i + 1) (omega arith)))
+    allBelow-after p (λ i. leb n (i + 1) || p i) (n - 1) m h (λ i k. rw (lt-leb n (i + 1) (omega arith))) (λ i k. rw (le-leb n (i + 1) (omega arith)))
 
 -- ---- the first place of which a test holds
 

@@ -1,4 +1,4 @@
--- The test for 30 (document 01, "Refusals from the input"), part by part. A call gives 30 to
+-- The representability check (document 01, "Refusals from the input"), part by part. A call gives 30 to
 -- "one that the Rust types cannot hold, count above 9, text length above its field, nonzero filler behind a count or in an absent part"
 -- Assumes nothing.
 use Prim.Native.Nat.{ℕ}
@@ -6,6 +6,7 @@ use mathlib.Core.Bool.{Bool, true, cond, _&&_}
 use mathlib.Core.List.{List}
 use lib.ListN.{take, drop}
 use lib.Dec.{eqb, leb}
+use Rattle.identity.specs.Conditions.{_and_}
 use Rattle.identity.specs.Identity.{isSlotId, isVoterIncarnation, isConfigurationEpoch}
 use Rattle.identity.specs.Text.{every, isUtf8, maxSpiffeIdBytes, maxSnapshotIdBytes}
 use Rattle.records.specs.Blank.{blankVoterSlotLogId, blankVoterSlotMember, blankVoterReplacementResult, blankVoterSlotRecord, blankVoterSnapshotEvidence, blankVoterReplacementRecord}
@@ -29,7 +30,7 @@ isZero b = eqb b 0
 
 -- "2,048 or 256 bytes and a length, zero behind it"; a Rust String is UTF-8
 unfoldable pub isText : ℕ → ℕ → List ℕ → Bool
-isText most len bytes = leb len most && (isUtf8 (take len bytes) && every isZero (drop len bytes))
+isText most len bytes = leb len most and isUtf8 (take len bytes) and every isZero (drop len bytes)
 
 abbrev pub representableSpiffeId : SpiffeId → Bool
 representableSpiffeId s = isText maxSpiffeIdBytes (s .len) (s .bytes)
@@ -46,34 +47,35 @@ representableMember m = isSlotId (m .identity .slot) && isVoterIncarnation (m .i
 
 unfoldable pub representableResult : VoterReplacementResult → Bool
 representableResult r =
-    isVoterIncarnation (r .incarnation) && (isConfigurationEpoch (r .«configuration_epoch») && leb (r .kind) superseded)
+    isVoterIncarnation (r .incarnation) and isConfigurationEpoch (r .«configuration_epoch») and leb (r .kind) superseded
 
 unfoldable pub representableSlotRecord : VoterSlotRecord → Bool
 representableSlotRecord s =
     representableMember (s .member)
-    && (leb (s .phase) voting
-    && cond (s .«has_last_result») (representableResult (s .«last_result»)) (sameVoterReplacementResult (s .«last_result») blankVoterReplacementResult))
+    and leb (s .phase) voting
+    and cond (s .«has_last_result») (representableResult (s .«last_result»)) (sameVoterReplacementResult (s .«last_result») blankVoterReplacementResult)
 
 -- "nine places always, the first so many in use": one that is not in use is blank
 abbrev pub memberPlace : Bool → VoterSlotMember → Bool
-memberPlace behind m = cond behind (sameVoterSlotMember m blankVoterSlotMember) (representableMember m)
+memberPlace past m = cond past (sameVoterSlotMember m blankVoterSlotMember) (representableMember m)
 
 abbrev pub slotPlace : Bool → VoterSlotRecord → Bool
-slotPlace behind s = cond behind (sameVoterSlotRecord s blankVoterSlotRecord) (representableSlotRecord s)
+slotPlace past s = cond past (sameVoterSlotRecord s blankVoterSlotRecord) (representableSlotRecord s)
 
 unfoldable pub representableConfiguration : VoterConfiguration → Bool
 representableConfiguration c =
     isConfigurationEpoch (c .epoch)
-    && (leb (c .count) maxFixedVoterSlots
-    && allBelow (λ i. memberPlace (leb (c .count) i) (memberAt c i)) maxFixedVoterSlots)
+    and leb (c .count) maxFixedVoterSlots
+    and allBelow (λ i. memberPlace (leb (c .count) i) (memberAt c i)) maxFixedVoterSlots
 
 unfoldable pub representableAttestation : LostVoterAttestationV1 → Bool
 representableAttestation a =
     isSlotId (a .slot)
-    && (isVoterIncarnation (a .«expected_incarnation»)
-    && (representableSpiffeId (a .«candidate_spiffe_id»)
-    && (representableSpiffeId (a .«controller_spiffe_id»)
-    && (leb storageLost (a .reason) && leb (a .reason) timeBoundLoss))))
+    and isVoterIncarnation (a .«expected_incarnation»)
+    and representableSpiffeId (a .«candidate_spiffe_id»)
+    and representableSpiffeId (a .«controller_spiffe_id»)
+    and leb storageLost (a .reason)
+    and leb (a .reason) timeBoundLoss
 
 abbrev pub representableSnapshot : VoterSnapshotEvidence → Bool
 representableSnapshot s = representableSnapshotId (s .«snapshot_id»)
@@ -84,23 +86,24 @@ snapshotPart e = cond (e .«has_snapshot») (representableSnapshot (e .snapshot)
 unfoldable pub representableEvidence : VoterReplacementEvidence → Bool
 representableEvidence e =
     snapshotPart e
-    && (representableOptionalLogId (e .learner)
-    && (representableOptionalLogId (e .«caught_up»)
-    && (representableOptionalLogId (e .continuation)
-    && (representableOptionalLogId (e .fence)
-    && (representableOptionalLogId (e .joint)
-    && representableOptionalLogId (e .uniform))))))
+    and representableOptionalLogId (e .learner)
+    and representableOptionalLogId (e .«caught_up»)
+    and representableOptionalLogId (e .continuation)
+    and representableOptionalLogId (e .fence)
+    and representableOptionalLogId (e .joint)
+    and representableOptionalLogId (e .uniform)
 
 unfoldable pub representableReplacement : VoterReplacementRecord → Bool
 representableReplacement r =
     representableAttestation (r .attestation)
-    && (representableConfiguration (r .predecessor)
-    && (representableConfiguration (r .successor)
-    && (leb (r .phase) uniform && representableEvidence (r .evidence))))
+    and representableConfiguration (r .predecessor)
+    and representableConfiguration (r .successor)
+    and leb (r .phase) uniform
+    and representableEvidence (r .evidence)
 
 unfoldable pub representable : VoterSlotTable → Bool
 representable t =
     isConfigurationEpoch (t .«configuration_epoch»)
-    && (leb (t .count) maxFixedVoterSlots
-    && (allBelow (λ i. slotPlace (leb (t .count) i) (slotAt t i)) maxFixedVoterSlots
-    && cond (t .«has_replacement») (representableReplacement (t .replacement)) (sameVoterReplacementRecord (t .replacement) blankVoterReplacementRecord)))
+    and leb (t .count) maxFixedVoterSlots
+    and allBelow (λ i. slotPlace (leb (t .count) i) (slotAt t i)) maxFixedVoterSlots
+    and cond (t .«has_replacement») (representableReplacement (t .replacement)) (sameVoterReplacementRecord (t .replacement) blankVoterReplacementRecord)

@@ -1,4 +1,4 @@
--- The test for 30, part by part: each record's is all of the tests listed at once. `says` takes it apart, `passes` puts it together (TestLaws).
+-- The representability check, part by part: each record's is all of the tests listed at once. `says` takes it apart, `passes` puts it together (TestLaws).
 -- Each name here is a step of a proof; what is right is said in Representable.
 -- Assumes nothing.
 use Prim.Native.Nat.{ℕ, _<_, _≤_}
@@ -120,7 +120,7 @@ table-is t = record { is = refl }
 
 -- ---- an open request
 
--- that of a table that passes the test for 30
+-- that of a table that passes the representability check
 pub replacement-fits : (t : VoterSlotTable) → representable t ≡ true → t .«has_replacement» ≡ true → representableReplacement (t .replacement) ≡ true
 replacement-fits t h e = sym (cond-true (t .«has_replacement») _ _ e) ∙ says (table-is t) h .1 .1 .1
 

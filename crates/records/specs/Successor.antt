@@ -4,6 +4,7 @@
 use Prim.Native.Nat.{ℕ, _+_}
 use mathlib.Core.Bool.{Bool, false, cond, not, _&&_, _||_}
 use lib.Dec.{eqb, leb, ltb}
+use Rattle.identity.specs.Conditions.{_and_}
 use Rattle.identity.specs.Answer.{isAccepted}
 use Rattle.identity.specs.Identity.{maxVoterIncarnation}
 use Rattle.identity.specs.declared.answer.Answer.{Answer}
@@ -22,45 +23,46 @@ use Rattle.records.specs.declared.records.VoterSlotTable.{VoterSlotTable
 unfoldable pub resultSucceeds : VoterReplacementResult → VoterReplacementResult → Bool
 resultSucceeds new old =
     leb (old .revision) (new .revision)
-    && (leb (old .incarnation) (new .incarnation)
-    && (leb (old .«configuration_epoch») (new .«configuration_epoch»)
-    && (not (eqb (new .revision) (old .revision) || eqb (new .incarnation) (old .incarnation)) || sameVoterReplacementResult new old)))
+    and leb (old .incarnation) (new .incarnation)
+    and leb (old .«configuration_epoch») (new .«configuration_epoch»)
+    and (not (eqb (new .revision) (old .revision) || eqb (new .incarnation) (old .incarnation)) || sameVoterReplacementResult new old)
 
 unfoldable pub slotSucceeds : VoterSlotRecord → VoterSlotRecord → Bool
 slotSucceeds new old =
     let mine = new .member .identity .incarnation in
     let theirs = old .member .identity .incarnation in
     eqb (new .member .identity .slot) (old .member .identity .slot)
-    && (leb (old .«retired_through») (new .«retired_through»)
-    && (leb theirs mine
-    && ((not (eqb mine theirs) || (sameVoterSlotMember (new .member) (old .member) && leb (old .phase) (new .phase)))
-    && ((not (ltb theirs mine) || ltb (old .member .«admission_generation») (new .member .«admission_generation»))
-    && (not (old .«has_last_result») || (new .«has_last_result» && resultSucceeds (new .«last_result») (old .«last_result»)))))))
+    and leb (old .«retired_through») (new .«retired_through»)
+    and leb theirs mine
+    and (not (eqb mine theirs) || (sameVoterSlotMember (new .member) (old .member) && leb (old .phase) (new .phase)))
+    and (not (ltb theirs mine) || ltb (old .member .«admission_generation») (new .member .«admission_generation»))
+    and (not (old .«has_last_result») || (new .«has_last_result» && resultSucceeds (new .«last_result») (old .«last_result»)))
 
 -- The same request stays open.
 unfoldable pub requestSucceeds : VoterReplacementRecord → VoterReplacementRecord → Bool
 requestSucceeds new old =
     eqb (new .«expected_revision») (old .«expected_revision»)
-    && (sameLostVoterAttestationV1 (new .attestation) (old .attestation)
-    && (sameVoterConfiguration (new .predecessor) (old .predecessor)
-    && (sameVoterConfiguration (new .successor) (old .successor)
-    && (leb (old .phase) (new .phase) && retains (new .evidence) (old .evidence) (old .phase)))))
+    and sameLostVoterAttestationV1 (new .attestation) (old .attestation)
+    and sameVoterConfiguration (new .predecessor) (old .predecessor)
+    and sameVoterConfiguration (new .successor) (old .successor)
+    and leb (old .phase) (new .phase)
+    and retains (new .evidence) (old .evidence) (old .phase)
 
 -- The receipt of the request itself: completed once the epoch is the successor's, or superseded before the fence.
 unfoldable pub ownReceipt : ℕ → VoterReplacementRecord → VoterReplacementResult → Bool
 ownReceipt epoch old receipt =
     let isCompleted = eqb (receipt .kind) completed in
     eqBytes (receipt .«request_id») (old .attestation .«request_id»)
-    && (eqBytes (receipt .«request_digest») (old .attestation .«request_digest»)
-    && ((isCompleted && leb (old .successor .epoch) epoch) || (not isCompleted && ltb (old .phase) fenced)))
+    and eqBytes (receipt .«request_digest») (old .attestation .«request_digest»)
+    and ((isCompleted && leb (old .successor .epoch) epoch) || (not isCompleted && ltb (old .phase) fenced))
 
 -- The request that was open has ended: the receipt of its slot, in a table of that epoch, is its own or a later one.
 unfoldable pub requestEnded : ℕ → VoterReplacementRecord → VoterReplacementResult → Bool
 requestEnded epoch old receipt =
     ltb (old .attestation .«expected_incarnation») (receipt .incarnation)
-    && (follows (receipt .terminal) (latest (old .evidence)) false
-    && ((ltb (old .phase) fenced || leb (old .successor .epoch) epoch)
-    && (not (eqb (old .attestation .«expected_incarnation» + 1) (receipt .incarnation)) || ownReceipt epoch old receipt)))
+    and follows (receipt .terminal) (latest (old .evidence)) false
+    and (ltb (old .phase) fenced || leb (old .successor .epoch) epoch)
+    and (not (eqb (old .attestation .«expected_incarnation» + 1) (receipt .incarnation)) || ownReceipt epoch old receipt)
 
 -- The first slot of that number, or the count where there is none.
 abbrev pub slotIndex : VoterSlotTable → ℕ → ℕ
@@ -90,9 +92,10 @@ replacementSucceeds new old =
 unfoldable pub headSucceeds : VoterSlotTable → VoterSlotTable → Bool
 headSucceeds new old =
     eqBytes (new .«cluster_instance») (old .«cluster_instance»)
-    && (eqBytes (new .«manifest_digest») (old .«manifest_digest»)
-    && (leb (old .revision) (new .revision)
-    && (leb (old .«configuration_epoch») (new .«configuration_epoch») && eqb (new .count) (old .count))))
+    and eqBytes (new .«manifest_digest») (old .«manifest_digest»)
+    and leb (old .revision) (new .revision)
+    and leb (old .«configuration_epoch») (new .«configuration_epoch»)
+    and eqb (new .count) (old .count)
 
 -- The check of two tables that are valid.
 unfoldable pub succession : VoterSlotTable → VoterSlotTable → Answer
@@ -102,10 +105,10 @@ succession new old =
     (orRegression (allBelow (λ i. slotSucceeds (slotAt new i) (slotAt old i)) (new .count)) (replacementSucceeds new old)))
 
 -- an answer that is no refusal leads on
-abbrev pub andThen : Answer → Answer → Answer
-andThen answer next = cond (isAccepted answer) next answer
+abbrev pub firstRefusal : Answer → Answer → Answer
+firstRefusal answer next = cond (isAccepted answer) next answer
 
 -- `VoterSlotTable::validate_successor_of`, after 30
 unfoldable pub validateSuccessorOf : VoterSlotTable → VoterSlotTable → Answer
 validateSuccessorOf new old =
-    cond (representable new && representable old) (andThen (validity new) (andThen (validity old) (succession new old))) Unrepresentable
+    cond (representable new && representable old) (firstRefusal (validity new) (firstRefusal (validity old) (succession new old))) Unrepresentable

@@ -23,7 +23,7 @@ use Rattle.records.specs.Evidence.{retains}
 use Rattle.records.specs.Records.{allBelow, slotAt}
 use Rattle.records.specs.RecordsLaws.{allBelow-at, allBelow-all}
 use Rattle.records.specs.Representable.{representable}
-use Rattle.records.specs.Successor.{resultSucceeds, slotSucceeds, requestSucceeds, replacementSucceeds, headSucceeds, orRegression, succession, andThen, validateSuccessorOf}
+use Rattle.records.specs.Successor.{resultSucceeds, slotSucceeds, requestSucceeds, replacementSucceeds, headSucceeds, orRegression, succession, firstRefusal, validateSuccessorOf}
 use Rattle.records.specs.TestLaws.{MadeOf, passes, and-both, then-passes, left-or, cond-true, cond-false, chosen, both-accepted, then-accepted}
 use Rattle.records.specs.Validation.{requireOf, validity, validate}
 use Rattle.records.specs.ValidParts.{valid-parts, valid-joined}
@@ -194,13 +194,13 @@ module _ (new old : VoterSlotTable) where
 
 -- ---- the whole check
 
--- what is left of it where both tables passed the test for 30 and the old one is valid
+-- what is left of it where both tables passed the representability check and the old one is valid
 pub check-is : (new old : VoterSlotTable) → representable new ≡ true → representable old ≡ true → validity old ≡ Accepted
-    → validateSuccessorOf new old ≡ andThen (validity new) (succession new old)
+    → validateSuccessorOf new old ≡ firstRefusal (validity new) (succession new old)
 unfolding validateSuccessorOf
 check-is new old h k v =
     cond-true (representable new && representable old) _ Unrepresentable (and-both _ _ h k)
-    ∙ ap (λ (a : Answer). andThen (validity new) (andThen a (succession new old))) v
+    ∙ ap (λ (a : Answer). firstRefusal (validity new) (firstRefusal a (succession new old))) v
 
 -- A table may follow another: both are valid, and the succession is accepted.
 pub record CheckHolds (new old : VoterSlotTable) : Type 0 where
@@ -212,8 +212,8 @@ pub record CheckHolds (new old : VoterSlotTable) : Type 0 where
 pub check-holds : (new old : VoterSlotTable) → validateSuccessorOf new old ≡ Accepted → CheckHolds new old
 unfolding validateSuccessorOf
 check-holds new old h =
-    let e = chosen (representable new && representable old) (andThen (validity new) (andThen (validity old) (succession new old))) Unrepresentable refl h in
-    let v = both-accepted (validity new) (andThen (validity old) (succession new old)) (e .1) in
+    let e = chosen (representable new && representable old) (firstRefusal (validity new) (firstRefusal (validity old) (succession new old))) Unrepresentable refl h in
+    let v = both-accepted (validity new) (firstRefusal (validity old) (succession new old)) (e .1) in
     let w = both-accepted (validity old) (succession new old) (v .1) in
     record {
       new-valid = valid-joined new (and-left (representable new) _ (e .0)) (v .0);
@@ -231,7 +231,7 @@ check-accepted new old h =
 -- ---- answers as tests
 
 -- validity and then the successor check are accepted where both tests hold
-pub accepted-both : (v w : Bool) → isAccepted (andThen (requireOf v Accepted) (orRegression w Accepted)) ≡ (v && w)
+pub accepted-both : (v w : Bool) → isAccepted (firstRefusal (requireOf v Accepted) (orRegression w Accepted)) ≡ (v && w)
 accepted-both true true = refl
 accepted-both true false = refl
 accepted-both false w = refl

@@ -18,7 +18,7 @@ use Rattle.records.specs.Equality.{allTrue, eqBytes}
 use Rattle.records.specs.EqualityLaws.{eqBytes-true, eqBytes-refl}
 use Rattle.records.specs.Records.{allBelow, firstFrom}
 use Rattle.records.specs.RecordsLaws.{allBelow-at}
-use Rattle.records.specs.Successor.{andThen}
+use Rattle.records.specs.Successor.{firstRefusal}
 use Rattle.records.specs.ValidationLaws.{is-accepted}
 
 -- ---- a long `&&`
@@ -141,7 +141,7 @@ chosen-not true a b n h = absurd (false≢true (sym n ∙ ap isAccepted h))
 chosen-not false a b n h = (refl, h)
 
 -- an answer that leads on to another is accepted where both are
-pub both-accepted : (a b : Answer) → andThen a b ≡ Accepted → (a ≡ Accepted) × (b ≡ Accepted)
+pub both-accepted : (a b : Answer) → firstRefusal a b ≡ Accepted → (a ≡ Accepted) × (b ≡ Accepted)
 both-accepted a b h = by (isAccepted a) refl h
   where
     by : (t : Bool) → isAccepted a ≡ t → cond t b a ≡ Accepted → (a ≡ Accepted) × (b ≡ Accepted)
@@ -149,8 +149,8 @@ both-accepted a b h = by (isAccepted a) refl h
     by false e k = absurd (false≢true (sym e ∙ ap isAccepted k))
 
 -- and where both are, it is
-pub then-accepted : (a b : Answer) → a ≡ Accepted → b ≡ Accepted → andThen a b ≡ Accepted
-then-accepted a b h k = ap (λ (x : Answer). andThen x b) h ∙ k
+pub then-accepted : (a b : Answer) → a ≡ Accepted → b ≡ Accepted → firstRefusal a b ≡ Accepted
+then-accepted a b h k = ap (λ (x : Answer). firstRefusal x b) h ∙ k
 
 -- ---- places
 

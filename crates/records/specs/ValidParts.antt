@@ -633,9 +633,9 @@ module _ (t : VoterSlotTable) where
       ∙ cond-true (allBelow (λ i. eqb (slotAt t i .phase) voting) (t .count)) Accepted InvalidRecord
       (allBelow-all (λ i. eqb (slotAt t i .phase) voting) _ (λ i l. eq-eqb _ _ (h .phase i l))))
 
--- ---- after the test for 30
+-- ---- after the representability check
 
--- a table that is accepted has passed the test for 30 and is valid
+-- a table that is accepted has passed the representability check and is valid
 pub valid-parts : (t : VoterSlotTable) → validate t ≡ Accepted → (representable t ≡ true) × (validity t ≡ Accepted)
 unfolding validate
 valid-parts t h = chosen (representable t) (validity t) Unrepresentable refl h

@@ -6,6 +6,7 @@ use mathlib.Core.Path.{_≡_}
 use mathlib.Core.Bool.{Bool, true, cond, not, _&&_, _||_}
 use lib.ListN.{take}
 use lib.Dec.{eqb, leb, ltb}
+use Rattle.identity.specs.Conditions.{_and_}
 use Rattle.identity.specs.Answer.{isAccepted}
 use Rattle.identity.specs.Identity.{maxVoterIncarnation}
 use Rattle.identity.specs.Text.{isName, maxSpiffeIdBytes}
@@ -30,14 +31,14 @@ requireOf valid next = cond valid next InvalidRecord
 
 -- `validate_count`: "odd count, 1 to 9"
 abbrev pub validCount : ℕ → Bool
-validCount count = ltb 0 count && (leb count maxFixedVoterSlots && eqb (count % 2) 1)
+validCount count = ltb 0 count and leb count maxFixedVoterSlots and eqb (count % 2) 1
 
 -- `VoterConfiguration::validate`
 unfoldable pub validConfiguration : VoterConfiguration → Bool
 validConfiguration c =
     validCount (c .count)
-    && (allBelow (λ i. ltb 0 (memberAt c i .«admission_generation»)) (c .count)
-    && allBelow (λ i. ltb (memberAt c i .identity .slot) (memberAt c (i + 1) .identity .slot)) (c .count - 1))
+    and allBelow (λ i. ltb 0 (memberAt c i .«admission_generation»)) (c .count)
+    and allBelow (λ i. ltb (memberAt c i .identity .slot) (memberAt c (i + 1) .identity .slot)) (c .count - 1)
 
 -- A controller or candidate name. One that is longer than its field is invalid, whatever the field holds.
 abbrev pub validSpiffeId : SpiffeId → Bool
@@ -52,10 +53,11 @@ pub record NamesHold (a : LostVoterAttestationV1) : Type 0 where
 unfoldable pub validAttestation : LostVoterAttestationV1 → Bool
 validAttestation a =
     validSpiffeId (a .«candidate_spiffe_id»)
-    && (validSpiffeId (a .«controller_spiffe_id»)
-    && (ltb 0 (a .«admission_generation»)
-    && (leb (a .«observation_start_ms») (a .«decision_ms»)
-    && (leb (a .«decision_ms») (a .«issued_ms») && ltb (a .«issued_ms») (a .«expires_ms»)))))
+    and validSpiffeId (a .«controller_spiffe_id»)
+    and ltb 0 (a .«admission_generation»)
+    and leb (a .«observation_start_ms») (a .«decision_ms»)
+    and leb (a .«decision_ms») (a .«issued_ms»)
+    and ltb (a .«issued_ms») (a .«expires_ms»)
 
 -- ---- `VoterSlotTable::validate`
 
@@ -69,11 +71,13 @@ validResult revision epoch active s =
     let r = s .«last_result» in
     let own = s .member .identity .incarnation in
     validLogId (r .terminal)
-    && ((ltb 0 (r .revision)
-    && (leb (r .revision) revision
-    && (leb (r .«configuration_epoch») epoch && (ltb 1 (r .incarnation) && leb (r .incarnation) own))))
-    && ((not active || ltb (r .incarnation) own)
-    && (not (eqb (r .incarnation) own) || (eqb (s .phase) voting && eqb (r .kind) completed))))
+    and (ltb 0 (r .revision)
+    and leb (r .revision) revision
+    and leb (r .«configuration_epoch») epoch
+    and ltb 1 (r .incarnation)
+    and leb (r .incarnation) own)
+    and (not active || ltb (r .incarnation) own)
+    and (not (eqb (r .incarnation) own) || (eqb (s .phase) voting && eqb (r .kind) completed))
 
 -- One slot: "retired-through is incarnation − 1"; past its first incarnation it is being replaced or has its completed receipt.
 unfoldable pub validSlot : ℕ → ℕ → Bool → VoterSlotRecord → Bool
@@ -81,21 +85,21 @@ validSlot revision epoch active s =
     let r = s .«last_result» in
     let own = s .member .identity .incarnation in
     (ltb 0 (s .member .«admission_generation») && eqb (s .«retired_through» + 1) own)
-    && (((active || leb own 1) || (s .«has_last_result» && (eqb (r .incarnation) own && eqb (r .kind) completed)))
-    && (not (s .«has_last_result») || validResult revision epoch active s))
+    and ((active || leb own 1) || (s .«has_last_result» and eqb (r .incarnation) own and eqb (r .kind) completed))
+    and (not (s .«has_last_result») || validResult revision epoch active s)
 
 -- Two slots have no receipt of one request.
 abbrev pub distinctResults : VoterSlotRecord → VoterSlotRecord → Bool
 distinctResults a b =
-    not (a .«has_last_result» && (b .«has_last_result» && eqBytes (a .«last_result» .«request_id») (b .«last_result» .«request_id»)))
+    not (a .«has_last_result» and b .«has_last_result» and eqBytes (a .«last_result» .«request_id») (b .«last_result» .«request_id»))
 
 unfoldable pub validSlots : VoterSlotTable → Bool
 validSlots t =
     validCount (t .count)
-    && (ltb 0 (t .revision)
-    && (allBelow (λ i. ltb (slotAt t i .member .identity .slot) (slotAt t (i + 1) .member .identity .slot)) (t .count - 1)
-    && (allBelow (λ i. validSlot (t .revision) (t .«configuration_epoch») (isActive t (slotAt t i)) (slotAt t i)) (t .count)
-    && allBelow (λ i. allBelow (λ j. distinctResults (slotAt t j) (slotAt t i)) i) (t .count))))
+    and ltb 0 (t .revision)
+    and allBelow (λ i. ltb (slotAt t i .member .identity .slot) (slotAt t (i + 1) .member .identity .slot)) (t .count - 1)
+    and allBelow (λ i. validSlot (t .revision) (t .«configuration_epoch») (isActive t (slotAt t i)) (slotAt t i)) (t .count)
+    and allBelow (λ i. allBelow (λ j. distinctResults (slotAt t j) (slotAt t i)) i) (t .count)
 
 -- ---- `VoterSlotTable::validate_operation`
 
@@ -107,11 +111,12 @@ targetPhase phase = cond (leb phase snapshotInstalled) pending (cond (leb phase 
 unfoldable pub validOperationHead : VoterSlotTable → VoterReplacementRecord → Bool
 validOperationHead t op =
     ltb 0 (op .«expected_revision»)
-    && (ltb (op .«expected_revision») (t .revision)
-    && (eqBytes (op .attestation .«cluster_instance») (t .«cluster_instance»)
-    && (leb 3 (t .count)
-    && (eqb (op .predecessor .count) (t .count)
-    && (eqb (op .successor .count) (t .count) && eqb (op .predecessor .epoch + 1) (op .successor .epoch))))))
+    and ltb (op .«expected_revision») (t .revision)
+    and eqBytes (op .attestation .«cluster_instance») (t .«cluster_instance»)
+    and leb 3 (t .count)
+    and eqb (op .predecessor .count) (t .count)
+    and eqb (op .successor .count) (t .count)
+    and eqb (op .predecessor .epoch + 1) (op .successor .epoch)
 
 unfoldable pub isCurrentEpoch : VoterSlotTable → VoterReplacementRecord → Bool
 isCurrentEpoch t op = eqb (t .«configuration_epoch») (cond (eqb (op .phase) uniform) (op .successor .epoch) (op .predecessor .epoch))
@@ -119,9 +124,11 @@ isCurrentEpoch t op = eqb (t .«configuration_epoch») (cond (eqb (op .phase) un
 unfoldable pub validOperation : VoterSlotTable → VoterReplacementRecord → Bool
 validOperation t op =
     validAttestation (op .attestation)
-    && (validConfiguration (op .predecessor)
-    && (validConfiguration (op .successor)
-    && (validEvidence (op .evidence) (op .phase) && (validOperationHead t op && isCurrentEpoch t op))))
+    and validConfiguration (op .predecessor)
+    and validConfiguration (op .successor)
+    and validEvidence (op .evidence) (op .phase)
+    and validOperationHead t op
+    and isCurrentEpoch t op
 
 -- What the open request claims of the slots.
 abbrev pub claimsOf : VoterReplacementRecord → Claims
@@ -141,8 +148,9 @@ claimsOf op =
 abbrev pub supersededReceipt : VoterSlotRecord → Claims → Bool
 supersededReceipt s c =
     s .«has_last_result»
-    && (eqb (s .«last_result» .incarnation) (c .«expected_incarnation»)
-    && (eqb (s .«last_result» .kind) superseded && sameVoterSlotLogId (s .«last_result» .terminal) (c .prepare)))
+    and eqb (s .«last_result» .incarnation) (c .«expected_incarnation»)
+    and eqb (s .«last_result» .kind) superseded
+    and sameVoterSlotLogId (s .«last_result» .terminal) (c .prepare)
 
 -- The member that is being replaced: the attested one, or, where the attested one was a candidate, the one before it.
 unfoldable pub retiredMember : Claims → VoterSlotRecord → VoterSlotMember → Bool
@@ -155,11 +163,12 @@ retiredMember c s predecessor =
 unfoldable pub validTarget : Claims → VoterSlotRecord → VoterSlotMember → VoterSlotMember → Bool
 validTarget c s predecessor successor =
     (eqb (c .«expected_incarnation» + 1) (successor .identity .incarnation)
-    && (leb (predecessor .identity .incarnation) (c .«expected_incarnation»)
-    && (ltb (predecessor .«admission_generation») (successor .«admission_generation»)
-    && (eqb (successor .«admission_generation») (c .«admission_generation»)
-    && eqBytes (successor .«key_digest») (c .«candidate_key_digest»)))))
-    && (eqb (s .phase) (targetPhase (c .phase)) && retiredMember c s predecessor)
+    and leb (predecessor .identity .incarnation) (c .«expected_incarnation»)
+    and ltb (predecessor .«admission_generation») (successor .«admission_generation»)
+    and eqb (successor .«admission_generation») (c .«admission_generation»)
+    and eqBytes (successor .«key_digest») (c .«candidate_key_digest»))
+    and eqb (s .phase) (targetPhase (c .phase))
+    and retiredMember c s predecessor
 
 -- No receipt of the open request.
 abbrev pub otherRequest : Claims → VoterSlotRecord → Bool
@@ -196,7 +205,7 @@ validateOperation t =
     requireOf (validOperation t (t .replacement))
     (cond (isAccepted (validateMembers t (t .count))) (requireOf (hasTarget t) Accepted) (validateMembers t (t .count)))
 
--- Validity of a table that has passed the test for 30.
+-- Validity of a table that has passed the representability check.
 unfoldable pub validity : VoterSlotTable → Answer
 validity t =
     requireOf (validSlots t)

@@ -3,6 +3,7 @@
 ghost use mathlib.Core.Path.{_≡_};
 ghost use Rattle.records.specs.Blank.{blankVoterSlotIdentity, blankSpiffeId, blankSnapshotId, blankVoterSlotLogId, blankOptionalLogId, blankVoterSlotMember, blankVoterReplacementResult, blankVoterSlotRecord, blankVoterSnapshotEvidence, blankVoterConfiguration, blankLostVoterAttestationV1, blankVoterReplacementEvidence, blankVoterReplacementRecord, blankVoterSlotTable};
 use crate::records::LostVoterAttestationV1;
+use crate::records::MAX_FIXED_VOTER_SLOTS;
 use crate::records::OptionalLogId;
 use crate::records::SnapshotId;
 use crate::records::SpiffeId;
@@ -119,7 +120,7 @@ pub fn blank_voter_configuration() -> VoterConfiguration
     let voter_slot_member = blank_voter_slot_member();
     VoterConfiguration {
         epoch: 0,
-        members: [voter_slot_member; 9],
+        members: [voter_slot_member; MAX_FIXED_VOTER_SLOTS],
         count: 0,
     }
 }
@@ -195,7 +196,7 @@ pub fn blank_voter_slot_table() -> VoterSlotTable
         manifest_digest: [0; 32],
         revision: 0,
         configuration_epoch: 0,
-        slots: [voter_slot_record; 9],
+        slots: [voter_slot_record; MAX_FIXED_VOTER_SLOTS],
         count: 0,
         has_replacement: false,
         replacement: voter_replacement_record,

@@ -8,6 +8,7 @@
 ghost use mathlib.Core.Path.{_≡_};
 ghost use Rattle.records.specs.Equality.{eqBytes, eqList, sameVoterSlotIdentity, sameSpiffeId, sameSnapshotId, sameVoterSlotLogId, sameOptionalLogId, sameVoterSlotMember, sameVoterReplacementResult, sameVoterSlotRecord, sameVoterSnapshotEvidence, sameVoterConfiguration, sameLostVoterAttestationV1, sameVoterReplacementEvidence, sameVoterReplacementRecord, sameVoterSlotTable};
 use crate::records::LostVoterAttestationV1;
+use crate::records::MAX_FIXED_VOTER_SLOTS;
 use crate::records::OptionalLogId;
 use crate::records::SnapshotId;
 use crate::records::SpiffeId;
@@ -98,12 +99,15 @@ pub fn same_voter_slot_member(a: VoterSlotMember, b: VoterSlotMember) -> bool
 }
 
 // The nine places of a table or a configuration, whatever its count.
-pub fn same_voter_slot_members(a: [VoterSlotMember; 9], b: [VoterSlotMember; 9]) -> bool
+pub fn same_voter_slot_members(
+    a: [VoterSlotMember; MAX_FIXED_VOTER_SLOTS],
+    b: [VoterSlotMember; MAX_FIXED_VOTER_SLOTS],
+) -> bool
     ensures { λ r. ⌜ r ≡ eqList sameVoterSlotMember a b ⌝ }
 {
     let mut same = true;
     let mut i: usize = 0;
-    while i < 9 {
+    while i < MAX_FIXED_VOTER_SLOTS {
         let x = a[i];
         let y = b[i];
         same = same & same_voter_slot_member(x, y);
@@ -143,12 +147,15 @@ pub fn same_voter_slot_record(a: VoterSlotRecord, b: VoterSlotRecord) -> bool
 }
 
 // The nine places of a table or a configuration, whatever its count.
-pub fn same_voter_slot_records(a: [VoterSlotRecord; 9], b: [VoterSlotRecord; 9]) -> bool
+pub fn same_voter_slot_records(
+    a: [VoterSlotRecord; MAX_FIXED_VOTER_SLOTS],
+    b: [VoterSlotRecord; MAX_FIXED_VOTER_SLOTS],
+) -> bool
     ensures { λ r. ⌜ r ≡ eqList sameVoterSlotRecord a b ⌝ }
 {
     let mut same = true;
     let mut i: usize = 0;
-    while i < 9 {
+    while i < MAX_FIXED_VOTER_SLOTS {
         let x = a[i];
         let y = b[i];
         same = same & same_voter_slot_record(x, y);

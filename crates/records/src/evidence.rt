@@ -3,9 +3,10 @@
 // Ported from crates/opc-consensus/src/voter_slots/validation.rs (`VoterSlotLogId` and
 // `VoterReplacementEvidence`: `validate`, `follows`, `retains`, `latest`) of openpacketcore-sdk, commit
 // 717de332e7, Apache-2.0 (see NOTICE). Changed: each check answers yes or no. A snapshot id above its
-// field, for which the original gives `TooLarge`, is a no: in a table the test for 30 has refused it.
+// field, for which the original gives `TooLarge`, is a no: in a table the representability check has
+// refused it.
 ghost use mathlib.Core.Path.{_≡_};
-ghost use Rattle.records.specs.Evidence.{validLogId, follows, validStage, stageOr, snapshotCut, validStages, validBeside, validContinuation, validSnapshotId, validEvidence, retainsCut, retainsMarker, retainsCuts, retains, laterOf, latest};
+ghost use Rattle.records.specs.Evidence.{validLogId, follows, validStage, stageOr, snapshotCut, validStages, inOrder, validContinuation, validSnapshotId, validEvidence, retainsCut, retainsMarker, retainsCuts, retains, laterOf, latest};
 use crate::equality::same_voter_slot_log_id;
 use crate::equality::same_voter_snapshot_evidence;
 use crate::records::CAUGHT_UP;
@@ -60,23 +61,24 @@ fn are_valid_stages(evidence: VoterReplacementEvidence, phase: u8) -> bool
 {
     let prepare = evidence.prepare;
     let snapshot = snapshot_cut(evidence);
-    let t1 = is_valid_stage(snapshot, SNAPSHOT_INSTALLED <= phase, prepare, true);
-    let first = stage_or(snapshot, prepare);
+    let snapshot_valid = is_valid_stage(snapshot, SNAPSHOT_INSTALLED <= phase, prepare, true);
+    let to_snapshot = stage_or(snapshot, prepare);
     let learner = evidence.learner;
-    let t2 = is_valid_stage(learner, LEARNER_ADDED <= phase, first, false);
-    let second = stage_or(learner, first);
+    let learner_valid = is_valid_stage(learner, LEARNER_ADDED <= phase, to_snapshot, false);
+    let to_learner = stage_or(learner, to_snapshot);
     let caught_up = evidence.caught_up;
-    let t3 = is_valid_stage(caught_up, CAUGHT_UP <= phase, second, false);
-    let third = stage_or(caught_up, second);
+    let caught_up_valid = is_valid_stage(caught_up, CAUGHT_UP <= phase, to_learner, false);
+    let to_caught_up = stage_or(caught_up, to_learner);
     let fence = evidence.fence;
-    let t4 = is_valid_stage(fence, FENCED <= phase, third, false);
-    let fourth = stage_or(fence, third);
+    let fence_valid = is_valid_stage(fence, FENCED <= phase, to_caught_up, false);
+    let to_fence = stage_or(fence, to_caught_up);
     let joint = evidence.joint;
-    let t5 = is_valid_stage(joint, JOINT <= phase, fourth, false);
-    let fifth = stage_or(joint, fourth);
+    let joint_valid = is_valid_stage(joint, JOINT <= phase, to_fence, false);
+    let to_joint = stage_or(joint, to_fence);
     let uniform = evidence.uniform;
-    let t6 = is_valid_stage(uniform, UNIFORM <= phase, fifth, false);
-    t1 & (t2 & (t3 & (t4 & (t5 & t6))))
+    let uniform_valid = is_valid_stage(uniform, UNIFORM <= phase, to_joint, false);
+    snapshot_valid
+        & (learner_valid & (caught_up_valid & (fence_valid & (joint_valid & uniform_valid))))
 }
 
 // The snapshot's cut, or none.
@@ -126,21 +128,18 @@ fn is_valid_continuation(evidence: VoterReplacementEvidence) -> bool
     let fence = evidence.fence;
     let fence_cut = fence.cut;
     let before_fence = !fence.is_some | log_id_follows(fence_cut, cut, false);
-    let beside_snapshot = is_valid_beside(cut, snapshot_cut(evidence), true);
+    let snapshot_in_order = is_in_order(cut, snapshot_cut(evidence), true);
     let learner = evidence.learner;
-    let beside_learner = is_valid_beside(cut, learner, false);
+    let learner_in_order = is_in_order(cut, learner, false);
     let caught_up = evidence.caught_up;
-    let beside_caught_up = is_valid_beside(cut, caught_up, false);
+    let caught_up_in_order = is_in_order(cut, caught_up, false);
     valid
-        & (after_prepare & (before_fence & (beside_snapshot & (beside_learner & beside_caught_up))))
+        & (after_prepare
+            & (before_fence & (snapshot_in_order & (learner_in_order & caught_up_in_order))))
 }
 
-pub fn is_valid_beside(
-    continuation: VoterSlotLogId,
-    other: OptionalLogId,
-    is_snapshot: bool,
-) -> bool
-    ensures { λ r. ⌜ r ≡ validBeside continuation other «is_snapshot» ⌝ }
+pub fn is_in_order(continuation: VoterSlotLogId, other: OptionalLogId, is_snapshot: bool) -> bool
+    ensures { λ r. ⌜ r ≡ inOrder continuation other «is_snapshot» ⌝ }
 {
     if !other.is_some {
         return true;
@@ -174,15 +173,16 @@ pub fn evidence_retains(
 {
     let prepare = new.prepare;
     let old_prepare = old.prepare;
-    let t0 = same_voter_slot_log_id(prepare, old_prepare);
+    let same_prepare = same_voter_slot_log_id(prepare, old_prepare);
     let snapshot = new.snapshot;
     let old_snapshot = old.snapshot;
     let same_snapshot = same_voter_snapshot_evidence(snapshot, old_snapshot);
     let caught_up = new.caught_up;
     let old_caught_up = old.caught_up;
-    let t2 = retains_marker(caught_up, old_caught_up, old_phase);
-    let t3 = retains_cuts(new, old);
-    t0 & ((!old.has_snapshot | (new.has_snapshot & same_snapshot)) & (t2 & t3))
+    let marker_kept = retains_marker(caught_up, old_caught_up, old_phase);
+    let cuts_kept = retains_cuts(new, old);
+    same_prepare
+        & ((!old.has_snapshot | (new.has_snapshot & same_snapshot)) & (marker_kept & cuts_kept))
 }
 
 fn retains_cuts(new: VoterReplacementEvidence, old: VoterReplacementEvidence) -> bool
@@ -190,20 +190,20 @@ fn retains_cuts(new: VoterReplacementEvidence, old: VoterReplacementEvidence) ->
 {
     let learner = new.learner;
     let old_learner = old.learner;
-    let t1 = retains_cut(learner, old_learner);
+    let learner_kept = retains_cut(learner, old_learner);
     let continuation = new.continuation;
     let old_continuation = old.continuation;
-    let t2 = retains_cut(continuation, old_continuation);
+    let continuation_kept = retains_cut(continuation, old_continuation);
     let fence = new.fence;
     let old_fence = old.fence;
-    let t3 = retains_cut(fence, old_fence);
+    let fence_kept = retains_cut(fence, old_fence);
     let joint = new.joint;
     let old_joint = old.joint;
-    let t4 = retains_cut(joint, old_joint);
+    let joint_kept = retains_cut(joint, old_joint);
     let uniform = new.uniform;
     let old_uniform = old.uniform;
-    let t5 = retains_cut(uniform, old_uniform);
-    t1 & (t2 & (t3 & (t4 & t5)))
+    let uniform_kept = retains_cut(uniform, old_uniform);
+    learner_kept & (continuation_kept & (fence_kept & (joint_kept & uniform_kept)))
 }
 
 fn retains_cut(new: OptionalLogId, old: OptionalLogId) -> bool
@@ -230,19 +230,19 @@ pub fn latest_cut(evidence: VoterReplacementEvidence) -> VoterSlotLogId
     ensures { λ r. ⌜ r ≡ latest evidence ⌝ }
 {
     let prepare = evidence.prepare;
-    let a = later_of(prepare, snapshot_cut(evidence));
+    let to_snapshot = later_of(prepare, snapshot_cut(evidence));
     let learner = evidence.learner;
-    let b = later_of(a, learner);
+    let to_learner = later_of(to_snapshot, learner);
     let caught_up = evidence.caught_up;
-    let c = later_of(b, caught_up);
+    let to_caught_up = later_of(to_learner, caught_up);
     let continuation = evidence.continuation;
-    let d = later_of(c, continuation);
+    let to_continuation = later_of(to_caught_up, continuation);
     let fence = evidence.fence;
-    let e = later_of(d, fence);
+    let to_fence = later_of(to_continuation, fence);
     let joint = evidence.joint;
-    let f = later_of(e, joint);
+    let to_joint = later_of(to_fence, joint);
     let uniform = evidence.uniform;
-    later_of(f, uniform)
+    later_of(to_joint, uniform)
 }
 
 pub fn later_of(latest: VoterSlotLogId, stage: OptionalLogId) -> VoterSlotLogId

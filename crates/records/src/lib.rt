@@ -1,4 +1,4 @@
-// Layer two: the records, the test for 30, validity and the successor check.
+// Layer two: the records, the representability check, validity and the successor check.
 pub mod blank;
 pub mod equality;
 pub mod evidence;

@@ -1,5 +1,5 @@
-// The test for 30: whether the Rust types can hold a value, no count is above nine and no text above
-// its field, and all that is not in use is zero. The original has no such test: its types rule most
+// The representability check (30): whether the Rust types can hold a value, no count is above nine and
+// no text above its field, and all that is not in use is zero. The original has no such test: its types rule most
 // of these values out, and its validity refuses the others, by `InvalidRecord` and `TooLarge`.
 ghost use mathlib.Core.Path.{_≡_};
 ghost use mathlib.Core.Bool.{_&&_};
@@ -36,6 +36,8 @@ use crate::zero::is_blank_voter_slot_record;
 use crate::zero::is_blank_voter_snapshot_evidence;
 use crate::zero::zeros;
 use identity::identity::MAX_VOTER_INCARNATION;
+use identity::text::MAX_VOTER_SNAPSHOT_ID_BYTES;
+use identity::text::MAX_VOTER_SPIFFE_ID_BYTES;
 use identity::text::is_utf8;
 
 // Whether the Rust types can hold the table.
@@ -58,15 +60,15 @@ pub fn is_representable(table: VoterSlotTable) -> bool
     is_blank_voter_replacement_record(replacement)
 }
 
-// The nine places: a slot in each below the count, and a blank behind it. A place is copied out in
-// the arm that looks at it, so that no field is read for nothing.
+// The nine places: a slot in each below the count, and a blank in each after it. A place is copied
+// out in the arm that looks at it, so that no field is read for nothing.
 fn slot_places(table: VoterSlotTable) -> bool
     ensures { λ r. ⌜ r ≡ allBelow (λ i. slotPlace (leb (table .count) i) (slotAt table i)) 9 ⌝ }
 {
     let slots = table.slots;
     let mut all = true;
     let mut i = 0;
-    while i < 9 {
+    while i < MAX_FIXED_VOTER_SLOTS {
         if table.count <= i {
             let slot = slots[i];
             all = all & is_blank_voter_slot_record(slot);
@@ -156,23 +158,23 @@ pub fn is_representable_attestation(attestation: LostVoterAttestationV1) -> bool
                 & (controller_held & ((STORAGE_LOST <= reason) & (reason <= TIME_BOUND_LOSS)))))
 }
 
-// Whether the name is UTF-8 with zeros behind it.
+// Whether the name is UTF-8 with zeros after it.
 pub fn is_representable_spiffe_id(id: SpiffeId) -> bool
     ensures { λ r. ⌜ r ≡ representableSpiffeId id ⌝ }
 {
     let len = id.len;
-    if 2048 < len {
+    if MAX_VOTER_SPIFFE_ID_BYTES < len {
         return false;
     }
     is_text(&id.bytes, len)
 }
 
-// Whether the snapshot id is UTF-8 with zeros behind it.
+// Whether the snapshot id is UTF-8 with zeros after it.
 pub fn is_representable_snapshot_id(id: SnapshotId) -> bool
     ensures { λ r. ⌜ r ≡ representableSnapshotId id ⌝ }
 {
     let len = id.len;
-    if 256 < len {
+    if MAX_VOTER_SNAPSHOT_ID_BYTES < len {
         return false;
     }
     is_text(&id.bytes, len)
@@ -200,13 +202,13 @@ pub fn is_representable_configuration(configuration: VoterConfiguration) -> bool
     member_places(configuration)
 }
 
-// The nine places: a member in each below the count, and a blank behind it.
+// The nine places: a member in each below the count, and a blank in each after it.
 fn member_places(configuration: VoterConfiguration) -> bool
     ensures { λ r. ⌜ r ≡ allBelow (λ i. memberPlace (leb (configuration .count) i) (memberAt configuration i)) 9 ⌝ }
 {
     let mut all = true;
     let mut i = 0;
-    while i < 9 {
+    while i < MAX_FIXED_VOTER_SLOTS {
         let member = configuration.members[i];
         all = all & is_member_place(configuration.count <= i, member);
         i += 1;
@@ -214,10 +216,10 @@ fn member_places(configuration: VoterConfiguration) -> bool
     all
 }
 
-fn is_member_place(behind: bool, member: VoterSlotMember) -> bool
-    ensures { λ r. ⌜ r ≡ memberPlace behind member ⌝ }
+fn is_member_place(past: bool, member: VoterSlotMember) -> bool
+    ensures { λ r. ⌜ r ≡ memberPlace past member ⌝ }
 {
-    if behind {
+    if past {
         return is_blank_voter_slot_member(member);
     }
     is_representable_member(member)
@@ -229,18 +231,20 @@ pub fn is_representable_evidence(evidence: VoterReplacementEvidence) -> bool
 {
     let snapshot = is_snapshot_part(evidence);
     let learner = evidence.learner;
-    let t1 = is_representable_optional_log_id(learner);
+    let learner_held = is_representable_optional_log_id(learner);
     let caught_up = evidence.caught_up;
-    let t2 = is_representable_optional_log_id(caught_up);
+    let caught_up_held = is_representable_optional_log_id(caught_up);
     let continuation = evidence.continuation;
-    let t3 = is_representable_optional_log_id(continuation);
+    let continuation_held = is_representable_optional_log_id(continuation);
     let fence = evidence.fence;
-    let t4 = is_representable_optional_log_id(fence);
+    let fence_held = is_representable_optional_log_id(fence);
     let joint = evidence.joint;
-    let t5 = is_representable_optional_log_id(joint);
+    let joint_held = is_representable_optional_log_id(joint);
     let uniform = evidence.uniform;
-    let t6 = is_representable_optional_log_id(uniform);
-    snapshot & (t1 & (t2 & (t3 & (t4 & (t5 & t6)))))
+    let uniform_held = is_representable_optional_log_id(uniform);
+    snapshot
+        & (learner_held
+            & (caught_up_held & (continuation_held & (fence_held & (joint_held & uniform_held)))))
 }
 
 fn is_snapshot_part(evidence: VoterReplacementEvidence) -> bool

@@ -2,8 +2,8 @@
 //
 // Ported from crates/opc-consensus/src/voter_slots/validation.rs (`validate_successor_of`) of
 // openpacketcore-sdk, commit 717de332e7, Apache-2.0 (see NOTICE). Changed: a check that can only give
-// `Regression` answers yes or no; the test for 30 stands in front. `retains` and `latest`, which it
-// calls, are in evidence.rt.
+// `Regression` answers yes or no; the representability check comes first. `retains` and `latest`,
+// which it calls, are in evidence.rt.
 ghost use mathlib.Core.Path.{_≡_};
 ghost use Prim.Native.Nat.{_+_, _≤_};
 ghost use Rattle.identity.specs.declared.answer.Answer.the-variants.{Accepted};
@@ -167,18 +167,19 @@ fn request_succeeds(new: VoterReplacementRecord, old: VoterReplacementRecord) ->
 {
     let attestation = new.attestation;
     let old_attestation = old.attestation;
-    let t1 = same_lost_voter_attestation_v1(attestation, old_attestation);
+    let same_attestation = same_lost_voter_attestation_v1(attestation, old_attestation);
     let predecessor = new.predecessor;
     let old_predecessor = old.predecessor;
-    let t2 = same_voter_configuration(predecessor, old_predecessor);
+    let same_predecessor = same_voter_configuration(predecessor, old_predecessor);
     let successor = new.successor;
     let old_successor = old.successor;
-    let t3 = same_voter_configuration(successor, old_successor);
+    let same_successor = same_voter_configuration(successor, old_successor);
     let evidence = new.evidence;
     let old_evidence = old.evidence;
-    let t4 = evidence_retains(evidence, old_evidence, old.phase);
+    let evidence_kept = evidence_retains(evidence, old_evidence, old.phase);
     (new.expected_revision == old.expected_revision)
-        & (t1 & (t2 & (t3 & ((old.phase <= new.phase) & t4))))
+        & (same_attestation
+            & (same_predecessor & (same_successor & ((old.phase <= new.phase) & evidence_kept))))
 }
 
 // The request that was open has ended.

@@ -2,8 +2,8 @@
 //
 // Ported from crates/opc-consensus/src/voter_slots/validation.rs of openpacketcore-sdk, commit
 // 717de332e7, Apache-2.0 (see NOTICE). Changed: a check that can only give `InvalidRecord` answers
-// yes or no; the test for 30 stands in front, and has refused each text for which the original gives
-// `TooLarge`; `follows`, `retains` and `latest` are in evidence.rt, `validate_successor_of` in
+// yes or no; the representability check comes first, and has refused each text for which the original
+// gives `TooLarge`; `follows`, `retains` and `latest` are in evidence.rt, `validate_successor_of` in
 // successor.rt.
 ghost use mathlib.Core.Bool.{_&&_};
 ghost use mathlib.Core.Path.{_≡_};
@@ -26,6 +26,7 @@ use crate::records::COMPLETED;
 use crate::records::FENCED;
 use crate::records::LostVoterAttestationV1;
 use crate::records::MAX_FIXED_VOTER_SLOTS;
+use crate::records::MIN_REPLACEMENT_SLOTS;
 use crate::records::PENDING;
 use crate::records::SNAPSHOT_INSTALLED;
 use crate::records::SUPERSEDED;
@@ -46,7 +47,11 @@ use identity::identity::VoterIncarnation;
 use identity::text::MAX_VOTER_SPIFFE_ID_BYTES;
 use identity::text::is_name;
 
-// What the open request claims of the slots. The record has 6.3 KB, so the tests of a slot are handed these alone.
+// Pairs of neighbouring places.
+const NEIGHBOURS: usize = MAX_FIXED_VOTER_SLOTS - 1;
+
+// What the open request claims of the slots. The record has 6.3 KB, so the tests of a slot get these
+// alone.
 pub struct Claims {
     pub request_id: ConsensusRequestId,
     pub slot: SlotId,
@@ -80,7 +85,7 @@ fn members_have_generations(configuration: VoterConfiguration) -> bool
 {
     let mut all = true;
     let mut i = 0;
-    while i < 9 {
+    while i < MAX_FIXED_VOTER_SLOTS {
         all = all
             & ((configuration.count <= i) | (0 < configuration.members[i].admission_generation));
         i += 1;
@@ -94,7 +99,7 @@ fn members_rise(configuration: VoterConfiguration) -> bool
 {
     let mut all = true;
     let mut i = 0;
-    while i < 8 {
+    while i < NEIGHBOURS {
         all = all
             & ((configuration.count <= i + 1)
                 | (configuration.members[i].identity.slot
@@ -127,7 +132,7 @@ pub fn is_valid_attestation(attestation: LostVoterAttestationV1) -> bool
 
 // A length above the field is a no. The bytes come by themselves: of a record the caller would make
 // a copy first.
-pub fn is_valid_spiffe_id(len: usize, bytes: [u8; 2048]) -> bool
+pub fn is_valid_spiffe_id(len: usize, bytes: [u8; MAX_VOTER_SPIFFE_ID_BYTES]) -> bool
     ensures { λ r. ⌜ r ≡ validSpiffeId (record { len = len; bytes = bytes }) ⌝ }
 {
     if MAX_VOTER_SPIFFE_ID_BYTES < len {
@@ -162,7 +167,7 @@ pub fn validate_table(table: VoterSlotTable) -> Answer
     validate_representable(table)
 }
 
-// Validity of a table that has passed the test for 30.
+// Validity of a table that has passed the representability check.
 pub fn validate_representable(table: VoterSlotTable) -> Answer
     requires { ⌜ table .count ≤ 9 ⌝ }
     ensures { λ r. ⌜ r ≡ validity table ⌝ }
@@ -299,7 +304,7 @@ fn results_distinct(table: VoterSlotTable) -> bool
     all
 }
 
-fn distinct_below(slots: [VoterSlotRecord; 9], i: usize) -> bool
+fn distinct_below(slots: [VoterSlotRecord; MAX_FIXED_VOTER_SLOTS], i: usize) -> bool
     requires { ⌜ i < 9 ⌝ }
     ensures { λ r. ⌜ r ≡ allBelow (λ j. distinctResults (getD slots j noSlotRecord) (getD slots i noSlotRecord)) i ⌝ }
 {
@@ -381,7 +386,7 @@ fn is_valid_operation_head(table: VoterSlotTable) -> bool
     (0 < table.replacement.expected_revision)
         & ((table.replacement.expected_revision < table.revision)
             & (same_cluster
-                & ((3 <= table.count)
+                & ((MIN_REPLACEMENT_SLOTS <= table.count)
                     & ((table.replacement.predecessor.count == table.count)
                         & ((table.replacement.successor.count == table.count) & next_epoch)))))
 }
@@ -426,7 +431,7 @@ fn validate_members(table: VoterSlotTable) -> Answer
     let mut i = 0;
     while i < table.count {
         // What is compared whole is a copy of its own: a record that is read field by field too is copied
-        // in pieces, which a comparison right behind has to wait for.
+        // in pieces, which a comparison right after it has to wait for.
         let slot = slots[i];
         let member = slot.member;
         let old = predecessor[i];
@@ -465,7 +470,7 @@ fn has_target(table: VoterSlotTable) -> bool
     !none
 }
 
-// The slot that is being replaced, beside its two members; the caller has compared it with both, and
+// The slot that is being replaced, and its two members; the caller has compared it with both, and
 // its receipt with the request.
 fn validate_target(
     claims: Claims,

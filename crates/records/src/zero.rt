@@ -8,6 +8,7 @@ ghost use Rattle.records.specs.Blank.{blankVoterSlotIdentity, blankSpiff
 ghost use Rattle.records.specs.Equality.{eqList, sameVoterSlotIdentity, sameSpiffeId, sameSnapshotId, sameVoterSlotLogId, sameOptionalLogId, sameVoterSlotMember, sameVoterReplacementResult, sameVoterSlotRecord, sameVoterSnapshotEvidence, sameVoterConfiguration, sameLostVoterAttestationV1, sameVoterReplacementEvidence, sameVoterReplacementRecord};
 ghost use Rattle.records.specs.Representable.{isZero};
 use crate::records::LostVoterAttestationV1;
+use crate::records::MAX_FIXED_VOTER_SLOTS;
 use crate::records::OptionalLogId;
 use crate::records::SnapshotId;
 use crate::records::SpiffeId;
@@ -79,12 +80,12 @@ pub fn is_blank_voter_slot_member(x: VoterSlotMember) -> bool
 }
 
 // The nine places of a configuration, whatever its count.
-pub fn is_blank_voter_slot_members(x: [VoterSlotMember; 9]) -> bool
+pub fn is_blank_voter_slot_members(x: [VoterSlotMember; MAX_FIXED_VOTER_SLOTS]) -> bool
     ensures { λ r. ⌜ r ≡ eqList sameVoterSlotMember x (replicate 9 blankVoterSlotMember) ⌝ }
 {
     let mut all = true;
     let mut i: usize = 0;
-    while i < 9 {
+    while i < MAX_FIXED_VOTER_SLOTS {
         let place = x[i];
         all = all & is_blank_voter_slot_member(place);
         i += 1;

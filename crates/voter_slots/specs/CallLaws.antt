@@ -38,8 +38,8 @@ use Rattle.journal.specs.Replay.Standing.{absent, stands}
 use Rattle.journal.specs.Step.{Judges, answerOfCalled, changes, isMade, madeBy}
 use Rattle.journal.specs.StepLaws.{step-called}
 use Rattle.voter_slots.specs.Calls.{askedOf, commandOf, isFormed, markedCommand, mostBody, observationOf, settled}
-use Rattle.voter_slots.specs.Export.{leaves, withTable, written}
-use Rattle.voter_slots.specs.ExportLaws.{ReadAs, read-accepted, read-as}
+use Rattle.voter_slots.specs.Export.{ReadAs, leaves, withTable, written}
+use Rattle.voter_slots.specs.ExportLaws.{read-accepted, read-as}
 
 -- ---- what is asked, told apart
 

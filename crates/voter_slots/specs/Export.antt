@@ -2,13 +2,15 @@
 -- DESIGN's order "export over bytes": the table reader's number; the call; 32 last. A call that is refused leaves every lent byte as it was.
 -- Assumes nothing.
 use Prim.Native.Nat.{ℕ}
+use mathlib.Core.Path.{_≡_}
 use mathlib.Core.Bool.{cond}
 use mathlib.Core.List.{List}
 use lib.ListN.{length}
 use Rattle.format.specs.Res.{Res}
 use Rattle.format.specs.Res.Res.{ok, no}
+use Rattle.records.specs.Blank.{blankVoterSlotTable}
 use Rattle.records.specs.declared.records.VoterSlotTable.{VoterSlotTable}
-use Rattle.codec.specs.Codec.{decodeVoterSlotTable, encodeVoterSlotTable}
+use Rattle.codec.specs.Codec.{decoded, decodeVoterSlotTable, encodeVoterSlotTable}
 use Rattle.control.specs.Retired.{retiredNumber, retiredTest}
 use Rattle.voter_slots.specs.declared.result.VoterSlotsResult.{VoterSlotsResult}
 
@@ -36,6 +38,10 @@ resultOf t n =
     }
 
 -- ---- reading
+
+-- the bytes were read as this table
+abbrev pub ReadAs : List ℕ → VoterSlotTable → Type 0
+ReadAs bs t = _≡_ {A = ℕ × VoterSlotTable} (decoded blankVoterSlotTable (decodeVoterSlotTable bs)) (0, t)
 
 unfoldable pub readBy : ℕ → Res VoterSlotTable → VoterSlotsResult
 readBy len (ok t n) = resultOf t len

@@ -32,13 +32,9 @@ use Rattle.control.specs.RetiredLaws.{test-says}
 use Rattle.control.specs.declared.retired.Retirement.the-variants.{NotRetired, Retired}
 use Rattle.journal.specs.RefusalLaws.{table-refused}
 use Rattle.voter_slots.specs.declared.result.VoterSlotsResult.{VoterSlotsResult}
-use Rattle.voter_slots.specs.Export.{leaves, readBy, readOf, refusedBy, resultOf, retiredBy, retiredOf, withTable, writeOf, writtenBy, written}
+use Rattle.voter_slots.specs.Export.{ReadAs, leaves, readBy, readOf, refusedBy, resultOf, retiredBy, retiredOf, withTable, writeOf, writtenBy, written}
 
 -- ---- what was read
-
--- the bytes were read as this table
-abbrev pub ReadAs : List ℕ → VoterSlotTable → Type 0
-ReadAs bs t = _≡_ {A = ℕ × VoterSlotTable} (decoded blankVoterSlotTable (decodeVoterSlotTable bs)) (0, t)
 
 read-by : (bs : List ℕ) (t : VoterSlotTable) (r : Res VoterSlotTable) → decodeVoterSlotTable bs ≡ r → _≡_ {A = ℕ × VoterSlotTable} (decoded blankVoterSlotTable r) (0, t)
     → (n : ℕ) × (decodeVoterSlotTable bs ≡ ok t n)

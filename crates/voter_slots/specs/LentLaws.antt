@@ -49,8 +49,8 @@ use Rattle.journal.specs.StepLaws.{fits-advance, fits-begin, fits-marker, no-ob
 use Rattle.voter_slots.specs.declared.result.VoterSlotsResult.{VoterSlotsResult}
 use Rattle.voter_slots.specs.Calls.{mostBody}
 use Rattle.voter_slots.specs.CallLaws.{never-zero, observation-long, same-table}
-use Rattle.voter_slots.specs.Export.{leaves, refusedBy, resultOf, writtenBy}
-use Rattle.voter_slots.specs.ExportLaws.{ReadAs, read-as}
+use Rattle.voter_slots.specs.Export.{ReadAs, leaves, refusedBy, resultOf, writtenBy}
+use Rattle.voter_slots.specs.ExportLaws.{read-as}
 use Rattle.voter_slots.specs.Lent.{askedAt, readOver, refusalAt, stays, tableObserveOf, tableReadOf, tableWriteOf, told}
 
 -- what a call gives, with a table

@@ -7,7 +7,7 @@ ghost use Rattle.journal.specs.declared.replay.Mark.the-variants.{Bg, Ob};
 ghost use Rattle.journal.specs.Replay.{asking};
 ghost use Rattle.journal.specs.Step.{Judges, Makes, answerOfCalled, madeBy};
 ghost use Rattle.voter_slots.specs.Calls.{commandOf, isFormed, settled};
-ghost use Rattle.voter_slots.specs.ExportLaws.{ReadAs};
+ghost use Rattle.voter_slots.specs.Export.{ReadAs};
 use crate::result::VoterSlotsResult;
 use crate::result::refused;
 use crate::result::write_again;

@@ -37,19 +37,19 @@ pub flag-not : (b : Bool) → b ≡ false → flag .enc b ≡ uint 1 .enc 0
 unfolding flag via check
 flag-not b e = ap (λ t. uint 1 .enc (ofFlag t)) e
 
--- a flag, and behind a yes the value
+-- a flag, and after a yes the value
 module _ {A : Type 0} (C : Codec A) (blank a : A) where
   -- whichever it is
   pub opt-flag : (b : Bool) → opt C blank .enc (b, a) ≡ flag .enc b ++ either b C (always blank) .enc a
   unfolding opt dep
   opt-flag b = refl
 
-  -- behind a yes
+  -- after a yes
   pub opt-some : (b : Bool) → b ≡ true → opt C blank .enc (b, a) ≡ flag .enc b ++ C .enc a
   unfolding either
   opt-some b e = opt-flag b ∙ ap (λ t. flag .enc b ++ either t C (always blank) .enc a) e
 
-  -- behind a no nothing
+  -- after a no nothing
   pub opt-none : (b : Bool) → b ≡ false → opt C blank .enc (b, a) ≡ flag .enc b
   unfolding either always
   opt-none b e = opt-flag b ∙ ap (λ t. flag .enc b ++ either t C (always blank) .enc a) e ∙ append-nil (flag .enc b)

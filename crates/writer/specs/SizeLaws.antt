@@ -64,7 +64,7 @@ optionalLogId-long c = opt-long logId blankVoterSlotLogId (c .cut) (c .«is_some
     by true = ap (λ n. 1 + n) (logId-long (c .cut))
     by false = refl
 
--- a text of n bytes behind its length
+-- a text of n bytes after its length
 string-long′ : (bound n : ℕ) (l : List ℕ) → n ≤ length l → length (string bound .enc (n, take n l)) ≡ 2 + n
 unfolding string sized check dep
 string-long′ bound n l h = length-append (uint 2 .enc n) (raw n .enc (take n l)) ∙ ap₂ _+_ (uint-long 2 n) (ap length (raw-same n (take n l)) ∙ length-take-le n l h)

@@ -2,7 +2,7 @@
 //
 // Ported from crates/opc-consensus/src/voter_slots/codec.rs of openpacketcore-sdk, commit
 // 717de332e7, Apache-2.0 (see NOTICE). Changed: a buffer is lent and has room; each writer is given
-// the place to write at and gives the place behind. The size of what varies is reckoned first.
+// the place to write at and gives the place after it. The size of what varies is computed first.
 ghost use mathlib.Core.Path.{_≡_};
 ghost use Prim.Native.Nat.{_+_, _≤_};
 ghost use lib.ListN.{length};
@@ -20,6 +20,7 @@ use layout::parts::late_cuts;
 use layout::put::put_be;
 use layout::put::put_bytes;
 use records::records::LostVoterAttestationV1;
+use records::records::MAX_FIXED_VOTER_SLOTS;
 use records::records::OptionalLogId;
 use records::records::SnapshotId;
 use records::records::SpiffeId;
@@ -32,6 +33,67 @@ use records::records::VoterSlotMember;
 use records::records::VoterSlotRecord;
 use records::records::VoterSlotTable;
 use records::records::VoterSnapshotEvidence;
+
+// The sizes of fields and records, without what varies: names, ids and optional parts.
+const FLAG_SIZE: usize = 1;
+
+const U8_SIZE: usize = 1;
+
+const U16_SIZE: usize = 2;
+
+const U64_SIZE: usize = 8;
+
+const REQUEST_ID_SIZE: usize = 16;
+
+const DIGEST_SIZE: usize = 32;
+
+const SIGNATURE_SIZE: usize = 64;
+
+// Term and index.
+const LOG_ID_SIZE: usize = U64_SIZE + U64_SIZE;
+
+// A cut that may be absent, where it is present.
+const PRESENT_CUT_SIZE: usize = FLAG_SIZE + LOG_ID_SIZE;
+
+// Slot, incarnation, two digests and the admission generation.
+const MEMBER_SIZE: usize = U16_SIZE + U64_SIZE + 2 * DIGEST_SIZE + U64_SIZE;
+
+// Id, digest, incarnation, revision, epoch, kind and the terminal cut.
+const RESULT_SIZE: usize = REQUEST_ID_SIZE + DIGEST_SIZE + 3 * U64_SIZE + U8_SIZE + LOG_ID_SIZE;
+
+// Member, retired_through, phase and the flag of the result.
+const SLOT_SIZE: usize = MEMBER_SIZE + U64_SIZE + U8_SIZE + FLAG_SIZE;
+
+const FULL_SLOT_SIZE: usize = SLOT_SIZE + RESULT_SIZE;
+
+// Epoch and count.
+const CONFIGURATION_SIZE: usize = U64_SIZE + U8_SIZE;
+
+// Version, id, two digests; slot, incarnation, two digests, generation; the lengths of two names;
+// two digests, the reason, four times and the signature.
+const ATTESTATION_SIZE: usize = U16_SIZE
+    + REQUEST_ID_SIZE
+    + U16_SIZE
+    + 2 * U64_SIZE
+    + 2 * U16_SIZE
+    + U8_SIZE
+    + 6 * DIGEST_SIZE
+    + 4 * U64_SIZE
+    + SIGNATURE_SIZE;
+
+// The cut of prepare and the flag of the snapshot.
+const EVIDENCE_SIZE: usize = LOG_ID_SIZE + FLAG_SIZE;
+
+// Cut, length of the id and digest.
+const SNAPSHOT_SIZE: usize = LOG_ID_SIZE + U16_SIZE + DIGEST_SIZE;
+
+const FULL_EVIDENCE_SIZE: usize = EVIDENCE_SIZE + SNAPSHOT_SIZE;
+
+// Expected revision, size of the attestation and phase.
+const REPLACEMENT_SIZE: usize = U64_SIZE + U16_SIZE + U8_SIZE;
+
+// Magic, version, two digests, revision, epoch, count and the flag of the replacement.
+const TABLE_SIZE: usize = 4 + U16_SIZE + 2 * DIGEST_SIZE + 2 * U64_SIZE + U8_SIZE + FLAG_SIZE;
 
 // `identity`
 fn put_identity(buffer: &mut [u8], at: usize, id: VoterSlotIdentity) -> usize
@@ -92,7 +154,12 @@ fn put_member(buffer: &mut [u8], at: usize, m: VoterSlotMember) -> usize
     put_binding(buffer, at, m)
 }
 
-fn put_members(buffer: &mut [u8], at: usize, places: [VoterSlotMember; 9], count: usize) -> usize
+fn put_members(
+    buffer: &mut [u8],
+    at: usize,
+    places: [VoterSlotMember; MAX_FIXED_VOTER_SLOTS],
+    count: usize,
+) -> usize
     requires { ⌜ (at + length (members count .enc places) ≤ length (now buffer)) × (count ≤ 9) ⌝ }
     ensures { λ r. ⌜ Put (members count .enc places) at (now (buffer .entry)) (now (buffer .exit)) r ⌝ }
 {
@@ -175,7 +242,12 @@ fn put_slot(buffer: &mut [u8], at: usize, s: VoterSlotRecord) -> usize
     put_optional_result(buffer, at, s.has_last_result, last_result)
 }
 
-fn put_slots(buffer: &mut [u8], at: usize, places: [VoterSlotRecord; 9], count: usize) -> usize
+fn put_slots(
+    buffer: &mut [u8],
+    at: usize,
+    places: [VoterSlotRecord; MAX_FIXED_VOTER_SLOTS],
+    count: usize,
+) -> usize
     requires { ⌜ (at + length (slots count .enc places) ≤ length (now buffer)) × (count ≤ 9) ⌝ }
     ensures { λ r. ⌜ Put (slots count .enc places) at (now (buffer .entry)) (now (buffer .exit)) r ⌝ }
 {
@@ -283,7 +355,7 @@ fn attestation_size(a: LostVoterAttestationV1) -> usize
     requires { ⌜ (a .«candidate_spiffe_id» .len ≤ 2048) × (a .«controller_spiffe_id» .len ≤ 2048) ⌝ }
     ensures { λ r. ⌜ r ≡ length (claims .enc a) ⌝ }
 {
-    329 + a.candidate_spiffe_id.len + a.controller_spiffe_id.len
+    ATTESTATION_SIZE + a.candidate_spiffe_id.len + a.controller_spiffe_id.len
 }
 
 // `sized_bytes`, of an attestation
@@ -421,14 +493,18 @@ pub fn put_table(buffer: &mut [u8], at: usize, t: VoterSlotTable) -> usize
 }
 
 // How many bytes each takes.
-fn slots_size(places: [VoterSlotRecord; 9], count: usize) -> usize
+fn slots_size(places: [VoterSlotRecord; MAX_FIXED_VOTER_SLOTS], count: usize) -> usize
     requires { ⌜ count ≤ 9 ⌝ }
     ensures { λ r. ⌜ r ≡ length (slots count .enc places) ⌝ }
 {
     let mut size = 0;
     let mut i = 0;
     while i < count {
-        size += if places[i].has_last_result { 181 } else { 92 };
+        size += if places[i].has_last_result {
+            FULL_SLOT_SIZE
+        } else {
+            SLOT_SIZE
+        };
         i += 1;
     }
     size
@@ -437,9 +513,21 @@ fn slots_size(places: [VoterSlotRecord; 9], count: usize) -> usize
 fn three_cuts_size(cuts: ThreeCuts) -> usize
     ensures { λ r. ⌜ r ≡ length (threeCuts .enc cuts) ⌝ }
 {
-    let first = if cuts.first.is_some { 17 } else { 1 };
-    let second = if cuts.second.is_some { 17 } else { 1 };
-    let third = if cuts.third.is_some { 17 } else { 1 };
+    let first = if cuts.first.is_some {
+        PRESENT_CUT_SIZE
+    } else {
+        FLAG_SIZE
+    };
+    let second = if cuts.second.is_some {
+        PRESENT_CUT_SIZE
+    } else {
+        FLAG_SIZE
+    };
+    let third = if cuts.third.is_some {
+        PRESENT_CUT_SIZE
+    } else {
+        FLAG_SIZE
+    };
     first + second + third
 }
 
@@ -447,7 +535,7 @@ fn configuration_size(c: VoterConfiguration) -> usize
     requires { ⌜ c .count ≤ 9 ⌝ }
     ensures { λ r. ⌜ r ≡ length (configuration .enc c) ⌝ }
 {
-    9 + 82 * c.count
+    CONFIGURATION_SIZE + MEMBER_SIZE * c.count
 }
 
 fn evidence_size(e: VoterReplacementEvidence) -> usize
@@ -458,9 +546,9 @@ fn evidence_size(e: VoterReplacementEvidence) -> usize
     let late = late_cuts(e);
     let cuts = three_cuts_size(early) + three_cuts_size(late);
     if e.has_snapshot {
-        return 67 + e.snapshot.snapshot_id.len + cuts;
+        return FULL_EVIDENCE_SIZE + e.snapshot.snapshot_id.len + cuts;
     }
-    17 + cuts
+    EVIDENCE_SIZE + cuts
 }
 
 fn replacement_size(x: VoterReplacementRecord) -> usize
@@ -472,7 +560,7 @@ fn replacement_size(x: VoterReplacementRecord) -> usize
     let successor = x.successor;
     let e = x.evidence;
     let configurations = configuration_size(predecessor) + configuration_size(successor);
-    11 + attestation_size(a) + configurations + evidence_size(e)
+    REPLACEMENT_SIZE + attestation_size(a) + configurations + evidence_size(e)
 }
 
 pub fn table_size(t: VoterSlotTable) -> usize
@@ -480,7 +568,7 @@ pub fn table_size(t: VoterSlotTable) -> usize
     ensures { λ r. ⌜ r ≡ length (table .enc t) ⌝ }
 {
     let places = t.slots;
-    let front = 88 + slots_size(places, t.count);
+    let front = TABLE_SIZE + slots_size(places, t.count);
     if t.has_replacement {
         let x = t.replacement;
         return front + replacement_size(x);

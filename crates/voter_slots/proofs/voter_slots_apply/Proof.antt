@@ -13,10 +13,10 @@ use Rattle.journal.specs.declared.replay.Mark.the-variants.{Ob}
 use Rattle.journal.specs.Replay.{asking}
 use Rattle.journal.specs.StepLaws.{made-valid, makes}
 use Rattle.voter_slots.specs.declared.result.VoterSlotsResult.{VoterSlotsResult}
-use Rattle.voter_slots.specs.Export.{refusedBy}
+use Rattle.voter_slots.specs.Export.{ReadAs, refusedBy}
 use Rattle.voter_slots.specs.Calls.{askedOf, commandOf, isFormed}
 use Rattle.voter_slots.specs.CallLaws.{asked-ok, command-only, refused-is}
-use Rattle.voter_slots.specs.ExportLaws.{ReadAs, is-read, is-refused, read-accepted}
+use Rattle.voter_slots.specs.ExportLaws.{is-read, is-refused, read-accepted}
 use borrow.Author.Needs.{needs}
 use Rattle.voter_slots.proofs.voter_slots_apply.Statement.{statement}
 use Rattle.voter_slots.proofs.voter_slots_apply.Tie as tie

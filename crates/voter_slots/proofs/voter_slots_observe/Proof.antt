@@ -12,12 +12,12 @@ use Rattle.journal.specs.declared.replay.Mark.{Mark}
 use Rattle.journal.specs.Replay.{asking}
 use Rattle.journal.specs.StepLaws.{made-valid, makes}
 use Rattle.voter_slots.specs.declared.result.VoterSlotsResult.{VoterSlotsResult}
-use Rattle.voter_slots.specs.Export.{refusedBy}
+use Rattle.voter_slots.specs.Export.{ReadAs, refusedBy}
 use Rattle.journal.specs.declared.replay.Mark.the-variants.{Ob}
 use Rattle.journal.specs.declared.step.Called.the-variants.{Observation}
 use Rattle.voter_slots.specs.Calls.{askedOf, isFormed, observationOf}
 use Rattle.voter_slots.specs.CallLaws.{asked-ok, formed-is, observation-fits, refused-is, too-long}
-use Rattle.voter_slots.specs.ExportLaws.{ReadAs, is-read, is-refused, read-accepted}
+use Rattle.voter_slots.specs.ExportLaws.{is-read, is-refused, read-accepted}
 use borrow.Author.Needs.{needs}
 use Rattle.voter_slots.proofs.voter_slots_observe.Statement.{statement}
 use Rattle.voter_slots.proofs.voter_slots_observe.Tie as tie

@@ -3,7 +3,8 @@ use mathlib.Core.Path.{_∙_}
 use native.Mathlib.Omega.{arith}
 use Rattle.format.specs.Codec.{Bytes}
 use Rattle.records.specs.ValidationLaws.{failed, held}
-use Rattle.voter_slots.specs.ExportLaws.{ReadAs, is-read, is-refused, read-fits, read-no, read-ok}
+use Rattle.voter_slots.specs.Export.{ReadAs}
+use Rattle.voter_slots.specs.ExportLaws.{is-read, is-refused, read-fits, read-no, read-ok}
 use borrow.Author.Needs.{needs}
 use Rattle.voter_slots.proofs.voter_slots_read.Statement.{statement}
 use Rattle.voter_slots.proofs.voter_slots_read.Tie as tie

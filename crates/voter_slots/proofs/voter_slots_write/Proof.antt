@@ -2,7 +2,8 @@
 use mathlib.Core.Path.{ap, _∙_}
 use Rattle.records.specs.ValidationLaws.{failed, held}
 use Rattle.voter_slots.specs.declared.result.VoterSlotsResult.{VoterSlotsResult}
-use Rattle.voter_slots.specs.ExportLaws.{ReadAs, is-read, is-refused, write-no, write-ok}
+use Rattle.voter_slots.specs.Export.{ReadAs}
+use Rattle.voter_slots.specs.ExportLaws.{is-read, is-refused, write-no, write-ok}
 use borrow.Author.Needs.{needs}
 use Rattle.voter_slots.proofs.voter_slots_write.Statement.{statement}
 use Rattle.voter_slots.proofs.voter_slots_write.Tie as tie

@@ -13,12 +13,12 @@ use borrow.Author.Needs.{needs}
 use Rattle.codec.proofs.codec.decode_lost_voter_attestation.Statement.{statement}
 use Rattle.codec.proofs.codec.decode_lost_voter_attestation.Tie as tie
 
-refused-attestation-requires : tie.Need-refused-attestation-requires
-refused-attestation-requires c κs = search needs
+no-attestation-requires : tie.Need-no-attestation-requires
+no-attestation-requires c κs = search needs
 
 returns : tie.Need-returns
 unfolding decodeLostVoterAttestation
-returns c = decoded-no _ (c .refused-attestation .ensures) (bounded-out maxAttestationBytes _ _ (omega arith))
+returns c = decoded-no _ (c .no-attestation .ensures) (bounded-out maxAttestationBytes _ _ (omega arith))
 
 read-whole-attestation-requires : tie.Need-read-whole-attestation-requires
 read-whole-attestation-requires c κs = search needs
@@ -32,14 +32,14 @@ enum-told-2 c = search needs
 why-requires : tie.Need-why-requires
 why-requires c κs = search needs
 
-refused-attestation-requires-2 : tie.Need-refused-attestation-requires-2
-refused-attestation-requires-2 c κs = search needs
+no-attestation-requires-2 : tie.Need-no-attestation-requires-2
+no-attestation-requires-2 c κs = search needs
 
 returns-2 : tie.Need-returns-2
 unfolding decodeLostVoterAttestation
 returns-2 c =
     let s = c .before .before .before .before .before .before .before .args .bytes .now in
-    decoded-no _ (c .refused-attestation2 .ensures ∙ ap (λ a. decoded blankLostVoterAttestationV1 (no (numberOf a))) (c .before .why .ensures ∙ ap whyOf (c .before .before .enum-told2 .given .1)))
+    decoded-no _ (c .no-attestation2 .ensures ∙ ap (λ a. decoded blankLostVoterAttestationV1 (no (numberOf a))) (c .before .why .ensures ∙ ap whyOf (c .before .before .enum-told2 .given .1)))
     (bounded-in maxAttestationBytes s _ (omega arith) ∙ told-not blankLostVoterAttestationV1 _ (c .before .before .before .before .read-whole-attestation .ensures) (c .before .before .enum-told2 .given .1))
 
 returns-3 : tie.Need-returns-3
@@ -52,12 +52,12 @@ pub decode-lost-voter-attestation-spec : {M : Type 1} → statement M
 decode-lost-voter-attestation-spec =
     tie.close
     (tie.spec
-    refused-attestation-requires
+    no-attestation-requires
     returns
     read-whole-attestation-requires
     enum-told
     enum-told-2
     why-requires
-    refused-attestation-requires-2
+    no-attestation-requires-2
     returns-2
     returns-3)

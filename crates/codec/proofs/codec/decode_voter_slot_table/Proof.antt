@@ -29,12 +29,12 @@ bytes : (c : tie.After-shared-slice-known) → Bytes (c .before .args .bytes .no
 unfolding Bytes
 bytes c i = omega (arith, c .shared-slice-known .given i)
 
-refused-table-requires : tie.Need-refused-table-requires
-refused-table-requires c κs = search needs
+no-table-requires : tie.Need-no-table-requires
+no-table-requires c κs = search needs
 
 returns : tie.Need-returns
 unfolding decodeVoterSlotTable
-returns c = decoded-no _ (c .refused-table .ensures) (bounded-out maxTableBytes _ _ (omega arith))
+returns c = decoded-no _ (c .no-table .ensures) (bounded-out maxTableBytes _ _ (omega arith))
 
 read-table-requires : tie.Need-read-table-requires
 read-table-requires c κs = search needs
@@ -48,22 +48,22 @@ enum-told c = search needs
 why-requires : tie.Need-why-requires
 why-requires c κs = search needs
 
-refused-table-requires-2 : tie.Need-refused-table-requires-2
-refused-table-requires-2 c κs = search needs
+no-table-requires-2 : tie.Need-no-table-requires-2
+no-table-requires-2 c κs = search needs
 
 returns-2 : tie.Need-returns-2
 returns-2 c =
     let s = c .before .before .before .before .before .before .before .args .bytes .now in
-    decoded-no _ (c .refused-table2 .ensures ∙ ap (λ a. decoded blankVoterSlotTable (no (numberOf a))) (c .before .why .ensures ∙ ap whyOf (c .before .before .enum-told .given .1)))
+    decoded-no _ (c .no-table2 .ensures ∙ ap (λ a. decoded blankVoterSlotTable (no (numberOf a))) (c .before .why .ensures ∙ ap whyOf (c .before .before .enum-told .given .1)))
     (decode-no s (omega arith) (told-not blankVoterSlotTable _ (c .before .before .before .before .read-table .ensures) (c .before .before .enum-told .given .1)))
 
-refused-table-requires-3 : tie.Need-refused-table-requires-3
-refused-table-requires-3 c κs = search needs
+no-table-requires-3 : tie.Need-no-table-requires-3
+no-table-requires-3 c κs = search needs
 
 returns-3 : tie.Need-returns-3
 returns-3 c =
     let s = c .before .before .before .before .before .before .before .before .args .bytes .now in
-    decoded-no _ (c .refused-table3 .ensures) (decode-left s (omega arith) (is (c .before .before)) (ne-eqb _ _ (c .before .if2 .taken)))
+    decoded-no _ (c .no-table3 .ensures) (decode-left s (omega arith) (is (c .before .before)) (ne-eqb _ _ (c .before .if2 .taken)))
 
 validate-representable-requires : tie.Need-validate-representable-requires
 validate-representable-requires c κs =
@@ -73,8 +73,8 @@ validate-representable-requires c κs =
 accepted-requires : tie.Need-accepted-requires
 accepted-requires c κs = search needs
 
-refused-table-requires-4 : tie.Need-refused-table-requires-4
-refused-table-requires-4 c κs = search needs
+no-table-requires-4 : tie.Need-no-table-requires-4
+no-table-requires-4 c κs = search needs
 
 returns-4 : tie.Need-returns-4
 returns-4 c =
@@ -82,7 +82,7 @@ returns-4 c =
     let t = c .before .before .before .before .before .before .before .before .before .read-table .result .value in
     let n = c .before .before .before .before .before .before .before .to .given .0 .0 in
     let v = c .before .before .before .validate-representable .ensures in
-    decoded-no _ (c .refused-table4 .ensures)
+    decoded-no _ (c .no-table4 .ensures)
     (decode-judged s (omega arith) (is (c .before .before .before .before .before .before)) (eq-eqb n (length s) (omega arith))
     ∙ gate-refused (numberOf (validity t)) t n (ap isAccepted (sym v) ∙ failed (c .before .before .accepted .ensures) (c .before .if3 .taken))
     ∙ ap (λ a. no (numberOf a)) (sym v))
@@ -102,18 +102,18 @@ pub decode-voter-slot-table-spec : {M : Type 1} → statement M
 decode-voter-slot-table-spec =
     tie.close
     (tie.spec
-    refused-table-requires
+    no-table-requires
     returns
     read-table-requires
     enum-known-to
     enum-told
     why-requires
-    refused-table-requires-2
+    no-table-requires-2
     returns-2
-    refused-table-requires-3
+    no-table-requires-3
     returns-3
     validate-representable-requires
     accepted-requires
-    refused-table-requires-4
+    no-table-requires-4
     returns-4
     returns-5)

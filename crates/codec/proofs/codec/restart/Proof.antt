@@ -49,8 +49,8 @@ enum-told c = search needs
 why-requires : tie.Need-why-requires
 why-requires c κs = search needs
 
-refused-table-requires : tie.Need-refused-table-requires
-refused-table-requires c κs = search needs
+no-table-requires : tie.Need-no-table-requires
+no-table-requires c κs = search needs
 
 same-length : tie.Need-same-length
 same-length c = search needs
@@ -61,7 +61,7 @@ returns c =
     let b = c .before .before .before .before .before .before .before .before .before .args .buffer .now in
     let t = c .before .before .before .before .before .before .before .before .before .args .table in
     let w = c .before .before .before .before .before .before .encode-voter-slot-table .ensures in
-    let p = decoded-no blankVoterSlotTable (c .refused-table .ensures ∙ ap (λ a. decoded blankVoterSlotTable (no (numberOf a))) (c .before .why .ensures ∙ ap whyOf (c .before .before .enum-told .given .1))) (restarted-no t b (told-not b _ w (c .before .before .enum-told .given .1))) in
+    let p = decoded-no blankVoterSlotTable (c .no-table .ensures ∙ ap (λ a. decoded blankVoterSlotTable (no (numberOf a))) (c .before .why .ensures ∙ ap whyOf (c .before .before .enum-told .given .1))) (restarted-no t b (told-not b _ w (c .before .before .enum-told .given .1))) in
     (λ i. (p i, w i .1), same t b (held (c .before .before .before .before .before .before .before .before .before)) _ p)
 
 slice-reshare-prefix-decode-voter-slot-table : tie.Need-slice-reshare-prefix-decode-voter-slot-table
@@ -95,7 +95,7 @@ restart-spec =
     enum-known-written
     enum-told
     why-requires
-    refused-table-requires
+    no-table-requires
     same-length
     returns
     slice-reshare-prefix-decode-voter-slot-table

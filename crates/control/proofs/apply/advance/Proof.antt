@@ -1,6 +1,6 @@
 -- `control::apply::advance` meets its contract: in each arm the verdict is known, and with it what its maker requires. Assumes nothing.
 use Rattle.control.specs.VerdictLaws.{carried-as, isMove, room-as, target-as}
-use Rattle.control.specs.Verdicts.{advanceOf, judgeOf, stepMade, verdictOf}
+use Rattle.control.specs.Verdicts.{advanceOutcome, judgeOf, stepMade, verdictOf}
 use Rattle.control.specs.Judgement.{carried}
 use Rattle.control.specs.Control.{full}
 use Rattle.control.specs.declared.judge.Judged.the-variants.{Refuse, Keep, Begin, RecordSnapshot, RecordCaughtUp, Continue, Fence, Finalize}
@@ -22,7 +22,7 @@ module _ (j : tie.After-judge-advance) (k : Judged) (told : j .judge-advance .re
   is : judgeOf (j .before .args .t) (j .before .args .c) ≡ verdictOf k
   is = sym (j .judge-advance .ensures) ∙ ap verdictOf told
 
-  picked : carried (stepMade (j .before .args .t) (j .before .args .c .step) (j .before .args .c .cut)) (j .before .args .t) (verdictOf k) ≡ advanceOf (j .before .args .t) (j .before .args .c)
+  picked : carried (stepMade (j .before .args .t) (j .before .args .c .step) (j .before .args .c .cut)) (j .before .args .t) (verdictOf k) ≡ advanceOutcome (j .before .args .t) (j .before .args .c)
   picked = carried-as (j .before .args .t) (j .before .args .c) (verdictOf k) is
 
   room : isMove (verdictOf k) ≡ true → j .before .args .t .revision ≡ full → ⊥

@@ -49,7 +49,7 @@ use Rattle.control.specs.Judgement.{Move, carried}
 use Rattle.control.specs.Judgement.Verdict.{moves}
 use Rattle.control.specs.Judgement.Move.{recordsSnapshot, recordsCaughtUp, continues, fences, finalizes}
 use Rattle.control.specs.Control.{caughtUpRecorded, continued, fencedAt, finalized, full, snapshotRecorded, targetIndex}
-use Rattle.control.specs.Verdicts.{advanceOf, answerOf, judgeOf, routeOf, stepMade, verdictOf}
+use Rattle.control.specs.Verdicts.{advanceOutcome, answerOf, judgeOf, routeOf, stepMade, verdictOf}
 use Rattle.control.specs.VerdictLaws.{routed-to, routed-none, room-as, target-as}
 use Rattle.control.proofs.control.VoterAdvance as P
 use Rattle.control.proofs.control.VoterAdvance.Laws as P′
@@ -183,7 +183,7 @@ module _ {M : Type 1} (𝓤 : URA M) (H : Heap 𝓤) (A : Atoms 𝓤) (W : Given
 
   -- what is to hold at the end
   abbrev Right : Answer → VoterSlotTable → Type 0
-  Right w n = _≡_ {A = Answer × VoterSlotTable} (w, n) (advanceOf h p)
+  Right w n = _≡_ {A = Answer × VoterSlotTable} (w, n) (advanceOutcome h p)
 
   ends : (w : Answer) (v : Val) → Is B.the-row w (v ∷ []) → (n : VoterSlotTable) → Right w n → ent 𝓤 (held 𝓤 A Tt.the-row κ q b o γ n (sep 𝓤 Y Z)) (Post v)
   ends w v is n e =

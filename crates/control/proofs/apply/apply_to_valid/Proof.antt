@@ -1,8 +1,8 @@
 -- `control::apply::apply_to_valid` meets its contract: the kind picks the call, in each arm. Assumes nothing.
 use mathlib.Core.Path.{ap, _∙_}
 use Rattle.control.specs.ApplyLaws.{applied-advance, applied-begin, applied-marker}
-use Rattle.control.specs.BeginJudge.{beginOf}
-use Rattle.control.specs.Verdicts.{advanceOf}
+use Rattle.control.specs.BeginJudge.{beginOutcome}
+use Rattle.control.specs.Verdicts.{advanceOutcome}
 use borrow.Author.Needs.{needs}
 use Rattle.control.proofs.apply.apply_to_valid.Statement.{statement}
 use Rattle.control.proofs.apply.apply_to_valid.Tie as tie
@@ -25,12 +25,12 @@ mark-requires c κs = search needs
 returns : tie.Need-returns
 returns c =
     let s = c .before .before .before in
-    c .begin .ensures ∙ (ap (beginOf (s .args .t)) (c .before .begin-of .ensures) ∙ applied-begin (s .args .t) (s .args .c .control) (s .args .c .cut) (c .before .before .match .keys1))
+    c .begin .ensures ∙ (ap (beginOutcome (s .args .t)) (c .before .begin-of .ensures) ∙ applied-begin (s .args .t) (s .args .c .control) (s .args .c .cut) (c .before .before .match .keys1))
 
 returns-2 : tie.Need-returns-2
 returns-2 c =
     let s = c .before .before .before in
-    c .advance .ensures ∙ (ap (advanceOf (s .args .t)) (c .before .advance-of .ensures) ∙ applied-advance (s .args .t) (s .args .c .control) (s .args .c .cut) (c .before .before .match .keys2))
+    c .advance .ensures ∙ (ap (advanceOutcome (s .args .t)) (c .before .advance-of .ensures) ∙ applied-advance (s .args .t) (s .args .c .control) (s .args .c .cut) (c .before .before .match .keys2))
 
 returns-3 : tie.Need-returns-3
 returns-3 c =

@@ -1,4 +1,4 @@
--- `control::apply::checked` meets its contract: the two tests for 30, then the two for 25. Assumes nothing.
+-- `control::apply::checked` meets its contract: the two representability checks, then the two tests for 25. Assumes nothing.
 use Rattle.control.specs.Verdicts.{checkedOf}
 use Rattle.control.specs.Control.{representableControl}
 use Rattle.records.specs.ValidationLaws.{failed, held}

@@ -49,7 +49,7 @@ use Rattle.control.specs.Judgement.{Move, carried}
 use Rattle.control.specs.Judgement.Verdict.{moves}
 use Rattle.control.specs.Judgement.Move.{begins}
 use Rattle.control.specs.Judgement.{judgeBegin}
-use Rattle.control.specs.BeginJudge.{beginMade, beginOf}
+use Rattle.control.specs.BeginJudge.{beginMade, beginOutcome}
 use Rattle.control.specs.BeginVerdictLaws.{begin-kept, begin-room}
 use Rattle.control.specs.Control.{begun, currentConfiguration, full, namedIndex}
 use Rattle.control.specs.Verdicts.{answerOf, routeOf, verdictOf}
@@ -146,7 +146,7 @@ module _ {M : Type 1} (𝓤 : URA M) (H : Heap 𝓤) (A : Atoms 𝓤) (W : Given
 
   -- what is to hold at the end
   abbrev Right : Answer → VoterSlotTable → Type 0
-  Right w n = _≡_ {A = Answer × VoterSlotTable} (w, n) (beginOf h p)
+  Right w n = _≡_ {A = Answer × VoterSlotTable} (w, n) (beginOutcome h p)
 
   ends : (w : Answer) (v : Val) → Is B.the-row w (v ∷ []) → (n : VoterSlotTable) → Right w n → ent 𝓤 (held 𝓤 A Tt.the-row κ q b o γ n (sep 𝓤 Y Z)) (Post v)
   ends w v is n e =

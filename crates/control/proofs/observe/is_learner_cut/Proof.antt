@@ -8,15 +8,15 @@ use Rattle.control.proofs.observe.is_learner_cut.Tie as tie
 log-id-follows-requires : tie.Need-log-id-follows-requires
 log-id-follows-requires c κs = search needs
 
-is-valid-beside-requires : tie.Need-is-valid-beside-requires
-is-valid-beside-requires c κs = search needs
+is-in-order-requires : tie.Need-is-in-order-requires
+is-in-order-requires c κs = search needs
 
 returns : tie.Need-returns
 returns c =
     let e = c .before .before .before .before .before .before .args .t .replacement .evidence in
     let f = c .before .before .log-id-follows .ensures in
-    let b = c .before .is-valid-beside .ensures in
+    let b = c .before .is-in-order .ensures in
     λ i. f i && (not (e .continuation .«is_some») || b i)
 
 pub is-learner-cut-spec : {M : Type 1} → statement M
-is-learner-cut-spec = tie.close (tie.spec log-id-follows-requires is-valid-beside-requires returns)
+is-learner-cut-spec = tie.close (tie.spec log-id-follows-requires is-in-order-requires returns)

@@ -65,14 +65,14 @@ use Rattle.control.proofs.observe.weigh_entry as judges
 use Rattle.control.proofs.observe.weigh_entry.Symbol as judges-def
 use Rattle.control.proofs.observe.weigh_entry.Symbol.{name as #judge}
 use Rattle.control.proofs.observe.weigh_entry.Met as judges-thm
-use Rattle.control.proofs.observe.route as test
-use Rattle.control.proofs.observe.route.Symbol as test-def
-use Rattle.control.proofs.observe.route.Symbol.{name as #test}
-use Rattle.control.proofs.observe.route.Met as test-thm
-use Rattle.control.proofs.observe.answer_of as answer
-use Rattle.control.proofs.observe.answer_of.Symbol as answer-def
-use Rattle.control.proofs.observe.answer_of.Symbol.{name as #answer}
-use Rattle.control.proofs.observe.answer_of.Met as answer-thm
+use Rattle.control.proofs.observe.route_of_observed as test
+use Rattle.control.proofs.observe.route_of_observed.Symbol as test-def
+use Rattle.control.proofs.observe.route_of_observed.Symbol.{name as #test}
+use Rattle.control.proofs.observe.route_of_observed.Met as test-thm
+use Rattle.control.proofs.observe.answer_of_observed as answer
+use Rattle.control.proofs.observe.answer_of_observed.Symbol as answer-def
+use Rattle.control.proofs.observe.answer_of_observed.Symbol.{name as #answer}
+use Rattle.control.proofs.observe.answer_of_observed.Met as answer-thm
 use Rattle.control.proofs.observe.learner_table as learner
 use Rattle.control.proofs.observe.learner_table.Symbol as learner-def
 use Rattle.control.proofs.observe.learner_table.Symbol.{name as #learner}
@@ -315,8 +315,8 @@ observe-membership-in-place-spec 𝓤 H 𝓜 𝓖 𝓡 =
     (tables 𝓤 H 𝓜 𝓡 code.env .C) (tables 𝓤 H 𝓜 𝓡 code.env .Λ) #thin code.function (code.unfolded 𝓤 H 𝓜 𝓡)
     (thin-meets 𝓤 H (𝓖 .A) (givenOf 𝓤 H 𝓜 𝓖) (𝓜 .mem) (𝓡 .run) (tablesOf 𝓤 H 𝓜 (tables 𝓤 H 𝓜 𝓡 code.env))
     (cited 𝓤 H (Judge 𝓤 H (𝓖 .A) (𝓜 .mem) (𝓡 .run)) 𝓜 𝓡 code.env #judge judges-def.routine code.calls-control·observe·weigh-entry (judges-thm.met 𝓤 H 𝓜 𝓖 𝓡))
-    (cited 𝓤 H (Test 𝓤 H (𝓖 .A) (𝓜 .mem) (𝓡 .run)) 𝓜 𝓡 code.env #test test-def.routine code.calls-control·observe·route (test-thm.met 𝓤 H 𝓜 𝓖 𝓡))
-    (cited 𝓤 H (Answers 𝓤 H (𝓖 .A) (𝓜 .mem) (𝓡 .run)) 𝓜 𝓡 code.env #answer answer-def.routine code.calls-control·observe·answer-of (answer-thm.met 𝓤 H 𝓜 𝓖 𝓡))
+    (cited 𝓤 H (Test 𝓤 H (𝓖 .A) (𝓜 .mem) (𝓡 .run)) 𝓜 𝓡 code.env #test test-def.routine code.calls-control·observe·route-of-observed (test-thm.met 𝓤 H 𝓜 𝓖 𝓡))
+    (cited 𝓤 H (Answers 𝓤 H (𝓖 .A) (𝓜 .mem) (𝓡 .run)) 𝓜 𝓡 code.env #answer answer-def.routine code.calls-control·observe·answer-of-observed (answer-thm.met 𝓤 H 𝓜 𝓖 𝓡))
     (cited 𝓤 H (Learner 𝓤 H (𝓖 .A) (𝓜 .mem) (𝓡 .run)) 𝓜 𝓡 code.env #learner learner-def.routine code.calls-control·observe·learner-table (learner-thm.met 𝓤 H 𝓜 𝓖 𝓡))
     (cited 𝓤 H (Joint 𝓤 H (𝓖 .A) (𝓜 .mem) (𝓡 .run)) 𝓜 𝓡 code.env #joint joint-def.routine code.calls-control·observe·joint-table (joint-thm.met 𝓤 H 𝓜 𝓖 𝓡))
     (cited 𝓤 H (Uniform 𝓤 H (𝓖 .A) (𝓜 .mem) (𝓡 .run)) 𝓜 𝓡 code.env #uniform uniform-def.routine code.calls-control·observe·uniform-table (uniform-thm.met 𝓤 H 𝓜 𝓖 𝓡)))

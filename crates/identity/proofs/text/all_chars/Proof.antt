@@ -9,7 +9,7 @@ use lib.ListN.{length, take, drop, length-drop}
 use lib.Seq.{take-all, drop-drop}
 use borrow.Author.Needs.{needs}
 use borrow.Author.Tests.{not-true, not-false}
-use Rattle.identity.specs.Utf8.{decoded, charsFrom, allChars}
+use Rattle.identity.specs.Utf8.{decodedChar, charsFrom, allChars}
 use Rattle.identity.specs.Utf8Laws.{Sized, sized, chars-end, chars-malformed, chars-more}
 use Rattle.identity.specs.Text.{allows}
 use Rattle.identity.specs.declared.utf8.Decoded.the-variants.{Char}
@@ -71,8 +71,8 @@ module _ (c : tie.After-decode Inv-loop μ-loop) where
   lent : take (length bytes - at) rest ≡ rest
   lent = take-all (length bytes - at) rest (simp length-drop (omega arith))
 
-  found : c .decode .result ≡ decoded rest
-  found = c .decode .ensures ∙ ap decoded lent
+  found : c .decode .result ≡ decodedChar rest
+  found = c .decode .ensures ∙ ap decodedChar lent
 
   one-more : allChars p bytes ≡ charsFrom p (suc (k - 1)) rest
   one-more =
@@ -95,17 +95,17 @@ module _ (c : tie.After-is-allowed Inv-loop μ-loop) where
   abbrev width : ℕ
   width = c .before .before .code .given .0 .1 .0
 
-  decoded-here : decoded (rest looked) ≡ Char code width
-  decoded-here = sym (found looked) ∙ c .before .before .code .given .1
+  char-here : decodedChar (rest looked) ≡ Char code width
+  char-here = sym (found looked) ∙ c .before .before .code .given .1
 
   size : Sized (rest looked) width
-  size = sized (rest looked) code width decoded-here
+  size = sized (rest looked) code width char-here
 
   abbrev onward : Bool
   onward = charsFrom (p looked) (k looked - 1) (drop width (rest looked))
 
   judged : allChars (p looked) (bytes looked) ≡ (p looked code && onward)
-  judged = one-more looked ∙ chars-more (p looked) (k looked - 1) (rest looked) code width (goes-on looked) decoded-here
+  judged = one-more looked ∙ chars-more (p looked) (k looked - 1) (rest looked) code width (goes-on looked) char-here
 
 is-allowed-requires : tie.Need-is-allowed-requires Inv-loop μ-loop
 is-allowed-requires c κs = search needs

@@ -30,14 +30,14 @@ returns-3 c =
     let n = length (c .before .before .before .before .before .before .args .bytes .now) in
     rw (le-leb 10 n (omega arith), le-leb n maxSpiffeIdBytes (omega arith), sym (c .before .starts-with .ensures) ∙ not-true _ (c .if3 .taken))
 
-is-text-requires : tie.Need-is-text-requires
-is-text-requires c κs = search needs
+all-allowed-requires : tie.Need-all-allowed-requires
+all-allowed-requires c κs = search needs
 
 returns-4 : tie.Need-returns-4
 unfolding isName
 returns-4 c =
     let n = length (c .before .before .before .before .before .before .before .args .bytes .now) in
-    rw (le-leb 10 n (omega arith), le-leb n maxSpiffeIdBytes (omega arith), sym (c .before .before .starts-with .ensures) ∙ not-false _ (c .before .if3 .left)) (c .is-text .ensures)
+    rw (le-leb 10 n (omega arith), le-leb n maxSpiffeIdBytes (omega arith), sym (c .before .before .starts-with .ensures) ∙ not-false _ (c .before .if3 .left)) (c .all-allowed .ensures)
 
 pub is-name-spec : {M : Type 1} → statement M
 is-name-spec =
@@ -48,5 +48,5 @@ is-name-spec =
     slice-aggregate-starts-with
     starts-with-requires
     returns-3
-    is-text-requires
+    all-allowed-requires
     returns-4)

@@ -17,14 +17,14 @@ returns-2 c =
     let n = length (c .before .before .before .args .bytes .now) in
     rw (le-leb 1 n (omega arith), lt-leb n maxSnapshotIdBytes (omega arith))
 
-is-text-requires : tie.Need-is-text-requires
-is-text-requires c κs = search needs
+all-allowed-requires : tie.Need-all-allowed-requires
+all-allowed-requires c κs = search needs
 
 returns-3 : tie.Need-returns-3
 unfolding isSnapshotId
 returns-3 c =
     let n = length (c .before .before .before .before .args .bytes .now) in
-    rw (le-leb 1 n (omega arith), le-leb n maxSnapshotIdBytes (omega arith)) (c .is-text .ensures)
+    rw (le-leb 1 n (omega arith), le-leb n maxSnapshotIdBytes (omega arith)) (c .all-allowed .ensures)
 
 pub is-snapshot-id-spec : {M : Type 1} → statement M
-is-snapshot-id-spec = tie.close (tie.spec returns returns-2 is-text-requires returns-3)
+is-snapshot-id-spec = tie.close (tie.spec returns returns-2 all-allowed-requires returns-3)

@@ -14,14 +14,14 @@ answer-of-requires c κs = search needs
 enum-known-called-2 : tie.Need-enum-known-called-2
 enum-known-called-2 c = search needs
 
-answer-of-requires-2 : tie.Need-answer-of-requires-2
-answer-of-requires-2 c κs = search needs
+answer-of-observed-requires : tie.Need-answer-of-observed-requires
+answer-of-observed-requires c κs = search needs
 
 returns : tie.Need-returns
 returns c = c .answer-of .ensures ∙ sym (ap answerOfCalled (c .before .before .called .given .1))
 
 returns-2 : tie.Need-returns-2
-returns-2 c = c .answer-of2 .ensures ∙ sym (ap answerOfCalled (c .before .before .called2 .given .1))
+returns-2 c = c .answer-of-observed .ensures ∙ sym (ap answerOfCalled (c .before .before .called2 .given .1))
 
 pub answer-of-called-spec : {M : Type 1} → statement M
 answer-of-called-spec =
@@ -30,6 +30,6 @@ answer-of-called-spec =
     enum-known-called
     answer-of-requires
     enum-known-called-2
-    answer-of-requires-2
+    answer-of-observed-requires
     returns
     returns-2)

@@ -18,14 +18,14 @@ route-requires c κs = search needs
 enum-known-called-2 : tie.Need-enum-known-called-2
 enum-known-called-2 c = search needs
 
-route-requires-2 : tie.Need-route-requires-2
-route-requires-2 c κs = search needs
+route-of-observed-requires : tie.Need-route-of-observed-requires
+route-of-observed-requires c κs = search needs
 
 returns : tie.Need-returns
 returns c = ap (ltb 0) (c .route .ensures) ∙ (some-route (verdictOf (c .before .before .called .given .0 .0)) ∙ sym (ap changes (c .before .before .called .given .1)))
 
 returns-2 : tie.Need-returns-2
-returns-2 c = ap (ltb 0) (c .route2 .ensures) ∙ (some-observed (verdictOfObserved (c .before .before .called2 .given .0 .0)) ∙ sym (ap changes (c .before .before .called2 .given .1)))
+returns-2 c = ap (ltb 0) (c .route-of-observed .ensures) ∙ (some-observed (verdictOfObserved (c .before .before .called2 .given .0 .0)) ∙ sym (ap changes (c .before .before .called2 .given .1)))
 
 pub is-change-spec : {M : Type 1} → statement M
 is-change-spec =
@@ -34,6 +34,6 @@ is-change-spec =
     enum-known-called
     route-requires
     enum-known-called-2
-    route-requires-2
+    route-of-observed-requires
     returns
     returns-2)

@@ -26,14 +26,14 @@ Inv-loop bytes count value₀ at₀ i₀ value at i =
 abbrev μ-loop : tie.MeasureT-loop
 μ-loop bytes count value₀ at₀ i₀ value at i = count - i
 
--- one more was read, behind those before it
+-- one more was read, after those before it
 one-more : (c : tie.After-to Inv-loop μ-loop) → slot .dec (drop (c .before .before .before .before .before .loop .at) (c .before .before .before .before .before .before .before .before .args .bytes .now)) ≡ ok (c .before .before .read-slot .result .value) (c .to .given .0 .0)
 one-more c = told blankVoterSlotRecord _ (c .before .before .read-slot .ensures ∙ ap (λ l. outcome blankVoterSlotRecord (slot .dec l)) (rest (c .before .before .before .before .before .before .before .before .args .bytes .now) (c .before .before .before .before .before .loop .at))) (c .to .given .1)
 
--- behind those that were read stand blanks
-blanks-behind : (i : ℕ) → drop i blankVoterSlotRecords ≡ replicate (9 - i) blankVoterSlotRecord
+-- after those that were read there are blanks
+blanks-after : (i : ℕ) → drop i blankVoterSlotRecords ≡ replicate (9 - i) blankVoterSlotRecord
 unfolding blankVoterSlotRecords
-blanks-behind i = drop-replicate i 9 blankVoterSlotRecord
+blanks-after i = drop-replicate i 9 blankVoterSlotRecord
 
 blank-voter-slot-records-requires : tie.Need-blank-voter-slot-records-requires Inv-loop μ-loop
 blank-voter-slot-records-requires c κs = search needs
@@ -107,7 +107,7 @@ returns-2 c =
     let e : l .i ≡ a .count = omega arith in
     let v : l .value ≡ take (l .i) (l .value) ++ replicate (9 - a .count) blankVoterSlotRecord
     = sym (take-append-drop (l .i) (l .value))
-    ∙ ap (λ t. take (l .i) (l .value) ++ t) (l .inv .2 ∙ ap (drop (l .i)) (c .before .before .blank-voter-slot-records .ensures) ∙ blanks-behind (l .i))
+    ∙ ap (λ t. take (l .i) (l .value) ++ t) (l .inv .2 ∙ ap (drop (l .i)) (c .before .before .blank-voter-slot-records .ensures) ∙ blanks-after (l .i))
     ∙ ap (λ n. take (l .i) (l .value) ++ replicate (9 - n) blankVoterSlotRecord) e in
     outcome-ok blankVoterSlotRecords
     (padded-ok _ _ _ _ _ _ (subst (λ n. vec slot blankVoterSlotRecord n .dec (a .bytes .now) ≡ ok (take (l .i) (l .value)) (l .at)) e (l .inv .1)) ∙ ap (λ x. ok x (l .at)) (sym v))

@@ -151,11 +151,11 @@ returns-4 c =
 add-t17 : tie.Need-add-t17
 add-t17 c = record { fits = lt-of-le-of-lt (table .within _ (whole c)) (c .before .before .before .before .before .before .before .before .before .before .before .before .before .before .before .before .before .before .before .good .0 .0) }
 
-table-of-requires : tie.Need-table-of-requires
-table-of-requires c κs = search needs
+table-of-parts-requires : tie.Need-table-of-parts-requires
+table-of-parts-requires c κs = search needs
 
 returns-5 : tie.Need-returns-5
-returns-5 c = outcome-ok _ (whole (c .before) ∙ ap (λ v. ok v (c .before .before .before .before .before .before .before .before .before .before .before .before .before .before .before .before .front-to .given .0 .0 + c .before .before .before .before .before .before .before .before .before .flag .given .0 .1 .0 + c .before .before .before .replacement-to .given .0 .0)) (sym (c .table-of .ensures)))
+returns-5 c = outcome-ok _ (whole (c .before) ∙ ap (λ v. ok v (c .before .before .before .before .before .before .before .before .before .before .before .before .before .before .before .before .front-to .given .0 .0 + c .before .before .before .before .before .before .before .before .before .flag .given .0 .1 .0 + c .before .before .before .replacement-to .given .0 .0)) (sym (c .table-of-parts .ensures)))
 
 pub read-table-spec : {M : Type 1} → statement M
 read-table-spec =
@@ -189,5 +189,5 @@ read-table-spec =
     refused-table-requires-3
     returns-4
     add-t17
-    table-of-requires
+    table-of-parts-requires
     returns-5)

@@ -20,14 +20,14 @@ log-id-follows-requires-2 c κs = search needs
 snapshot-cut-requires : tie.Need-snapshot-cut-requires
 snapshot-cut-requires c κs = search needs
 
-is-valid-beside-requires : tie.Need-is-valid-beside-requires
-is-valid-beside-requires c κs = search needs
+is-in-order-requires : tie.Need-is-in-order-requires
+is-in-order-requires c κs = search needs
 
-is-valid-beside-requires-2 : tie.Need-is-valid-beside-requires-2
-is-valid-beside-requires-2 c κs = search needs
+is-in-order-requires-2 : tie.Need-is-in-order-requires-2
+is-in-order-requires-2 c κs = search needs
 
-is-valid-beside-requires-3 : tie.Need-is-valid-beside-requires-3
-is-valid-beside-requires-3 c κs = search needs
+is-in-order-requires-3 : tie.Need-is-in-order-requires-3
+is-in-order-requires-3 c κs = search needs
 
 returns-2 : tie.Need-returns-2
 unfolding validContinuation
@@ -39,9 +39,9 @@ returns-2 c =
     let t = l1 .before .before .before .before in
     simp (
       t .if1 .left,
-      c .is-valid-beside3 .ensures,
-      b2 .is-valid-beside2 .ensures,
-      b1 .is-valid-beside .ensures,
+      c .is-in-order3 .ensures,
+      b2 .is-in-order2 .ensures,
+      b1 .is-in-order .ensures,
       b1 .before .snapshot-cut .ensures,
       l2 .log-id-follows2 .ensures,
       l1 .log-id-follows .ensures,
@@ -57,7 +57,7 @@ is-valid-continuation-spec =
     log-id-follows-requires
     log-id-follows-requires-2
     snapshot-cut-requires
-    is-valid-beside-requires
-    is-valid-beside-requires-2
-    is-valid-beside-requires-3
+    is-in-order-requires
+    is-in-order-requires-2
+    is-in-order-requires-3
     returns-2)

@@ -1,4 +1,4 @@
--- `records::representable::is_member_place` meets its contract: behind the count the place is blank. Assumes nothing.
+-- `records::representable::is_member_place` meets its contract: after the count the place is blank. Assumes nothing.
 use borrow.Author.Needs.{needs}
 use Rattle.records.proofs.representable.is_member_place.Statement.{statement}
 use Rattle.records.proofs.representable.is_member_place.Tie as tie

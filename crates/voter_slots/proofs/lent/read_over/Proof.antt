@@ -4,7 +4,8 @@ use native.Mathlib.Omega.{arith}
 use Rattle.format.specs.Codec.{Bytes}
 use Rattle.records.specs.ValidationLaws.{failed, held}
 use Rattle.voter_slots.specs.declared.result.VoterSlotsResult.{VoterSlotsResult}
-use Rattle.voter_slots.specs.ExportLaws.{ReadAs, is-read, is-refused, read-fits}
+use Rattle.voter_slots.specs.Export.{ReadAs}
+use Rattle.voter_slots.specs.ExportLaws.{is-read, is-refused, read-fits}
 use Rattle.voter_slots.specs.LentLaws.{over-no, over-ok}
 use borrow.Author.Needs.{needs}
 use Rattle.voter_slots.proofs.lent.read_over.Statement.{statement}

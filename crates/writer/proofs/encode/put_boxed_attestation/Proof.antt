@@ -1,4 +1,4 @@
--- `writer::encode::put_boxed_attestation` meets its contract: one put behind the other. Written by scripts/writers.py. Assumes nothing.
+-- `writer::encode::put_boxed_attestation` meets its contract: one put after the other. Written by scripts/writers.py. Assumes nothing.
 use Prim.Native.Nat.{ℕ, _+_, _≤_}
 use mathlib.Core.Path.{sym, ap, _∙_}
 use mathlib.Core.List.{List, _++_}
@@ -29,7 +29,7 @@ room2 c = room-is _ _ (boxed-bytes attestation 8192 (c .args .a)) (c .pre .0)
 room1 : (c : tie.Start) → c .args .at + length (e1 (c .args .a)) ≤ length (c .args .buffer .now)
 room1 c = room-left (e1 (c .args .a)) (claims .enc (c .args .a)) _ _ (room2 c)
 
--- where the function began, from behind each put
+-- where the function began, from after each put
 abbrev start1 : tie.After-put-be → tie.Start
 start1 c = c .before .before .before .before
 

@@ -1,4 +1,4 @@
--- `writer::encode::put_evidence` meets its contract: one put behind the other. Written by scripts/writers.py. Assumes nothing.
+-- `writer::encode::put_evidence` meets its contract: one put after the other. Written by scripts/writers.py. Assumes nothing.
 use Prim.Native.Nat.{ℕ, _+_, _≤_}
 use mathlib.Core.Path.{sym, ap, _∙_}
 use mathlib.Core.List.{List, _++_}
@@ -42,7 +42,7 @@ room2 c = room-left (e2 (c .args .e)) (threeCuts .enc (earlyCuts (c .args .e))) 
 room1 : (c : tie.Start) → c .args .at + length (e1 (c .args .e)) ≤ length (c .args .buffer .now)
 room1 c = room-left (e1 (c .args .e)) (opt snapshot blankVoterSnapshotEvidence .enc (c .args .e .«has_snapshot», c .args .e .snapshot)) _ _ (room2 c)
 
--- where the function began, from behind each put
+-- where the function began, from after each put
 abbrev start1 : tie.After-put-log-id → tie.Start
 start1 c = c .before .before .before .before
 

@@ -1,4 +1,4 @@
--- `writer::encode::put_member` meets its contract: one put behind the other. Written by scripts/writers.py. Assumes nothing.
+-- `writer::encode::put_member` meets its contract: one put after the other. Written by scripts/writers.py. Assumes nothing.
 use Prim.Native.Nat.{ℕ, _+_, _≤_}
 use mathlib.Core.Path.{ap, _∙_}
 use mathlib.Core.List.{List, _++_}
@@ -26,7 +26,7 @@ room2 c = c .pre
 room1 : (c : tie.Start) → c .args .at + length (e1 (c .args .m)) ≤ length (c .args .buffer .now)
 room1 c = room-left (e1 (c .args .m)) (binding .enc (bindingOf (c .args .m))) _ _ (room2 c)
 
--- where the function began, from behind each put
+-- where the function began, from after each put
 abbrev start1 : tie.After-put-identity → tie.Start
 start1 c = c .before .before .before .before
 

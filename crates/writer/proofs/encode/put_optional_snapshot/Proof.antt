@@ -1,4 +1,4 @@
--- `writer::encode::put_optional_snapshot` meets its contract: the flag, and behind a yes the value. Written by scripts/writers.py. Assumes nothing.
+-- `writer::encode::put_optional_snapshot` meets its contract: the flag, and after a yes the value. Written by scripts/writers.py. Assumes nothing.
 use Prim.Native.Nat.{_+_, _≤_}
 use mathlib.Core.Path.{sym, ap, _∙_}
 use mathlib.Core.List.{_++_}
@@ -12,7 +12,7 @@ use Rattle.writer.specs.PutLaws.{put-is, room-is, opt-flag, opt-some, op
 use Rattle.writer.proofs.encode.put_optional_snapshot.Statement.{statement}
 use Rattle.writer.proofs.encode.put_optional_snapshot.Tie as tie
 
--- where the function began, from behind a yes, a no and the value
+-- where the function began, from after a yes, a no and the value
 abbrev start1 : tie.Then1 → tie.Start
 start1 c = c .before .before .before .before .before .before
 
@@ -22,7 +22,7 @@ start0 c = c .before .before .before .before .before .before
 abbrev start2 : tie.After-put-snapshot → tie.Start
 start2 c = start1 (c .before .before)
 
--- there is room for the flag, and behind a yes for the value
+-- there is room for the flag, and after a yes for the value
 room1 : (c : tie.Start) → c .args .at + length (flag .enc (c .args .is-some)) ≤ length (c .args .buffer .now)
 room1 c = room-left (flag .enc (c .args .is-some)) (either (c .args .is-some) snapshot (always blankVoterSnapshotEvidence) .enc (c .args .s)) _ _ (room-is _ _ (opt-flag snapshot blankVoterSnapshotEvidence (c .args .s) (c .args .is-some)) (c .pre .0))
 

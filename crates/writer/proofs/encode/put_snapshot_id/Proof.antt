@@ -1,4 +1,4 @@
--- `writer::encode::put_snapshot_id` meets its contract: one put behind the other. Written by scripts/writers.py. Assumes nothing.
+-- `writer::encode::put_snapshot_id` meets its contract: one put after the other. Written by scripts/writers.py. Assumes nothing.
 use Prim.Native.Nat.{ℕ, _+_, _≤_}
 use native.Mathlib.Omega.{arith}
 use mathlib.Core.Path.{_≡_, sym, ap, _∙_}
@@ -35,7 +35,7 @@ room2 c = c .pre .0
 room1 : (c : tie.Start) → c .args .at + length (e1 (c .args .t3)) ≤ length (c .args .buffer .now)
 room1 c = room-left (e1 (c .args .t3)) (take (c .args .t3 .len) (c .args .t3 .bytes)) _ _ (room2 c)
 
--- where the function began, from behind each put
+-- where the function began, from after each put
 abbrev start1 : tie.After-put-be → tie.Start
 start1 c = c .before .before .before
 

@@ -1,4 +1,4 @@
--- `writer::encode::put_table_head` meets its contract: one put behind the other. Written by scripts/writers.py. Assumes nothing.
+-- `writer::encode::put_table_head` meets its contract: one put after the other. Written by scripts/writers.py. Assumes nothing.
 use Prim.Native.Nat.{ℕ, _+_, _≤_}
 use mathlib.Core.Path.{ap, _∙_}
 use mathlib.Core.List.{List, _++_}
@@ -38,7 +38,7 @@ room2 c = room-left (e2 (c .args .t3)) (uint 8 .enc (c .args .t3 .revision)) _ _
 room1 : (c : tie.Start) → c .args .at + length (e1 (c .args .t3)) ≤ length (c .args .buffer .now)
 room1 c = room-left (e1 (c .args .t3)) (c .args .t3 .«manifest_digest») _ _ (room2 c)
 
--- where the function began, from behind each put
+-- where the function began, from after each put
 abbrev start1 : tie.After-put-bytes → tie.Start
 start1 c = c .before .before .before .before .before .before
 

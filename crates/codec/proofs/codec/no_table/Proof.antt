@@ -1,10 +1,10 @@
--- `codec::codec::refused_table` meets its contract. Assumes nothing.
+-- `codec::codec::no_table` meets its contract. Assumes nothing.
 use mathlib.Core.Path.{ap}
 use Rattle.identity.specs.Answer.{numberOf}
 use Rattle.codec.specs.Codec.{decoded}
 use borrow.Author.Needs.{needs}
-use Rattle.codec.proofs.codec.refused_table.Statement.{statement}
-use Rattle.codec.proofs.codec.refused_table.Tie as tie
+use Rattle.codec.proofs.codec.no_table.Statement.{statement}
+use Rattle.codec.proofs.codec.no_table.Tie as tie
 
 blank-voter-slot-table-requires : tie.Need-blank-voter-slot-table-requires
 blank-voter-slot-table-requires c κs = search needs
@@ -13,5 +13,5 @@ returns : tie.Need-returns
 unfolding decoded
 returns c = ap (λ v. (numberOf (c .before .args .answer), v)) (c .blank-voter-slot-table .ensures)
 
-pub refused-table-spec : {M : Type 1} → statement M
-refused-table-spec = tie.close (tie.spec blank-voter-slot-table-requires returns)
+pub no-table-spec : {M : Type 1} → statement M
+no-table-spec = tie.close (tie.spec blank-voter-slot-table-requires returns)

@@ -1,12 +1,12 @@
--- `identity::text::is_text` meets its contract: where every byte is an ASCII character that the rule allows, so is the text. Assumes nothing.
+-- `identity::text::all_allowed` meets its contract: where every byte is an ASCII character that the rule allows, so is the text. Assumes nothing.
 use mathlib.Core.Path.{_≡_, sym}
 use mathlib.Core.Bool.{true}
 use Rattle.identity.specs.Utf8.{octets, within}
 use Rattle.identity.specs.Text.{every, allows, firstAscii, lastAscii}
 use Rattle.identity.specs.TextLaws.{ascii-chars, ascii-allowed}
 use borrow.Author.Needs.{needs}
-use Rattle.identity.proofs.text.is_text.Statement.{statement}
-use Rattle.identity.proofs.text.is_text.Tie as tie
+use Rattle.identity.proofs.text.all_allowed.Statement.{statement}
+use Rattle.identity.proofs.text.all_allowed.Tie as tie
 
 first-ascii-requires : tie.Need-first-ascii-requires
 first-ascii-requires c κs = search needs
@@ -32,8 +32,8 @@ all-chars-requires c κs = search needs
 returns-2 : tie.Need-returns-2
 returns-2 c = search needs
 
-pub is-text-spec : {M : Type 1} → statement M
-is-text-spec =
+pub all-allowed-spec : {M : Type 1} → statement M
+all-allowed-spec =
     tie.close
     (tie.spec
     first-ascii-requires

@@ -1,11 +1,11 @@
--- `control::observe::answer_of` meets its contract: by the case. Assumes nothing.
+-- `control::observe::answer_of_observed` meets its contract: by the case. Assumes nothing.
 use mathlib.Core.Path.{sym, ap}
 use Prim.Native.Nat.{_-_}
 use borrow.Author.Needs.{needs}
 use Rattle.control.specs.ObserveSight.{answerOfObserved, verdictOfObserved}
 use Rattle.control.specs.declared.observe.Observed.{Observed}
-use Rattle.control.proofs.observe.answer_of.Statement.{statement}
-use Rattle.control.proofs.observe.answer_of.Tie as tie
+use Rattle.control.proofs.observe.answer_of_observed.Statement.{statement}
+use Rattle.control.proofs.observe.answer_of_observed.Tie as tie
 
 enum-known-judged : tie.Need-enum-known-judged
 enum-known-judged c = search needs
@@ -37,8 +37,8 @@ returns-4 c = search needs
 returns-5 : tie.Need-returns-5
 returns-5 c = search needs
 
-pub answer-of-spec : {M : Type 1} → statement M
-answer-of-spec =
+pub answer-of-observed-spec : {M : Type 1} → statement M
+answer-of-observed-spec =
     tie.close
     (tie.spec
     enum-known-judged
