@@ -1,12 +1,13 @@
 #!/usr/bin/env python3
 """Shows that the fuzzer finds a wrong port: for each edit it builds the port with that edit and fuzzes it until the difference is found.
 
-    python3 fuzz/planted.py SECONDS EDIT...
+    python3 fuzz/planted.py [--bare] SECONDS EDIT...
 
 Run it from the root of the repository, after bin/fuzz. An EDIT is one of near-misses/CRATE/*.edit or crates/CRATE/must-fail/*.edit that
 changes code: the prover refuses it, so it is built by scripts/unproved.py, which proves nothing, in a copy. Each takes half a minute to build,
 and at most so many SECONDS to be found. Printed are the seconds and the number of logs that were played until then.
-It fails where an edit is not found. Only what is stored in samples/ is at hand for the start, not what earlier runs of bin/fuzz have kept.
+It fails where an edit is not found. Only what is stored in samples/ is at hand for the start, not what earlier runs of bin/fuzz have kept;
+with --bare there is nothing at the start, and the fuzzer makes every log itself.
 """
 import os
 import re
@@ -48,7 +49,10 @@ def built(edit, home):
     return harness
 
 
-def main(seconds, *edits):
+def main(*words):
+    bare = words[0] == '--bare'
+    seconds, *edits = words[bare:]
+    starts = [] if bare else ['target/fuzz/seeds']
     shutil.rmtree(WORK, ignore_errors=True)
     os.makedirs(WORK)
     home, missed = build.kit(WORK + '/kit', ''), 0
@@ -58,7 +62,7 @@ def main(seconds, *edits):
         shutil.rmtree(corpus, ignore_errors=True)
         os.makedirs(corpus)
         began = time.monotonic()
-        words = [harness, corpus, 'target/fuzz/seeds', '-max_total_time=' + seconds, '-max_len=70000', '-timeout=120', '-len_control=0', f'-artifact_prefix={WORK}/']
+        words = ['nice', '-n', '19', harness, corpus, *starts, '-max_total_time=' + seconds, '-max_len=70000', '-timeout=120', '-len_control=0', f'-artifact_prefix={WORK}/']
         ran = subprocess.run(words, stdout=subprocess.DEVNULL, stderr=subprocess.PIPE, check=False)
         said = ran.stderr.decode(errors='replace')
         found = re.search(r'DIFFERENCE: (.*)', said)

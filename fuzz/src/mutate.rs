@@ -7,11 +7,16 @@ use crate::call;
 use crate::calls::records;
 use crate::format::Mark;
 use crate::generate::random::Random;
-use crate::generate::{damage, departures, limits, observations, records as right_records, tables};
+use crate::generate::{
+    damage, departures, limits, observations, records as right_records, tables, text,
+};
 use crate::record::{put_record, Body, Cut, MARKS};
+use crate::text::SCHEME;
 use crate::wire;
 
 const LONGEST_BODY: usize = 65_535;
+/// Where the id begins in an Advance that records a snapshot.
+const SNAPSHOT_ID: usize = 83;
 
 extern "C" {
     fn LLVMFuzzerMutate(data: *mut u8, size: usize, most: usize) -> usize;
@@ -81,7 +86,7 @@ fn change(random: &mut Random, parts: &mut Vec<Part>) {
         return;
     }
     let at = random.below(parts.len());
-    match random.below(22) {
+    match random.below(24) {
         0..=6 => insert_fitting(random, parts),
         7..=10 => change_values(random, parts, at),
         11..=13 => change_bytes(random, &mut parts[at].1),
@@ -96,6 +101,7 @@ fn change(random: &mut Random, parts: &mut Vec<Part>) {
             parts.swap(at, other);
         }
         20 => start_later(random, parts),
+        21 | 22 => change_text(random, &mut parts[at]),
         _ => parts[at].0 = random.pick(&MARKS),
     }
 }
@@ -117,8 +123,10 @@ fn insert_fitting(random: &mut Random, parts: &mut Vec<Part>) {
         8 => observations::any_observation(random, &table, cut),
         _ => departures::other(random, &table, cut),
     };
-    if random.chance(30) {
-        departures::depart(random, &table, &mut body);
+    match random.below(10) {
+        0..=2 => departures::depart(random, &table, &mut body),
+        3 | 4 => body.set_cut(departures::near_cut(random, &table, cut)),
+        _ => {}
     }
     let bytes = body.bytes();
     if bytes.len() <= LONGEST_BODY {
@@ -137,7 +145,11 @@ fn change_values(random: &mut Random, parts: &mut [Part], at: usize) {
             return;
         }
     } else if let (Some(mut body), Some(table)) = (Body::read(*mark, bytes), table) {
-        departures::depart(random, &table, &mut body);
+        if random.chance(40) {
+            body.set_cut(departures::near_cut(random, &table, body.cut()));
+        } else {
+            departures::depart(random, &table, &mut body);
+        }
         let changed = body.bytes();
         if changed.len() <= LONGEST_BODY {
             *bytes = changed;
@@ -160,6 +172,30 @@ fn change_number(random: &mut Random, bytes: &mut [u8]) {
 fn change_bytes(random: &mut Random, bytes: &mut Vec<u8>) {
     let room = random.pick(&[0, 0, 8, 64]);
     *bytes = by_libfuzzer(bytes, (bytes.len() + room).min(LONGEST_BODY));
+}
+
+/// A character or a sequence that is none, laid over a part of a name or of a snapshot id.
+fn change_text(random: &mut Random, part: &mut Part) {
+    let (mark, bytes) = part;
+    let names = bytes.windows(SCHEME.len()).enumerate();
+    let mut texts: Vec<usize> = names
+        .filter(|(_, text)| *text == SCHEME.as_bytes())
+        .map(|(at, _)| at + SCHEME.len())
+        .collect();
+    if *mark == *b"AD" && bytes.len() > SNAPSHOT_ID + 32 {
+        texts.push(SNAPSHOT_ID);
+    }
+    if texts.is_empty() {
+        return;
+    }
+    let piece = match random.below(2) {
+        0 => text::piece(random),
+        _ => text::invalid_sequence(random),
+    };
+    let at = random.pick(&texts) + random.below(4);
+    for (byte, new) in bytes.iter_mut().skip(at).zip(piece) {
+        *byte = new;
+    }
 }
 
 /// Some bytes of a record laid over as many of another: ids, digests and cuts come to agree so.

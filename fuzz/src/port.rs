@@ -22,54 +22,6 @@ type Apply =
 type Observe = unsafe extern "C" fn(*const u8, usize, *const u8, usize, *mut u8, usize) -> Outcome;
 type Retired = unsafe extern "C" fn(*const u8, usize, u64) -> u32;
 
-extern "C" {
-    fn voter_slots_read(table: *const u8, len: usize) -> Outcome;
-    fn voter_slots_write(table: *const u8, len: usize, out: *mut u8, room: usize) -> Outcome;
-    fn voter_slots_apply(
-        table: *const u8,
-        len: usize,
-        mark: u32,
-        body: *const u8,
-        size: usize,
-        out: *mut u8,
-        room: usize,
-    ) -> Outcome;
-    fn voter_slots_observe(
-        table: *const u8,
-        len: usize,
-        body: *const u8,
-        size: usize,
-        out: *mut u8,
-        room: usize,
-    ) -> Outcome;
-    fn voter_slots_retired(table: *const u8, len: usize, node: u64) -> u32;
-
-    fn guided_voter_slots_read(table: *const u8, len: usize) -> Outcome;
-    fn guided_voter_slots_write(table: *const u8, len: usize, out: *mut u8, room: usize)
-        -> Outcome;
-    fn guided_voter_slots_apply(
-        table: *const u8,
-        len: usize,
-        mark: u32,
-        body: *const u8,
-        size: usize,
-        out: *mut u8,
-        room: usize,
-    ) -> Outcome;
-    fn guided_voter_slots_observe(
-        table: *const u8,
-        len: usize,
-        body: *const u8,
-        size: usize,
-        out: *mut u8,
-        room: usize,
-    ) -> Outcome;
-    fn guided_voter_slots_retired(table: *const u8, len: usize, node: u64) -> u32;
-
-    fn plain_replay_main() -> i32;
-    fn guided_replay_main() -> i32;
-}
-
 /// One build of the library.
 pub struct Library {
     pub name: &'static str,
@@ -80,23 +32,58 @@ pub struct Library {
     retired: Retired,
 }
 
+macro_rules! library {
+    ($name:literal, $read:ident, $write:ident, $apply:ident, $observe:ident, $retired:ident) => {{
+        extern "C" {
+            fn $read(table: *const u8, len: usize) -> Outcome;
+            fn $write(table: *const u8, len: usize, out: *mut u8, room: usize) -> Outcome;
+            fn $apply(
+                table: *const u8,
+                len: usize,
+                mark: u32,
+                body: *const u8,
+                size: usize,
+                out: *mut u8,
+                room: usize,
+            ) -> Outcome;
+            fn $observe(
+                table: *const u8,
+                len: usize,
+                body: *const u8,
+                size: usize,
+                out: *mut u8,
+                room: usize,
+            ) -> Outcome;
+            fn $retired(table: *const u8, len: usize, node: u64) -> u32;
+        }
+        Library {
+            name: $name,
+            read: $read,
+            write: $write,
+            apply: $apply,
+            observe: $observe,
+            retired: $retired,
+        }
+    }};
+}
+
 pub const LIBRARIES: [Library; 2] = [
-    Library {
-        name: "libvoter_slots.a",
-        read: voter_slots_read,
-        write: voter_slots_write,
-        apply: voter_slots_apply,
-        observe: voter_slots_observe,
-        retired: voter_slots_retired,
-    },
-    Library {
-        name: "the library with counters",
-        read: guided_voter_slots_read,
-        write: guided_voter_slots_write,
-        apply: guided_voter_slots_apply,
-        observe: guided_voter_slots_observe,
-        retired: guided_voter_slots_retired,
-    },
+    library!(
+        "libvoter_slots.a",
+        voter_slots_read,
+        voter_slots_write,
+        voter_slots_apply,
+        voter_slots_observe,
+        voter_slots_retired
+    ),
+    library!(
+        "the library with counters",
+        guided_voter_slots_read,
+        guided_voter_slots_write,
+        guided_voter_slots_apply,
+        guided_voter_slots_observe,
+        guided_voter_slots_retired
+    ),
 ];
 
 // SAFETY, of each call: every pointer and length is that of a slice that lives throughout it, and the
@@ -127,6 +114,11 @@ impl Library {
 
 /// The mark of an observation, as a number.
 pub const OBSERVATION: u32 = 0x4F42;
+
+extern "C" {
+    fn plain_replay_main() -> i32;
+    fn guided_replay_main() -> i32;
+}
 
 /// The builds of the replay program's `main`. It reads by `fuzz_read` and writes by `fuzz_write`.
 pub const PROGRAMS: [(&str, unsafe extern "C" fn() -> i32); 2] = [
