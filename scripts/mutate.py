@@ -654,7 +654,7 @@ def originals(source, mutants):
 
 
 # What the prover says where a proof names what the changed code does not have: refused for its shape, and not for a fact.
-SHAPE = re.compile(r'has no (field )?`')
+SHAPE = re.compile(r'has no (field )?`|this pattern needs')
 
 
 def own_errors(said, f):
@@ -674,8 +674,11 @@ def own_errors(said, f):
 
 def by_hand(f):
     """Whether a function's proof walks its code by hand, so that it cites the code's text."""
-    path = f'crates/{f.crate}/proofs/' + '/'.join(f.full.split('::')[1:]) + '/Proof.antt'
-    return os.path.exists(path) and 'Tie' not in read(path)
+    return os.path.exists(proof_of(f)) and 'Tie' not in read(proof_of(f))
+
+
+def proof_of(f):
+    return f'crates/{f.crate}/proofs/' + '/'.join(f.full.split('::')[1:]) + '/Proof.antt'
 
 
 def judge(said, m):
@@ -770,11 +773,36 @@ def run_crate(room, source, crate, plan):
         through = [m for m in results if m.verdict == 'let through']
         print(f'{crate}: part {n + 1} of {len(rows)}, {passed} of {len(queue)} mutants judged, {len(through)} let through '
               f'({checks} checks, {took:.0f} s)', flush=True)
+    rename(room, source, crate, [m for m in results if m.verdict == 'shape' and m.kind == 'function' and not by_hand(m.f)])
+    save(source, crate, results)
     confirm(room, source, crate, through)
     for n, m in enumerate(through):
         m.why = caught(room, source, m)
         save(source, crate, results)
         print(f'{crate}: let through {n + 1} of {len(through)}, {m.f.full}, {m.old} -> {m.new}: {m.why}', flush=True)
+
+
+def rename(room, source, crate, mutants):
+    """Where another function is called and the proof only lacks its name: the same again, with that name in the proof."""
+    while mutants:
+        row = list({m.f.full: m for m in reversed(mutants)}.values())
+        mutants = [m for m in mutants if m not in row]
+        proofs = {proof_of(m.f): read(proof_of(m.f)) for m in row}
+        room.write(applied(source, row))
+        for m in row:
+            old, new = m.old.replace('_', '-'), m.new.replace('_', '-')
+            room.write({proof_of(m.f): re.sub(rf'(?<!\w){old}(?=-requires|\d|[^\w-]|$)', new, proofs[proof_of(m.f)])})
+        said, _, took = room.dev(crate, f'{crate}.renamed')
+        room.write({**originals(source, row), **proofs})
+        for m in row:
+            judge(said, m)
+            if m.verdict in ('fact', 'shape and fact'):
+                m.verdict, m.why = 'shape and fact', 'with its name in the proof: ' + m.why
+            else:
+                m.why = f'with its name in the proof: {m.verdict} {m.why}'
+                m.verdict = 'shape'
+        print(f"{crate}: {len(row)} with the called function's name in the proof, a fact fails for "
+              f"{sum(m.verdict == 'shape and fact' for m in row)} ({took:.0f} s)", flush=True)
 
 
 def confirm(room, source, crate, through):
