@@ -415,6 +415,9 @@ fn bytes_calls<'a>(task: &'a Task, libraries: &'a Libraries) -> Option<Box<dyn C
     }
 }
 
+/// A call on the port's table, in words of eight bytes.
+type CallOn<'a> = Box<dyn FnMut(&mut Vec<u64>) + 'a>;
+
 /// The calls on tables. The table after a command or observation is first held to the original's.
 fn port_calls<'a>(
     task: &'a Task,
@@ -422,7 +425,7 @@ fn port_calls<'a>(
     port: &'a Port,
 ) -> Option<Box<dyn Calls + 'a>> {
     let start = support.table(&task.table);
-    let mut call: Box<dyn FnMut(&mut Vec<u64>) + 'a> = match &task.work {
+    let mut call: CallOn<'a> = match &task.work {
         Work::Retired(node) => {
             let retired = port.retired?;
             return Some(on((), move |()| {
