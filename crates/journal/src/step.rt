@@ -1,21 +1,18 @@
-// One record at the table that stands: what it asks is judged, and then the next table is made, if
-// there is one. A body that changes the table is read twice, so that what was judged is a small value.
+// One record at the table that stands: what it asks is judged, and the next table, if there is one, is
+// made by one of nine makers, which a number stands for. A body that changes the table is read twice,
+// so that what was judged is a small value.
 //
 // Document 01, section "Replay program". No part of the original has it.
 ghost use Prim.Native.Nat.{_+_, _≤_};
-ghost use mathlib.Core.Bool.{true};
 ghost use mathlib.Core.Path.{_≡_};
 ghost use lib.ListN.{length, take, drop};
 ghost use Rattle.identity.specs.declared.answer.Answer.the-variants.{Accepted};
 ghost use Rattle.records.specs.Validation.{validate};
 ghost use Rattle.control.specs.Verdicts.{verdictOf};
-ghost use Rattle.control.specs.VerdictLaws.{isStep};
-ghost use Rattle.control.specs.Judgement.Move.{begins};
-ghost use Rattle.control.specs.Judgement.Verdict.{moves};
 ghost use Rattle.control.specs.ObserveSight.{verdictOfObserved, weighed};
 ghost use Rattle.journal.specs.declared.replay.Mark.the-variants.{Ad, Bg, Mk, Ob};
 ghost use Rattle.journal.specs.Replay.{asking};
-ghost use Rattle.journal.specs.Step.{Makes, MakesCommand, MakesObservation, answerOfCalled, changes, checkedCall, commandVerdict, cutAt, madeBy, madeByCommand, madeByObservation, numbered, observationVerdict};
+ghost use Rattle.journal.specs.Step.{HoldsAdvance, HoldsBegin, Makes, answerOfCalled, changes, checkedCall, commandVerdict, cutAt, madeBy, numbered, observationVerdict, routeOfCalled, routeOfObservation};
 use crate::bodies::Asks;
 use crate::bodies::read_advance;
 use crate::bodies::read_begin;
@@ -23,8 +20,10 @@ use crate::bodies::read_marker;
 use crate::observation::ObservationRead;
 use crate::observation::read_observation;
 use crate::replay::Mark;
+use control::begin::VoterBegin;
 use control::begin::begin_table;
 use control::begin::judge_begin;
+use control::control::VoterAdvance;
 use control::judge::Judged;
 use control::judge::answer_of;
 use control::judge::judge_advance;
@@ -40,7 +39,6 @@ use control::observe::Observed;
 use control::observe::answer_of as answer_of_observed;
 use control::observe::joint_table;
 use control::observe::learner_table;
-use control::observe::route as route_of_observed;
 use control::observe::uniform_table;
 use control::observe::weigh;
 use control::representable::is_representable_request;
@@ -68,14 +66,34 @@ pub fn answer_of_called(called: Called) -> Answer
     }
 }
 
+// The number of the maker, 0 for none: 1 to 6 for commands, as control has them.
+pub fn route_of_called(called: Called) -> u64
+    ensures { λ r. ⌜ r ≡ routeOfCalled called ⌝ }
+{
+    match called {
+        Called::Command(judged) => route(judged),
+        Called::Observation(observed) => route_of_observation(observed),
+    }
+}
+
+// 7 to 9 for observations.
+fn route_of_observation(observed: Observed) -> u64
+    ensures { λ r. ⌜ r ≡ routeOfObservation (verdictOfObserved observed) ⌝ }
+{
+    match observed {
+        Observed::Refuse(_) => 0,
+        Observed::Keep => 0,
+        Observed::AddLearner => 7,
+        Observed::AddJoint => 8,
+        Observed::AddUniform => 9,
+    }
+}
+
 // Whether the table changes.
 pub fn is_change(called: Called) -> bool
     ensures { λ r. ⌜ r ≡ changes called ⌝ }
 {
-    match called {
-        Called::Command(judged) => 0 < route(judged),
-        Called::Observation(observed) => 0 < route_of_observed(observed),
-    }
+    0 < route_of_called(called)
 }
 
 // What a call on a valid table asks before it is judged: 30, and 25 for a zero in the cut.
@@ -162,67 +180,46 @@ fn weigh_read(t: VoterSlotTable, read: ObservationRead, ids: &[u64], counts: &[u
     weigh(t, &ids[..set_ids], &counts[..sets], &ids[set_ids..end], cut)
 }
 
-// The table after the record.
+// The table after the record. Where the table that stands is to be changed, its owner chooses the maker
+// itself, as `play_on` does: what this returns is copied.
 pub fn make_record(t: VoterSlotTable, body: &[u8], called: Called) -> VoterSlotTable
     requires { ⌜ Makes t (now body) called ⌝ }
     ensures { λ r. ⌜ r ≡ madeBy t (now (body .entry)) called ⌝ }
 {
-    match called {
-        Called::Command(judged) => make_command(t, body, judged),
-        Called::Observation(observed) => make_observation(t, body, observed),
-    }
-}
-
-fn make_command(t: VoterSlotTable, body: &[u8], judged: Judged) -> VoterSlotTable
-    requires { ⌜ MakesCommand t (now body) (verdictOf judged) ⌝ }
-    ensures { λ r. ⌜ r ≡ madeByCommand t (now (body .entry)) (verdictOf judged) ⌝ }
-{
-    match route(judged) {
-        0 => t,
-        6 => make_begin(t, body, judged),
-        _ => make_advance(t, body, judged),
-    }
-}
-
-fn make_begin(t: VoterSlotTable, body: &[u8], judged: Judged) -> VoterSlotTable
-    requires { ⌜ MakesCommand t (now body) (verdictOf judged) × (verdictOf judged ≡ moves begins) ⌝ }
-    ensures { λ r. ⌜ r ≡ madeByCommand t (now (body .entry)) (verdictOf judged) ⌝ }
-{
-    let read = read_begin(body);
-    let begin = read.value;
-    begin_table(t, begin)
-}
-
-fn make_advance(t: VoterSlotTable, body: &[u8], judged: Judged) -> VoterSlotTable
-    requires { ⌜ MakesCommand t (now body) (verdictOf judged) × (isStep (verdictOf judged) ≡ true) ⌝ }
-    ensures { λ r. ⌜ r ≡ madeByCommand t (now (body .entry)) (verdictOf judged) ⌝ }
-{
-    let read = read_advance(body);
-    let advance = read.value;
-    match route(judged) {
-        1 => snapshot_table(t, advance),
-        2 => catch_up_table(t, advance),
-        3 => continue_table(t, advance),
-        4 => fence_table(t, advance),
-        _ => finalize_table(t, advance),
-    }
-}
-
-fn make_observation(t: VoterSlotTable, body: &[u8], observed: Observed) -> VoterSlotTable
-    requires { ⌜ MakesObservation t (now body) (verdictOfObserved observed) ⌝ }
-    ensures { λ r. ⌜ r ≡ madeByObservation t (now (body .entry)) (verdictOfObserved observed) ⌝ }
-{
-    let cut = cut_of(body);
-    match route_of_observed(observed) {
-        1 => learner_table(t, cut),
-        2 => joint_table(t, cut),
-        3 => uniform_table(t, cut),
+    match route_of_called(called) {
+        1 => snapshot_table(t, advance_in(body)),
+        2 => catch_up_table(t, advance_in(body)),
+        3 => continue_table(t, advance_in(body)),
+        4 => fence_table(t, advance_in(body)),
+        5 => finalize_table(t, advance_in(body)),
+        6 => begin_table(t, begin_in(body)),
+        7 => learner_table(t, cut_in(body)),
+        8 => joint_table(t, cut_in(body)),
+        9 => uniform_table(t, cut_in(body)),
         _ => t,
     }
 }
 
+// ---- what a body that was judged holds, read again for a maker
+
+// The Advance.
+pub fn advance_in(body: &[u8]) -> VoterAdvance
+    ensures { λ r. ⌜ HoldsAdvance (now (body .entry)) r ⌝ }
+{
+    let read = read_advance(body);
+    read.value
+}
+
+// The Begin.
+pub fn begin_in(body: &[u8]) -> VoterBegin
+    ensures { λ r. ⌜ HoldsBegin (now (body .entry)) r ⌝ }
+{
+    let read = read_begin(body);
+    read.value
+}
+
 // The cut that a body begins with.
-fn cut_of(body: &[u8]) -> VoterSlotLogId
+pub fn cut_in(body: &[u8]) -> VoterSlotLogId
     ensures { λ r. ⌜ r ≡ cutAt (now (body .entry)) ⌝ }
 {
     let read = read_log_id(body);
