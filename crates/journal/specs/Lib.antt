@@ -14,5 +14,6 @@ pub mod TextLaws
 pub mod RunHistoryLaws
 pub mod BodyLaws
 pub mod StepLaws
+pub mod MakerLaws
 pub mod PlayLaws
 pub mod PieceLaws

@@ -17,21 +17,23 @@ use Rattle.records.specs.Validation.{validate}
 use Rattle.records.specs.declared.records.VoterSlotLogId.{VoterSlotLogId}
 use Rattle.records.specs.declared.records.VoterSlotTable.{VoterSlotTable}
 use Rattle.control.specs.declared.begin.VoterBegin.{VoterBegin}
+use Rattle.control.specs.declared.control.VoterAdvance.{VoterAdvance}
 use Rattle.control.specs.declared.control.VoterSlotControl.{VoterSlotControl}
 use Rattle.control.specs.Control.{representableRequest}
 use Rattle.control.specs.Judgement.{Addition, Move, Verdict, added, judgeBegin, made}
+use Rattle.control.specs.Judgement.Addition.{addsLearner, addsJoint, addsUniform}
 use Rattle.control.specs.Judgement.Move.{begins, recordsSnapshot, recordsCaughtUp, continues, fences, finalizes}
 use Rattle.control.specs.Judgement.Verdict.{kept, moves}
 use Rattle.control.specs.Judgement.Verdict.{refused as refuses}
 use Rattle.control.specs.ObserveSight.{answerOfObserved, verdictOfObserved, weighed}
-use Rattle.control.specs.Verdicts.{answerOf, entryVerdict, verdictOf}
+use Rattle.control.specs.Verdicts.{answerOf, entryVerdict, routeOf, verdictOf}
 use Rattle.journal.specs.declared.bodies.Asks.{Asks}
 use Rattle.journal.specs.declared.bodies.Asks.the-variants.{Bad, Refused, Begin}
 use Rattle.journal.specs.declared.replay.Mark.{Mark}
 use Rattle.journal.specs.declared.replay.Mark.the-variants.{Ad, Bg, Ob}
 use Rattle.journal.specs.declared.step.Called.{Called}
 use Rattle.journal.specs.declared.step.Called.the-variants.{Command, Observation}
-use Rattle.journal.specs.Bodies.{blankMarkerBody}
+use Rattle.journal.specs.Bodies.{advanceAsking, beginAskingBy, blankMarkerBody}
 use Rattle.journal.specs.Replay.{Asking, Standing, asking, badRecord, markerControl}
 use Rattle.journal.specs.Replay.Asked.{command, observation}
 use Rattle.journal.specs.Replay.Asking.{bad, refused, asks}
@@ -139,6 +141,26 @@ MakesObservation t body v = (m : Addition) → v ≡ moves m → observationVerd
 abbrev pub Makes : VoterSlotTable → List ℕ → Called → Type 0
 Makes t body (Command judged) = MakesCommand t body (verdictOf judged)
 Makes t body (Observation observed) = MakesObservation t body (verdictOfObserved observed)
+
+-- what a body holds that is read again for a maker: the Advance or the Begin that it asks for, if it asks for one
+
+abbrev pub HoldsAdvance : List ℕ → VoterAdvance → Type 0
+HoldsAdvance body a = (isFormed : Bool) × (advanceAsking (record { formed = isFormed; value = a }) ≡ asking Ad body)
+
+abbrev pub HoldsBegin : List ℕ → VoterBegin → Type 0
+HoldsBegin body b = (says : Asks) × (beginAskingBy says b ≡ asking Bg body)
+
+-- the number by which the code chooses the maker, 0 for none: 1 to 6 for commands (`routeOf`), 7 to 9 for observations
+abbrev pub routeOfObservation : Verdict Addition → ℕ
+routeOfObservation (refuses answer) = 0
+routeOfObservation kept = 0
+routeOfObservation (moves addsLearner) = 7
+routeOfObservation (moves addsJoint) = 8
+routeOfObservation (moves addsUniform) = 9
+
+abbrev pub routeOfCalled : Called → ℕ
+routeOfCalled (Command judged) = routeOf (verdictOf judged)
+routeOfCalled (Observation observed) = routeOfObservation (verdictOfObserved observed)
 
 -- whether the table changes
 abbrev pub isMade : {M : Type 0} → Verdict M → Bool

@@ -6,7 +6,6 @@ use native.Mathlib.Omega.{arith}
 use mathlib.Core.Path.{_≡_, refl, sym, ap, ap₂, _∙_, subst}
 use mathlib.Core.Bool.{Bool, true, false, cond, not, _&&_, false≢true}
 use mathlib.Core.List.{List}
-use lib.Dec.{ltb}
 use lib.ListN.{drop, take}
 use Rattle.identity.specs.Answer.{isAccepted, numberOf}
 use Rattle.identity.specs.declared.answer.Answer.{Answer}
@@ -41,14 +40,13 @@ use Rattle.control.specs.BlankLaws.{sameVoterReplacementRequest-refl, sameVoter
 use Rattle.control.specs.Control.{Decision, applyControl, begun, beginCheck, currentConfiguration, decide, full, isCatchingUp, isKnown, isOpenRequest, knownDigest, namedIndex, representableControl, representableRequest, representableStep, requestCheck, settle}
 use Rattle.control.specs.Control.Decision.{refuse, keep, change}
 use Rattle.control.specs.Judgement.{Addition, Move, Verdict, added, beginTest, carried, judge, judgeBegin, judgeMarker, judgeRepeated, made}
-use Rattle.control.specs.Judgement.Addition.{addsLearner, addsJoint, addsUniform}
 use Rattle.control.specs.Judgement.Move.{begins, recordsSnapshot, recordsCaughtUp, continues, fences, finalizes}
 use Rattle.control.specs.Judgement.Verdict.{kept, moves}
 use Rattle.control.specs.Judgement.Verdict.{refused as refuses}
 use Rattle.control.specs.Observation.{allRising, isRising, observe, observeMembership, representableSets, splitSets}
 use Rattle.control.specs.ObserveLaws.{observes-valid, weighed-room}
-use Rattle.control.specs.ObserveSight.{Room, answerOfObserved, isChange, routeOfObserved, verdictOfObserved, weighed}
-use Rattle.control.specs.Verdicts.{answerOf, checkedOf, entryVerdict, judgeOf, routeOf, stepMade, verdictOf}
+use Rattle.control.specs.ObserveSight.{Room, answerOfObserved, isChange, verdictOfObserved, weighed}
+use Rattle.control.specs.Verdicts.{answerOf, checkedOf, entryVerdict, judgeOf, stepMade, verdictOf}
 use Rattle.control.specs.VerdictLaws.{advance-made, begin-begins, entry-carried, entry-moves, isMove, isStep, step-advance}
 use Rattle.control.specs.BeginVerdictLaws.{begin-room}
 use Rattle.journal.specs.declared.bodies.AdvanceRead.{AdvanceRead}
@@ -69,7 +67,7 @@ use Rattle.journal.specs.Replay.Asked.{command, observation}
 use Rattle.journal.specs.Replay.Asking.{bad, refused, asks}
 use Rattle.journal.specs.Replay.Entry.{framed}
 use Rattle.journal.specs.Replay.Standing.{stands}
-use Rattle.journal.specs.Step.{Judges, Makes, MakesCommand, MakesObservation, ValidStanding, answerOfCalled, beginVerdict, changes, checkedCall, cutAt, cutBy, isMade, commandIn, commandVerdict, madeBy, madeByCommand, madeByObservation, markOfMove, numbered, observationVerdict}
+use Rattle.journal.specs.Step.{Judges, Makes, ValidStanding, answerOfCalled, beginVerdict, changes, checkedCall, cutAt, cutBy, isMade, commandIn, commandVerdict, madeBy, madeByCommand, madeByObservation, markOfMove, numbered, observationVerdict}
 use Rattle.journal.specs.Step.Numbered.{refusedBy, movesBy}
 
 -- ---- the command of a body passes the representability check where the part does that it uses
@@ -469,70 +467,7 @@ module _ (t : VoterSlotTable) (body : List ℕ) where
       by (ok b n) e h = ap cutBy (cut-front b (whole-is observationBody body e) .1)
       by (no k) e h = absurd (let z : _≡_ {A = ℕ} 0 1 = cc in omega arith)
 
--- ---- the number of a verdict, which the code goes by
-
--- none but 0 and 6: a step of an Advance
-pub routed-step : (v : Verdict Move) → (routeOf v ≡ 0 → ⊥) → (routeOf v ≡ 6 → ⊥) → isStep v ≡ true
-routed-step (refuses answer) a b = absurd (a refl)
-routed-step kept a b = absurd (a refl)
-routed-step (moves begins) a b = absurd (b refl)
-routed-step (moves recordsSnapshot) a b = refl
-routed-step (moves recordsCaughtUp) a b = refl
-routed-step (moves continues) a b = refl
-routed-step (moves fences) a b = refl
-routed-step (moves finalizes) a b = refl
-
--- and none of the first four
-pub routed-last : (v : Verdict Move) → isStep v ≡ true → (routeOf v ≡ 1 → ⊥) → (routeOf v ≡ 2 → ⊥) → (routeOf v ≡ 3 → ⊥) → (routeOf v ≡ 4 → ⊥) → v ≡ moves finalizes
-routed-last (refuses answer) s a b c d = absurd (false≢true s)
-routed-last kept s a b c d = absurd (false≢true s)
-routed-last (moves begins) s a b c d = absurd (false≢true s)
-routed-last (moves recordsSnapshot) s a b c d = absurd (a refl)
-routed-last (moves recordsCaughtUp) s a b c d = absurd (b refl)
-routed-last (moves continues) s a b c d = absurd (c refl)
-routed-last (moves fences) s a b c d = absurd (d refl)
-routed-last (moves finalizes) s a b c d = refl
-
--- 0: the table stays
-pub kept-command : (t : VoterSlotTable) (body : List ℕ) (v : Verdict Move) → routeOf v ≡ 0 → t ≡ madeByCommand t body v
-unfolding madeByCommand
-kept-command t body (refuses answer) e = refl
-kept-command t body kept e = refl
-kept-command t body (moves begins) e = absurd (omega arith)
-kept-command t body (moves recordsSnapshot) e = absurd (omega arith)
-kept-command t body (moves recordsCaughtUp) e = absurd (omega arith)
-kept-command t body (moves continues) e = absurd (omega arith)
-kept-command t body (moves fences) e = absurd (omega arith)
-kept-command t body (moves finalizes) e = absurd (omega arith)
-
-pub kept-observation : (t : VoterSlotTable) (body : List ℕ) (v : Verdict Addition) → (routeOfObserved v ≡ 1 → ⊥) → (routeOfObserved v ≡ 2 → ⊥) → (routeOfObserved v ≡ 3 → ⊥)
-    → t ≡ madeByObservation t body v
-unfolding madeByObservation
-kept-observation t body (refuses answer) a b c = refl
-kept-observation t body kept a b c = refl
-kept-observation t body (moves addsLearner) a b c = absurd (a refl)
-kept-observation t body (moves addsJoint) a b c = absurd (b refl)
-kept-observation t body (moves addsUniform) a b c = absurd (c refl)
-
--- whether there is one
-pub some-route : (v : Verdict Move) → ltb 0 (routeOf v) ≡ isMade v
-some-route (refuses answer) = refl
-some-route kept = refl
-some-route (moves begins) = refl
-some-route (moves recordsSnapshot) = refl
-some-route (moves recordsCaughtUp) = refl
-some-route (moves continues) = refl
-some-route (moves fences) = refl
-some-route (moves finalizes) = refl
-
-pub some-observed : (v : Verdict Addition) → ltb 0 (routeOfObserved v) ≡ isMade v
-some-observed (refuses answer) = refl
-some-observed kept = refl
-some-observed (moves addsLearner) = refl
-some-observed (moves addsJoint) = refl
-some-observed (moves addsUniform) = refl
-
--- where there is none, the table stays
+-- ---- where there is none, the table stays
 pub unchanged : (t : VoterSlotTable) (body : List ℕ) (called : Called) → changes called ≡ false → t ≡ madeBy t body called
 unfolding madeByCommand madeByObservation
 unchanged t body (Command judged) = by (verdictOf judged)
@@ -583,7 +518,7 @@ module _ (t : VoterSlotTable) (valid : validate t ≡ Accepted) where
   unfolding step
   made-valid mark body called j = subst ValidStanding (ap (λ (x : ℕ × Standing). x .1) (step-called t valid mark body called j)) (called-valid (asking mark body))
 
--- ---- an observation: what was read, judged; and what is made
+-- ---- an observation: what was read, judged
 
 module _ (t : VoterSlotTable) (r : ObservationRead) (ids counts body : List ℕ) (e : observationAsking r ids counts ≡ asking Ob body) where
   observed-by : (b : Bool) → r .formed ≡ b
@@ -603,33 +538,6 @@ module _ (t : VoterSlotTable) (r : ObservationRead) (ids counts body : List ℕ)
       → v ≡ weighed t (take (r .ids) ids) (take (r .sets) counts) (take (r .nodes) (drop (r .ids) ids)) (r .cut) → numbered v ≡ observationVerdict t (asking Ob body)
   unfolding observationVerdict
   observed-formed h {v} w = ap numbered w ∙ observed-by true h
-
-module _ (t : VoterSlotTable) (body : List ℕ) (v : Verdict Addition) (makes : MakesObservation t body v) (m : Addition) (e : v ≡ moves m) where
-  pub observed-room : Room t
-  observed-room = observation-room t body m (makes m e)
-
-  pub observed-made : {u : VoterSlotTable} {cut : VoterSlotLogId} → u ≡ added t cut m → cut ≡ cutAt body → u ≡ madeByObservation t body v
-  unfolding madeByObservation
-  observed-made {u} {cut} f g = f ∙ (ap (λ (x : VoterSlotLogId). added t x m) (g ∙ cut-is t body m (makes m e)) ∙ sym (ap (madeByObservation t body) e))
-
--- a step of an Advance
-module _ (t : VoterSlotTable) (body : List ℕ) (v : Verdict Move) (makes : MakesCommand t body v) where
-  pub step-need : (r : AdvanceRead) → advanceAsking r ≡ asking Ad body → (m : Move) → isStep (moves m) ≡ true → markOfMove m ≡ Ad → v ≡ moves m
-      → AdvanceNeed t body (r .value) m (asking Ad body)
-  step-need r f m s k e = advance-need t body r m s f (subst (λ (x : Mark). commandVerdict t (asking x body) ≡ movesBy m) k (makes m e))
-
-  pub step-makes : (r : AdvanceRead) → advanceAsking r ≡ asking Ad body → (m : Move) → isStep (moves m) ≡ true → (k : markOfMove m ≡ Ad) → v ≡ moves m
-      → {u : VoterSlotTable} → u ≡ stepMade t (r .value .step) (r .value .cut) m → u ≡ madeByCommand t body v
-  unfolding madeByCommand
-  step-makes r f m s k e {u} g =
-      g
-      ∙ (step-need r f m s k e .1 .1
-      ∙ (ap (λ (x : Mark). made t (commandIn (asking x body) .0) (commandIn (asking x body) .1) m) (sym k) ∙ sym (ap (madeByCommand t body) e)))
-
-  pub begin-makes : (r : BeginRead) → beginAsking r ≡ asking Bg body → v ≡ moves begins → {u : VoterSlotTable} → u ≡ begun t (r .value .request) (r .value .cut)
-      → u ≡ madeByCommand t body v
-  unfolding madeByCommand
-  begin-makes r f e {u} g = g ∙ (begin-need t body r f (makes begins e) .1 ∙ sym (ap (madeByCommand t body) e))
 
 -- ---- what was judged, by the mark
 

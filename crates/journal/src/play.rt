@@ -9,7 +9,7 @@ ghost use Rattle.identity.specs.declared.answer.Answer.the-variants.{Accepted, 
 ghost use Rattle.records.specs.Blank.{blankVoterSlotTable};
 ghost use Rattle.records.specs.Validation.{validate};
 ghost use Rattle.control.specs.Control.{full};
-ghost use Rattle.journal.specs.Play.{Goes, PutTurn, Safe, brings, longestLine, openedTo, playOf, playedTo, readyOf, standing, startAnswer, startPlace, turnsAfter};
+ghost use Rattle.journal.specs.Play.{Goes, PutTurn, Safe, brings, longestLine, openedAt, openedTo, playOf, playedTo, readyOf, standing, startAnswer, startPlace, turnsAfter};
 ghost use Rattle.journal.specs.Replay.{opening};
 ghost use Rattle.journal.specs.RunHistory.{LineOfRun};
 ghost use Rattle.journal.specs.Step.{ValidStanding};
@@ -19,16 +19,36 @@ use crate::record::Record;
 use crate::record::record_at;
 use crate::replay::Mark;
 use crate::step::Called;
+use crate::step::MAKER_JOINT;
+use crate::step::MAKER_LEARNER;
+use crate::step::MAKER_UNIFORM;
+use crate::step::advance_in;
 use crate::step::answer_of_called;
-use crate::step::is_change;
+use crate::step::begin_in;
+use crate::step::cut_in;
 use crate::step::judge_advance_body;
 use crate::step::judge_begin_body;
 use crate::step::judge_marker_body;
 use crate::step::judge_observation_body;
-use crate::step::make_record;
+use crate::step::route_of_called;
 use codec::codec::DecodedTable;
 use codec::codec::decode_voter_slot_table;
+use control::begin::begin_table;
 use control::judge::Judged;
+use control::judge::ROUTE_BEGIN;
+use control::judge::ROUTE_CAUGHT_UP;
+use control::judge::ROUTE_CONTINUATION;
+use control::judge::ROUTE_FENCE;
+use control::judge::ROUTE_FINALIZE;
+use control::judge::ROUTE_SNAPSHOT;
+use control::make::catch_up_table;
+use control::make::continue_table;
+use control::make::fence_table;
+use control::make::finalize_table;
+use control::make::snapshot_table;
+use control::observe::joint_table;
+use control::observe::learner_table;
+use control::observe::uniform_table;
 use identity::answer::Answer;
 use identity::answer::accepted;
 use records::blank::blank_voter_slot_table;
@@ -135,7 +155,8 @@ fn open_log(from: Opened, input: &[u8], last: bool, out: &mut [u8]) -> Opened
     }
 }
 
-// With a table: each record is a call on it, or a bad record.
+// With a table: each record is a call on it, or a bad record. Judges and makers are chosen in the loop,
+// where the table is: so each is called at one place, works on the table itself, and no table is copied.
 fn play_on(from: Opened, input: &[u8], last: bool, out: &mut [u8]) -> Opened
     requires { ⌜ Safe (now input) (length (now out)) from × (from .stands ≡ true) ⌝ }
     ensures { λ r. ⌜ Goes (now (input .entry)) last from (now (out .entry)) r (now (out .exit)) × (r .place .turns ≡ 0) ⌝ }
@@ -143,7 +164,7 @@ fn play_on(from: Opened, input: &[u8], last: bool, out: &mut [u8]) -> Opened
     let mut ids = no_ids();
     let mut counts = no_counts();
     let mut place = from.place;
-    let mut table = from.table;
+    let mut t = from.table;
     while 0 < place.turns {
         let found = record_at(input, place.read, last);
         let asks = found.asks;
@@ -151,21 +172,35 @@ fn play_on(from: Opened, input: &[u8], last: bool, out: &mut [u8]) -> Opened
         let end = found.end;
         let body = &input[begin..end];
         let called = match asks {
-            Mark::Mk => Called::Command(judge_marker_body(table, body)),
-            Mark::Ad => Called::Command(judge_advance_body(table, body)),
-            Mark::Bg => Called::Command(judge_begin_body(table, body)),
-            Mark::Ob => {
-                Called::Observation(judge_observation_body(table, body, &mut ids, &mut counts))
-            }
+            Mark::Mk => Called::Command(judge_marker_body(t, body)),
+            Mark::Ad => Called::Command(judge_advance_body(t, body)),
+            Mark::Bg => Called::Command(judge_begin_body(t, body)),
+            Mark::Ob => Called::Observation(judge_observation_body(t, body, &mut ids, &mut counts)),
             Mark::Tb => Called::Command(Judged::Refuse(Answer::BadRecord)),
             Mark::Unknown => Called::Command(Judged::Refuse(Answer::BadRecord)),
         };
-        if is_change(called) {
-            table = make_record(table, body, called);
+        match route_of_called(called) {
+            ROUTE_SNAPSHOT => t = snapshot_table(t, advance_in(body)),
+            ROUTE_CAUGHT_UP => t = catch_up_table(t, advance_in(body)),
+            ROUTE_CONTINUATION => t = continue_table(t, advance_in(body)),
+            ROUTE_FENCE => t = fence_table(t, advance_in(body)),
+            ROUTE_FINALIZE => t = finalize_table(t, advance_in(body)),
+            ROUTE_BEGIN => t = begin_table(t, begin_in(body)),
+            MAKER_LEARNER => t = learner_table(t, cut_in(body)),
+            MAKER_JOINT => t = joint_table(t, cut_in(body)),
+            MAKER_UNIFORM => t = uniform_table(t, cut_in(body)),
+            _ => {}
         }
         let answer = answer_of_called(called);
-        place = put_turn(out, place, found, answer, table.revision);
+        place = put_turn(out, place, found, answer, t.revision);
     }
+    with_table(place, t)
+}
+
+// A place with the table that stands.
+fn with_table(place: Place, table: VoterSlotTable) -> Opened
+    ensures { λ r. ⌜ r ≡ openedAt place true table ⌝ }
+{
     Opened {
         place,
         stands: true,

@@ -1,21 +1,18 @@
-// One record at the table that stands: what it asks is judged, and then the next table is made, if
-// there is one. A body that changes the table is read twice, so that what was judged is a small value.
+// One record at the table that stands: what it asks is judged, and the next table, if there is one, is
+// made by one of nine makers, which a number stands for. A body that changes the table is read twice,
+// so that what was judged is a small value.
 //
 // Document 01, section "Replay program". No part of the original has it.
 ghost use Prim.Native.Nat.{_+_, _≤_};
-ghost use mathlib.Core.Bool.{true};
 ghost use mathlib.Core.Path.{_≡_};
 ghost use lib.ListN.{length, take, drop};
 ghost use Rattle.identity.specs.declared.answer.Answer.the-variants.{Accepted};
 ghost use Rattle.records.specs.Validation.{validate};
 ghost use Rattle.control.specs.Verdicts.{verdictOf};
-ghost use Rattle.control.specs.VerdictLaws.{isStep};
-ghost use Rattle.control.specs.Judgement.Move.{begins};
-ghost use Rattle.control.specs.Judgement.Verdict.{moves};
 ghost use Rattle.control.specs.ObserveSight.{verdictOfObserved, weighed};
 ghost use Rattle.journal.specs.declared.replay.Mark.the-variants.{Ad, Bg, Mk, Ob};
 ghost use Rattle.journal.specs.Replay.{asking};
-ghost use Rattle.journal.specs.Step.{Makes, MakesCommand, MakesObservation, answerOfCalled, changes, checkedCall, commandVerdict, cutAt, madeBy, madeByCommand, madeByObservation, numbered, observationVerdict};
+ghost use Rattle.journal.specs.Step.{HoldsAdvance, HoldsBegin, Makes, answerOfCalled, changes, checkedCall, commandVerdict, cutAt, madeBy, numbered, observationVerdict, routeOfCalled, routeOfObservation};
 use crate::bodies::Asks;
 use crate::bodies::read_advance;
 use crate::bodies::read_begin;
@@ -23,13 +20,16 @@ use crate::bodies::read_marker;
 use crate::observation::ObservationRead;
 use crate::observation::read_observation;
 use crate::replay::Mark;
+use control::begin::VoterBegin;
 use control::begin::begin_table;
 use control::begin::judge_begin;
+use control::control::VoterAdvance;
 use control::judge::Judged;
 use control::judge::ROUTE_BEGIN;
 use control::judge::ROUTE_CAUGHT_UP;
 use control::judge::ROUTE_CONTINUATION;
 use control::judge::ROUTE_FENCE;
+use control::judge::ROUTE_FINALIZE;
 use control::judge::ROUTE_NONE;
 use control::judge::ROUTE_SNAPSHOT;
 use control::judge::answer_of;
@@ -43,13 +43,9 @@ use control::make::fence_table;
 use control::make::finalize_table;
 use control::make::snapshot_table;
 use control::observe::Observed;
-use control::observe::ROUTE_JOINT;
-use control::observe::ROUTE_LEARNER;
-use control::observe::ROUTE_UNIFORM;
 use control::observe::answer_of_observed;
 use control::observe::joint_table;
 use control::observe::learner_table;
-use control::observe::route_of_observed;
 use control::observe::uniform_table;
 use control::observe::weigh;
 use control::representable::is_representable_request;
@@ -61,6 +57,13 @@ use records::blank::blank_voter_slot_log_id;
 use records::evidence::is_valid_log_id;
 use records::records::VoterSlotLogId;
 use records::records::VoterSlotTable;
+
+// The makers of an observation, after the six of the commands (`ROUTE_SNAPSHOT` and the like).
+pub const MAKER_LEARNER: u64 = 7;
+
+pub const MAKER_JOINT: u64 = 8;
+
+pub const MAKER_UNIFORM: u64 = 9;
 
 // What a record comes to at a table that stands, before anything is made.
 pub enum Called {
@@ -77,14 +80,34 @@ pub fn answer_of_called(called: Called) -> Answer
     }
 }
 
+// The number of the maker, 0 for none: 1 to 6 for commands, as control has them.
+pub fn route_of_called(called: Called) -> u64
+    ensures { λ r. ⌜ r ≡ routeOfCalled called ⌝ }
+{
+    match called {
+        Called::Command(judged) => route(judged),
+        Called::Observation(observed) => route_of_observation(observed),
+    }
+}
+
+// 7 to 9 for observations.
+fn route_of_observation(observed: Observed) -> u64
+    ensures { λ r. ⌜ r ≡ routeOfObservation (verdictOfObserved observed) ⌝ }
+{
+    match observed {
+        Observed::Refuse(_) => ROUTE_NONE,
+        Observed::Keep => ROUTE_NONE,
+        Observed::AddLearner => MAKER_LEARNER,
+        Observed::AddJoint => MAKER_JOINT,
+        Observed::AddUniform => MAKER_UNIFORM,
+    }
+}
+
 // Whether the table changes.
 pub fn is_change(called: Called) -> bool
     ensures { λ r. ⌜ r ≡ changes called ⌝ }
 {
-    match called {
-        Called::Command(judged) => 0 < route(judged),
-        Called::Observation(observed) => 0 < route_of_observed(observed),
-    }
+    0 < route_of_called(called)
 }
 
 // What a call on a valid table asks before it is judged: 30, and 25 for a zero in the cut.
@@ -171,67 +194,46 @@ fn weigh_read(t: VoterSlotTable, read: ObservationRead, ids: &[u64], counts: &[u
     weigh(t, &ids[..set_ids], &counts[..sets], &ids[set_ids..end], cut)
 }
 
-// The table after the record.
+// The table after the record. Where the table that stands is to be changed, its owner chooses the maker
+// itself, as `play_on` does: what this returns is copied.
 pub fn make_record(t: VoterSlotTable, body: &[u8], called: Called) -> VoterSlotTable
     requires { ⌜ Makes t (now body) called ⌝ }
     ensures { λ r. ⌜ r ≡ madeBy t (now (body .entry)) called ⌝ }
 {
-    match called {
-        Called::Command(judged) => make_command(t, body, judged),
-        Called::Observation(observed) => make_observation(t, body, observed),
-    }
-}
-
-fn make_command(t: VoterSlotTable, body: &[u8], judged: Judged) -> VoterSlotTable
-    requires { ⌜ MakesCommand t (now body) (verdictOf judged) ⌝ }
-    ensures { λ r. ⌜ r ≡ madeByCommand t (now (body .entry)) (verdictOf judged) ⌝ }
-{
-    match route(judged) {
-        ROUTE_NONE => t,
-        ROUTE_BEGIN => make_begin(t, body, judged),
-        _ => make_advance(t, body, judged),
-    }
-}
-
-fn make_begin(t: VoterSlotTable, body: &[u8], judged: Judged) -> VoterSlotTable
-    requires { ⌜ MakesCommand t (now body) (verdictOf judged) × (verdictOf judged ≡ moves begins) ⌝ }
-    ensures { λ r. ⌜ r ≡ madeByCommand t (now (body .entry)) (verdictOf judged) ⌝ }
-{
-    let read = read_begin(body);
-    let begin = read.value;
-    begin_table(t, begin)
-}
-
-fn make_advance(t: VoterSlotTable, body: &[u8], judged: Judged) -> VoterSlotTable
-    requires { ⌜ MakesCommand t (now body) (verdictOf judged) × (isStep (verdictOf judged) ≡ true) ⌝ }
-    ensures { λ r. ⌜ r ≡ madeByCommand t (now (body .entry)) (verdictOf judged) ⌝ }
-{
-    let read = read_advance(body);
-    let advance = read.value;
-    match route(judged) {
-        ROUTE_SNAPSHOT => snapshot_table(t, advance),
-        ROUTE_CAUGHT_UP => catch_up_table(t, advance),
-        ROUTE_CONTINUATION => continue_table(t, advance),
-        ROUTE_FENCE => fence_table(t, advance),
-        _ => finalize_table(t, advance),
-    }
-}
-
-fn make_observation(t: VoterSlotTable, body: &[u8], observed: Observed) -> VoterSlotTable
-    requires { ⌜ MakesObservation t (now body) (verdictOfObserved observed) ⌝ }
-    ensures { λ r. ⌜ r ≡ madeByObservation t (now (body .entry)) (verdictOfObserved observed) ⌝ }
-{
-    let cut = cut_of(body);
-    match route_of_observed(observed) {
-        ROUTE_LEARNER => learner_table(t, cut),
-        ROUTE_JOINT => joint_table(t, cut),
-        ROUTE_UNIFORM => uniform_table(t, cut),
+    match route_of_called(called) {
+        ROUTE_SNAPSHOT => snapshot_table(t, advance_in(body)),
+        ROUTE_CAUGHT_UP => catch_up_table(t, advance_in(body)),
+        ROUTE_CONTINUATION => continue_table(t, advance_in(body)),
+        ROUTE_FENCE => fence_table(t, advance_in(body)),
+        ROUTE_FINALIZE => finalize_table(t, advance_in(body)),
+        ROUTE_BEGIN => begin_table(t, begin_in(body)),
+        MAKER_LEARNER => learner_table(t, cut_in(body)),
+        MAKER_JOINT => joint_table(t, cut_in(body)),
+        MAKER_UNIFORM => uniform_table(t, cut_in(body)),
         _ => t,
     }
 }
 
+// ---- what a body that was judged holds, read again for a maker
+
+// The Advance.
+pub fn advance_in(body: &[u8]) -> VoterAdvance
+    ensures { λ r. ⌜ HoldsAdvance (now (body .entry)) r ⌝ }
+{
+    let read = read_advance(body);
+    read.value
+}
+
+// The Begin.
+pub fn begin_in(body: &[u8]) -> VoterBegin
+    ensures { λ r. ⌜ HoldsBegin (now (body .entry)) r ⌝ }
+{
+    let read = read_begin(body);
+    read.value
+}
+
 // The cut that a body begins with.
-fn cut_of(body: &[u8]) -> VoterSlotLogId
+pub fn cut_in(body: &[u8]) -> VoterSlotLogId
     ensures { λ r. ⌜ r ≡ cutAt (now (body .entry)) ⌝ }
 {
     let read = read_log_id(body);

@@ -1,7 +1,7 @@
--- `journal::step::cut_of` meets its contract. Assumes nothing.
+-- `journal::step::cut_in` meets its contract. Assumes nothing.
 use borrow.Author.Needs.{needs}
-use Rattle.journal.proofs.step.cut_of.Statement.{statement}
-use Rattle.journal.proofs.step.cut_of.Tie as tie
+use Rattle.journal.proofs.step.cut_in.Statement.{statement}
+use Rattle.journal.proofs.step.cut_in.Tie as tie
 use mathlib.Core.Path.{sym, ap, _∙_}
 use Rattle.layout.specs.Reading.{logIdRead}
 use Rattle.journal.specs.Step.{cutBy}
@@ -26,8 +26,8 @@ returns-2 : tie.Need-returns-2
 unfolding cutBy
 returns-2 c = c .blank-voter-slot-log-id .ensures ∙ sym (ap cutBy (sym (c .before .before .before .read-log-id .ensures) ∙ ap logIdRead (c .before .enum-told .given .1)))
 
-pub cut-of-spec : {M : Type 1} → statement M
-cut-of-spec =
+pub cut-in-spec : {M : Type 1} → statement M
+cut-in-spec =
     tie.close
     (tie.spec
     read-log-id-requires
