@@ -1,5 +1,6 @@
 #!/usr/bin/env python3
-"""Writes the proofs of the thin calls over `&mut VoterSlotTable` that go by a verdict: crates/control/proofs/MODULE/NAME/Proof.antt.
+"""Writes the proofs of the thin calls over `&mut VoterSlotTable` that go by a verdict: crates/control/proofs/MODULE/NAME/Proof.antt,
+and crates/control/proofs/FAMILY.antt, the law of calls that have the same makers and differ in their judge.
 
 Run it from the root of the repository: python3 scripts/thin.py [NAME ..] (all of them, where none is named). Such a call is
 
@@ -10,7 +11,10 @@ Run it from the root of the repository: python3 scripts/thin.py [NAME ..] (all o
 or, with slices that are lent to the judge alone, JUDGE(*t, s1, s2, s3, c). Its proof cites the law that scripts/gen_judged.py writes (proofs/JudgedN.antt, for N makers). What differs from call to call stands in CALLS below: the struct that is the
 last parameter (p in the text), the types of the elements of the slices (s₁ to s₃ in the text), the number of the first maker where it is not 1, the judge and its verdict, the pair of answer and table, what is made, and for each maker its module, its move, its table and what it requires, with
 the term that shows it, in which {move} is the move and {told} that the verdict is this move. The makers stand in the order of their numbers, which `routeOf` gives.
+Of calls with the same makers all but the judge stands once, in FAMILIES: there the verdict, the outcome, what a verdict that makes a table tells (`knows`) and that the verdict gives the outcome
+(`carries`) are variables of the law, and the call says what they are.
 """
+import re
 import subprocess
 import sys
 
@@ -29,11 +33,6 @@ def steps(paths, is_advance, held, step, cut, valid='valid'):
         ('fence', paths[3], 'fences', 'fencedAt h (%s)' % cut, ROOM, room),
         ('final', paths[4], 'finalizes', 'finalized h (%s)' % cut, TARGET, both),
     ]
-
-
-def additions(room):
-    """The makers of an observation; `room` shows from {told}, that the verdict is the maker's, that there is room for the change."""
-    return [(tag, 'observe.%s_table' % tag, 'adds' + tag.capitalize(), 'added h p adds' + tag.capitalize(), 'Room h', room) for tag in ('learner', 'joint', 'uniform')]
 
 
 # What all observations have; a command has the rest of what stands in SHARED.
@@ -108,77 +107,96 @@ CALLS = {
     },
     'apply_in_place': {
         'module': 'apply',
-        'param': 'VoterCommand',
+        'family': 'Commands',
         'judge': 'command.judge_command',
         'verdict': 'judge h (p .control) (p .cut)',
         'outcome': 'appliedOf h (p .control) (p .cut)',
+        'knows': 'λ m e. (valid, e)',
+        'carries': 'refl',
+        'uses': ['use Rattle.control.specs.Judgement.{judge}',
+                 'use Rattle.control.specs.Verdicts.{appliedOf, verdictOf}'],
+    },
+    'apply_control_in_place': {
+        'requires': False,
+        'module': 'apply',
+        'family': 'Commands',
+        'judge': 'apply.judge_entry',
+        'verdict': 'entryVerdict h (p .control) (p .cut)',
+        'outcome': 'applyControl h (p .control) (p .cut)',
+        'knows': 'entry-moves h (p .control) (p .cut)',
+        'carries': 'entry-carried h (p .control) (p .cut)',
+        'uses': ['use Rattle.control.specs.Control.{applyControl}',
+                 'use Rattle.control.specs.Verdicts.{entryVerdict, verdictOf}',
+                 'use Rattle.control.specs.VerdictLaws.{entry-carried, entry-moves}'],
+    },
+    'observe_in_place': {
+        'module': 'observe',
+        'family': 'Observations',
+        'judge': 'observe.weigh',
+        'verdict': 'weighed h (s₁ .now) (s₂ .now) (s₃ .now) p',
+        'knows': 'λ m e. weighed-room h (s₁ .now) (s₂ .now) (s₃ .now) p (ap isChange e)',
+        'carries': 'sym (observes-valid h (s₁ .now) (s₂ .now) (s₃ .now) p valid)',
+        'uses': ['use Rattle.control.specs.Observation.{observeMembership}',
+                 'use Rattle.control.specs.ObserveSight.{isChange, verdictOfObserved, weighed}',
+                 'use Rattle.control.specs.ObserveLaws.{observes-valid, weighed-room}'],
+    },
+    'observe_membership_in_place': {
+        'requires': False,
+        'module': 'observe',
+        'family': 'Observations',
+        'judge': 'observe.weigh_entry',
+        'verdict': 'entryWeighed h (s₁ .now) (s₂ .now) (s₃ .now) p',
+        'knows': 'λ m e. entry-room h (s₁ .now) (s₂ .now) (s₃ .now) p (ap isChange e)',
+        'carries': 'sym (observes-entry h (s₁ .now) (s₂ .now) (s₃ .now) p)',
+        'uses': ['use Rattle.control.specs.Observation.{observeMembership}',
+                 'use Rattle.control.specs.ObserveSight.{entryWeighed, isChange, verdictOfObserved}',
+                 'use Rattle.control.specs.ObserveLaws.{entry-room, observes-entry}'],
+    },
+}
+
+# The calls that have the same makers. `known` is the type of what a verdict that makes a table tells.
+FAMILIES = {
+    'Commands': {
+        'of-what': 'a command',
+        'param': 'VoterCommand',
+        'verdict': 'verdict',
+        'outcome': 'outcome',
+        'end': ' ∙ carries',
+        'known': '(validate h ≡ Accepted) × (judge h (p .control) (p .cut) ≡ moves m)',
         'making': 'made h (p .control) (p .cut)',
         'unfolding': 'made',
         'stays': 'command-none h (p .control) (p .cut)',
         'uses': ['use Rattle.control.specs.Judgement.{judge, made}',
                  'use Rattle.control.specs.BeginVerdictLaws.{begin-room}',
                  'use Rattle.control.specs.Control.{begun, caughtUpRecorded, continued, currentConfiguration, fencedAt, finalized, full, namedIndex, snapshotRecorded, targetIndex}',
-                 'use Rattle.control.specs.Verdicts.{advanceIn, answerOf, appliedOf, beginIn, routeOf, verdictOf}',
+                 'use Rattle.control.specs.Verdicts.{advanceIn, answerOf, beginIn, routeOf, verdictOf}',
                  'use Rattle.control.specs.VerdictLaws.{begin-begins, command-none, isMove, room-as, routed-to, step-advance, target-as}'],
         'makers': steps(['command.' + n for n in ('make_snapshot', 'make_caught_up', 'make_continuation', 'make_fence', 'make_finalize')],
-                        '(step-advance h (p .control) (p .cut) {move} refl {told})', '(advanceIn (p .control) (p .cut))', 'p .control .step', 'p .cut')
+                        '(step-advance h (p .control) (p .cut) {move} refl (knows {move} {told} .1))', '(advanceIn (p .control) (p .cut))', 'p .control .step', 'p .cut', '(knows {move} {told} .0)')
         + [('begin', 'command.make_begin', 'begins', 'begun h (p .control .request) (p .cut)',
             '(h .revision ≡ full → ⊥) × ((currentConfiguration h .epoch ≡ full → ⊥) × ((h .count ≤ 9) × (namedIndex h (p .control .request) < h .count)))',
-            'begin-room h (beginIn (p .control) (p .cut)) valid (ap isMove (begin-begins h (p .control) (p .cut) {told}))')],
+            'begin-room h (beginIn (p .control) (p .cut)) (knows {move} {told} .0) (ap isMove (begin-begins h (p .control) (p .cut) (knows {move} {told} .1)))')],
     },
-    'apply_control_in_place': {
-        'requires': False,
-        'module': 'apply',
-        'param': 'VoterCommand',
-        'judge': 'apply.judge_entry',
-        'verdict': 'entryVerdict h (p .control) (p .cut)',
-        'outcome': 'applyControl h (p .control) (p .cut)',
-        'end': ' ∙ entry-carried h (p .control) (p .cut)',
-        'making': 'made h (p .control) (p .cut)',
-        'unfolding': 'made',
-        'stays': 'command-none h (p .control) (p .cut)',
-        'uses': ['use Rattle.control.specs.Judgement.{made}',
-                 'use Rattle.control.specs.BeginVerdictLaws.{begin-room}',
-                 'use Rattle.control.specs.Control.{applyControl, begun, caughtUpRecorded, continued, currentConfiguration, fencedAt, finalized, full, namedIndex, snapshotRecorded, targetIndex}',
-                 'use Rattle.control.specs.Verdicts.{advanceIn, answerOf, beginIn, entryVerdict, routeOf, verdictOf}',
-                 'use Rattle.control.specs.VerdictLaws.{begin-begins, command-none, entry-carried, entry-moves, isMove, room-as, routed-to, step-advance, target-as}'],
-        'makers': steps(['command.' + n for n in ('make_snapshot', 'make_caught_up', 'make_continuation', 'make_fence', 'make_finalize')],
-                        '(step-advance h (p .control) (p .cut) {move} refl (entry-moves h (p .control) (p .cut) {move} {told} .1))', '(advanceIn (p .control) (p .cut))', 'p .control .step', 'p .cut', '(entry-moves h (p .control) (p .cut) {move} {told} .0)')
-        + [('begin', 'command.make_begin', 'begins', 'begun h (p .control .request) (p .cut)',
-            '(h .revision ≡ full → ⊥) × ((currentConfiguration h .epoch ≡ full → ⊥) × ((h .count ≤ 9) × (namedIndex h (p .control .request) < h .count)))',
-            'begin-room h (beginIn (p .control) (p .cut)) (entry-moves h (p .control) (p .cut) {move} {told} .0) (ap isMove (begin-begins h (p .control) (p .cut) (entry-moves h (p .control) (p .cut) {move} {told} .1)))')],
-    },
-    'observe_in_place': {
-        'module': 'observe',
+    'Observations': dict(OBSERVED, **{
+        'of-what': 'an observation',
         'slices': ['u64', 'usize', 'u64'],
-        'judge': 'observe.weigh',
-        'verdict': 'weighed h (s₁ .now) (s₂ .now) (s₃ .now) p',
-        'end': ' ∙ sym (observes-valid h (s₁ .now) (s₂ .now) (s₃ .now) p valid)',
+        'verdict': 'verdict',
+        'outcome': 'outcome',
+        'end': ' ∙ carries',
+        'known': 'Room h',
         'uses': ['use Rattle.control.specs.Judgement.{added}',
-                 'use Rattle.control.specs.Observation.{observeMembership}',
-                 'use Rattle.control.specs.ObserveSight.{Room, answerOfObserved, isChange, routeOfObserved, verdictOfObserved, weighed}',
-                 'use Rattle.control.specs.ObserveLaws.{observes-valid, routed-none, routed-to, weighed-room}'],
-        'makers': additions('weighed-room h (s₁ .now) (s₂ .now) (s₃ .now) p (ap isChange {told})'),
-    },
-    'observe_membership_in_place': {
-        'requires': False,
-        'module': 'observe',
-        'slices': ['u64', 'usize', 'u64'],
-        'judge': 'observe.weigh_entry',
-        'verdict': 'entryWeighed h (s₁ .now) (s₂ .now) (s₃ .now) p',
-        'end': ' ∙ sym (observes-entry h (s₁ .now) (s₂ .now) (s₃ .now) p)',
-        'uses': ['use Rattle.control.specs.Judgement.{added}',
-                 'use Rattle.control.specs.Observation.{observeMembership}',
-                 'use Rattle.control.specs.ObserveSight.{Room, answerOfObserved, entryWeighed, isChange, routeOfObserved, verdictOfObserved}',
-                 'use Rattle.control.specs.ObserveLaws.{entry-room, observes-entry, routed-none, routed-to}'],
-        'makers': additions('entry-room h (s₁ .now) (s₂ .now) (s₃ .now) p (ap isChange {told})'),
-    },
+                 'use Rattle.control.specs.ObserveSight.{Room, answerOfObserved, routeOfObserved, verdictOfObserved}',
+                 'use Rattle.control.specs.ObserveLaws.{routed-none, routed-to}'],
+        'makers': [(tag, 'observe.%s_table' % tag, 'adds' + tag.capitalize(), 'added h p adds' + tag.capitalize(), 'Room h', 'knows {move} {told}') for tag in ('learner', 'joint', 'uniform')],
+    }),
 }
 
 HEAD = '''-- `control::{module}::{name}` meets its contract: the law of a thin call that goes by a verdict (`{law}`), at its types and its cores. Written by scripts/thin.py.
 -- All that is known of the cores is that they meet their contracts.
 -- Assumes nothing.
-use mathlib.Core.Path.{{_≡_, refl, sym, _∙_, ap, ap₂}}
+'''
+
+USES = '''use mathlib.Core.Path.{{_≡_, refl, sym, _∙_, ap, ap₂}}
 use Prim.Native.Nat.{{ℕ, _<_, _≤_}}
 use mathlib.Core.List.{{[], _∷_, List}}
 use native.Mathlib.Omega.{{arith}}
@@ -221,7 +239,7 @@ use Rattle.records.proofs.records.VoterSlotTable as Tt
 use Rattle.records.proofs.records.VoterSlotTable.Laws as T′
 use {of}.specs.declared.{home}.{param}.{{{param}}}
 use Rattle.control.specs.declared.{judging}.{Judged}.{{{Judged}}}
-use Rattle.control.specs.Judgement.{{{Move}, carried}}
+use Rattle.control.specs.Judgement.{{{judgement}}}
 use Rattle.control.specs.Judgement.Verdict.{{moves}}
 use Rattle.control.specs.Judgement.{Move}.{{{ctors}}}
 {uses}
@@ -232,37 +250,61 @@ use Rattle.control.proofs.{judging}.{Judged}.Laws as E′
 use Rattle.control.proofs.Known.{{asked, gives, held}}
 use Rattle.control.proofs.{law} as law
 use Rattle.control.proofs.{parts}.{{tval, known}}
-{cores}
-use Rattle.control.proofs.{module}.{name}.Key.{{name as #thin}}
+{family-uses}{cores}
+'''
+
+OWN_USES = '''use Rattle.control.proofs.{module}.{name}.Key.{{name as #thin}}
 use Rattle.control.proofs.{module}.{name} as thin
 use Rattle.control.proofs.{module}.{name}.Statement as stated
 use Rattle.control.proofs.{module}.{name}.Code as code
+'''
 
+LAW_HEAD = '''-- The law of the thin calls that make what {of-what} makes: `{law}` at its types and its makers, for
+-- any judge that gives the verdict. `knows` is what a verdict that makes a table tells, `carries` that
+-- the verdict gives the outcome. All that is known of the makers is that they meet their contracts.
+-- Written by scripts/thin.py. Assumes `Given`.
+'''
+
+CALL_HEAD = '''-- `control::{module}::{name}` meets its contract: the law of its family (`{family}`), at its judge.
+-- Written by scripts/thin.py. Assumes nothing.
+'''
+
+BY_FAMILY = '''walks 𝓤 H A W at-mem run κ {lft-names}q b o γ h {list-names}p {list-is}p-is ({verdict}) ({outcome}) ({knows}) ({carries})
+      (Judge 𝓤 H A at-mem run .pre to-judge) X Y Z (Judge 𝓤 H A at-mem run .post to-judge) Post ends C Λ fm #judge (met-j to-judge) goes-judge comes-judge cores'''
+
+STAYED = '''
 abbrev stayed : Stays (thin.ended .signature .params) (thin.ended .kept)
 stayed = {stays-as}
+'''
 
+VALUES = '''
 abbrev pair : Answer → VoterSlotTable → Answer × VoterSlotTable
 pair w n = (w, n)
 
 -- the last parameter's machine value
-abbrev pval : {param} → Val
+abbrev {pub}pval : {param} → Val
 pval c = LL.val P.the-type P′.the-laws c
+'''
 
+CONTRACTS = '''
 module _ {{M : Type 1}} (𝓤 : URA M) (H : Heap 𝓤) (A : Atoms 𝓤) (at-mem : Memory → SProp 𝓤) (run : Routine → Fun 𝓤) where
   -- the cores' contracts, and of what they ensure the clause alone
-  abbrev Judge : Contract 𝓤
+'''
+
+JUDGE = '''  abbrev Judge : Contract 𝓤
   Judge = tripleOf 𝓤 H A judges.signature (judges.spec 𝓤 H A at-mem run)
 
   judge-of : {lfts-are}(h : VoterSlotTable) {lists-are}(p : {param}) (r : {Judged}) → ent 𝓤 (ensured 𝓤 H A judges.ended (judges.clauses 𝓤 H A at-mem run) {lfts} {args} tt r) (fact 𝓤 ({verdictOf} r ≡ {verdict}))
   judge-of {lft-names}h {list-names}p r = exE 𝓤 _ (λ ws. snd∗ 𝓤 (sem 𝓤 H A (lasts judges.ended {lfts} {args} ws)) (fact 𝓤 ({verdictOf} r ≡ {verdict})))
+'''
 
-  abbrev Test : Contract 𝓤
+CORES = '''  abbrev {pub}Test : Contract 𝓤
   Test = tripleOf 𝓤 H A test.signature (test.spec 𝓤 H A at-mem run)
 
   test-of : (a : {Judged}) (r : ℕ) → ent 𝓤 (ensured 𝓤 H A test.ended (test.clauses 𝓤 H A at-mem run) tt (a, tt) tt r) (fact 𝓤 (r ≡ {routeOf} ({verdictOf} a)))
   test-of a r = exE 𝓤 _ (λ ws. snd∗ 𝓤 (sem 𝓤 H A (lasts test.ended tt (a, tt) ws)) (fact 𝓤 (r ≡ {routeOf} ({verdictOf} a))))
 
-  abbrev Answers : Contract 𝓤
+  abbrev {pub}Answers : Contract 𝓤
   Answers = tripleOf 𝓤 H A answer.signature (answer.spec 𝓤 H A at-mem run)
 
   answer-of : (a : {Judged}) (r : Answer) → ent 𝓤 (ensured 𝓤 H A answer.ended (answer.clauses 𝓤 H A at-mem run) tt (a, tt) tt r) (fact 𝓤 (r ≡ {answerOf} ({verdictOf} a)))
@@ -270,7 +312,7 @@ module _ {{M : Type 1}} (𝓤 : URA M) (H : Heap 𝓤) (A : Atoms 𝓤) (at-mem 
 '''
 
 OF = '''
-  abbrev {Tag} : Contract 𝓤
+  abbrev {pub}{Tag} : Contract 𝓤
   {Tag} = tripleOf 𝓤 H A {tag}.signature ({tag}.spec 𝓤 H A at-mem run)
 
   {tag}-of : (h : VoterSlotTable) (p : {param}) (r : VoterSlotTable) → ent 𝓤 (ensured 𝓤 H A {tag}.ended ({tag}.clauses 𝓤 H A at-mem run) tt (h, (p, tt)) tt r) (fact 𝓤 (r ≡ {table}))
@@ -304,10 +346,14 @@ module _ {{M : Type 1}} (𝓤 : URA M) (H : Heap 𝓤) (A : Atoms 𝓤) (W : Giv
   abbrev Y : SProp 𝓤
   Y = {Y}
 
-  -- what is to hold at the end
+'''
+
+RIGHT = '''  -- what is to hold at the end
   abbrev Right : Answer → VoterSlotTable → Type 0
   Right w n = _≡_ {{A = Answer × VoterSlotTable}} (w, n) ({outcome})
+'''
 
+JUDGED = '''
   ends : (w : Answer) (v : Val) → Is B.the-row w (v ∷ []) → (n : VoterSlotTable) → Right w n → ent 𝓤 (held 𝓤 A Tt.the-row κ q b o γ n (sep 𝓤 Y Z)) (Post v)
   ends w v is n e =
       qed W (‵ (fobs γ (Tt.the-row .coded .code n)) ∷ ‵ (fbor κ (Body (mem Tt.the-row) b o γ)) ∷ ‵ (flft κ q) ∷ {Y-parts} ∷ {Z-parts} ∷ []) ∵
@@ -350,7 +396,7 @@ MAKER = '''
   comes-{tag} v = gives 𝓤 H A W Tt.the-row v (ensured 𝓤 H A {tag}.ended ({tag}.clauses 𝓤 H A at-mem run) tt (h, (p, tt)) tt) (λ (r : VoterSlotTable). r ≡ {table}) ({tag}-of 𝓤 H A at-mem run h p)
 '''
 
-TAIL = '''
+TOLD = '''
   abbrev to-test : {Judged} → Val → Test 𝓤 H A at-mem run .Ghost
   to-test r v = ((tt, tt, tt, (r, tt), (v ∷ [], tt)), tt)
 
@@ -385,34 +431,66 @@ TAIL = '''
       ap (λ (z : Answer). pair z h) a
       ∙ ({stays} ({verdictOf} r) {offs}
       ∙ (ap (carried ({making}) h) e{end}))
+'''
 
-  walk : (C : Calls 𝓤 H) (Λ : Loops 𝓤 H) → FmC 𝓤 H (W .laws) C → Triple 𝓤 (C #judge) (Judge 𝓤 H A at-mem run) → Triple 𝓤 (C #test) (Test 𝓤 H A at-mem run) → Triple 𝓤 (C #answer) (Answers 𝓤 H A at-mem run) → {triples}
-      → ent 𝓤 (onEntry 𝓤 H A thin.signature {all-lfts} {all-shares} x at) (WpFn 𝓤 H C Λ code.function (vptr b o ∷ {list-vals}pval p ∷ []) Post)
-  unfolding {unfolding}
-  walk C Λ fm met-j met-t met-a {mets} =
-      qed W ({tokens} ∷ ‵ (owns (MutRef (named 0) κ (Tt.the-row) ∷ {list-types}P.the-row ∷ []) x at) ∷ []) ∵ {entry-apart} $
-      by ! (law.thin 𝓤 H A W Tt.the-row E.the-row B.the-row B′.mir E′.mir (pointee (Tt.the-row .written)) {list-mirs}P′.mir T′.mir (known 𝓤 H A W)
+# The law of the shape, at the types and the makers of a call or of a family of calls.
+THIN = '''law.thin 𝓤 H A W Tt.the-row E.the-row B.the-row B′.mir E′.mir (pointee (Tt.the-row .written)) {list-mirs}P′.mir T′.mir (known 𝓤 H A W)
       ((EL.makes E.the-type E′.the-plain) 𝓤 H A) (λ w u is. EL.lawful B.the-type B′.the-laws 𝓤 H A W tt .typed w _ is .0) κ q b o γ h {list-val-args}(pval p) {lists-lawful}(LL.lawful P.the-type P′.the-laws 𝓤 H A W .typed p _ p-is .0)
       (λ r. {verdictOf} r ≡ {verdict}) (λ r y. y ≡ {routeOf} ({verdictOf} r)) (λ r w. w ≡ {answerOf} ({verdictOf} r)) {psis}
-      (Judge 𝓤 H A at-mem run .pre to-judge) {pres} X Y Z
-      (Judge 𝓤 H A at-mem run .post to-judge) {posts} Post
+      {judge-pre} {pres} X Y Z
+      {judge-post} {posts} Post
       (λ r v. Test 𝓤 H A at-mem run .pre (to-test r v)) (λ r v. Answers 𝓤 H A at-mem run .pre (to-answer r v)) (λ r v. Test 𝓤 H A at-mem run .post (to-test r v)) (λ r v. Answers 𝓤 H A at-mem run .post (to-answer r v))
-      {lft-count} C Λ fm #judge #test #answer {names} (met-j to-judge) goes-judge comes-judge (λ r v. met-t (to-test r v)) goes-test comes-test (λ r v. met-a (to-answer r v)) goes-answer comes-answer
+      {lft-count} C Λ fm {judge-name} #test #answer {names} {judge-met} goes-judge comes-judge (λ r v. {test-met} (to-test r v)) goes-test comes-test (λ r v. {answer-met} (to-answer r v)) goes-answer comes-answer
 {arms}
-      (λ r e y c off w v is a. ends w v is h (stays-right r e y c off w a)))
+      (λ r e y c off w v is a. ends w v is h (stays-right r e y c off w a))'''
 
+# What a family's law takes of its cores: that each meets its contract.
+MET = '''
+  abbrev pub Cores : Calls 𝓤 H → Type 1
+  Cores C = {cores-type}
+'''
+
+LAW_MIDDLE = '''
+module _ {{M : Type 1}} (𝓤 : URA M) (H : Heap 𝓤) (A : Atoms 𝓤) (W : Given 𝓤 H A) (at-mem : Memory → SProp 𝓤) (run : Routine → Fun 𝓤) (κ : Lft) {lfts-are}(q : Share) (b o : ℕ) (γ : GName) (h : VoterSlotTable) {lists-are}(p : {param}) {lists-held}(p-is : Is P.the-row p (pval p ∷ []))
+    (verdict : Verdict {Move}) (outcome : Answer × VoterSlotTable) (knows : (m : {Move}) → verdict ≡ moves m → {known}) (carries : carried ({making}) h verdict ≡ outcome) where
+'''
+
+WALKS = '''
+  -- Pre and Q are the judge's at what it is called at; X is what it asks besides the table, Y what it
+  -- returns besides the verdict; Z is kept
+  pub walks : (Pre X Y Z : SProp 𝓤) (Q Post : Val → SProp 𝓤)
+      → ((w : Answer) (v : Val) → Is B.the-row w (v ∷ []) → (n : VoterSlotTable) → Right w n → ent 𝓤 (held 𝓤 A Tt.the-row κ q b o γ n (sep 𝓤 Y Z)) (Post v))
+      → (C : Calls 𝓤 H) (Λ : Loops 𝓤 H) → FmC 𝓤 H (W .laws) C → (f : Name) → ent 𝓤 Pre (C f (tval h ∷ {list-vals}pval p ∷ []) Q)
+      → ent 𝓤 (sep 𝓤 (sem 𝓤 H A (Tt.the-row .own h (tval h ∷ []))) X) Pre
+      → ((v : Val) → ent 𝓤 (Q v) (H .⇛ (ex 𝓤 (λ (r : {Judged}). sep 𝓤 (sep 𝓤 Y (sem 𝓤 H A (E.the-row .own r (v ∷ [])))) (fact 𝓤 ({verdictOf} r ≡ verdict))))))
+      → Cores 𝓤 H A at-mem run C
+      → ent 𝓤 (held 𝓤 A Tt.the-row κ q b o γ h (sep 𝓤 X Z)) (WpFn 𝓤 H C Λ (law.thinFn {lft-count} B′.mir E′.mir (pointee (Tt.the-row .written)) {list-mirs}P′.mir T′.mir f #test #answer {names}) (vptr b o ∷ {list-vals}pval p ∷ []) Post)
+  unfolding {unfolding}
+  walks Pre X Y Z Q Post ends C Λ fm f met-judge goes-judge comes-judge cores =
+      {thin}
+'''
+
+WALK = '''
+  walk : (C : Calls 𝓤 H) (Λ : Loops 𝓤 H) → FmC 𝓤 H (W .laws) C → Triple 𝓤 (C #judge) (Judge 𝓤 H A at-mem run) → {asks}
+      → ent 𝓤 (onEntry 𝓤 H A thin.signature {all-lfts} {all-shares} x at) (WpFn 𝓤 H C Λ code.function (vptr b o ∷ {list-vals}pval p ∷ []) Post)
+  {walk-unfolding}walk C Λ fm met-j {met-names} =
+      qed W ({tokens} ∷ ‵ (owns (MutRef (named 0) κ (Tt.the-row) ∷ {list-types}P.the-row ∷ []) x at) ∷ []) ∵ {entry-apart} $
+      by ! ({thin})
+'''
+
+MEETS = '''
 module _ {{M : Type 1}} (𝓤 : URA M) (H : Heap 𝓤) (A : Atoms 𝓤) (W : Given 𝓤 H A) (at-mem : Memory → SProp 𝓤) (run : Routine → Fun 𝓤) where
-  thin-walks : (C : Calls 𝓤 H) (Λ : Loops 𝓤 H) → FmC 𝓤 H (W .laws) C → Triple 𝓤 (C #judge) (Judge 𝓤 H A at-mem run) → Triple 𝓤 (C #test) (Test 𝓤 H A at-mem run) → Triple 𝓤 (C #answer) (Answers 𝓤 H A at-mem run) → {triples} → Walks 𝓤 H A thin.ended stayed (WpFn 𝓤 H C Λ code.function) (thin.clauses 𝓤 H A at-mem run)
-  thin-walks C Λ fm met-j met-t met-a {mets} = walked 𝓤 H A thin.ended stayed (thin.clauses 𝓤 H A at-mem run) (WpFn 𝓤 H C Λ code.function) (λ κs. {vals}) (λ κs. {tells})
-      (λ κs qs bounds a _ are. {entered} (walk 𝓤 H A W at-mem run {entry-args}{valid} C Λ fm met-j met-t met-a {mets}){entered-end})
+  thin-walks : (C : Calls 𝓤 H) (Λ : Loops 𝓤 H) → FmC 𝓤 H (W .laws) C → Triple 𝓤 (C #judge) (Judge 𝓤 H A at-mem run) → {asks} → Walks 𝓤 H A thin.ended stayed (WpFn 𝓤 H C Λ code.function) (thin.clauses 𝓤 H A at-mem run)
+  thin-walks C Λ fm met-j {met-names} = walked 𝓤 H A thin.ended stayed (thin.clauses 𝓤 H A at-mem run) (WpFn 𝓤 H C Λ code.function) (λ κs. {vals}) (λ κs. {tells})
+      (λ κs qs bounds a _ are. {entered} (walk 𝓤 H A W at-mem run {entry-args}{valid} C Λ fm met-j {met-names}){entered-end})
 
   goes : AllGo 𝓤 H A W {lft-count} (thin.signature .params) (thin.ended .kept) stayed
   goes = {all-go}
 
 thin-meets : {{M : Type 1}} (𝓤 : URA M) (H : Heap 𝓤) (A : Atoms 𝓤) (W : Given 𝓤 H A) (at-mem : Memory → SProp 𝓤) (run : Routine → Fun 𝓤) (𝓣 : Tables 𝓤 H)
-    → Triple 𝓤 (𝓣 .C #judge) (Judge 𝓤 H A at-mem run) → Triple 𝓤 (𝓣 .C #test) (Test 𝓤 H A at-mem run) → Triple 𝓤 (𝓣 .C #answer) (Answers 𝓤 H A at-mem run) → {table-triples} → Meets 𝓤 H A thin.signature (WpFn 𝓤 H (𝓣 .C) (𝓣 .Λ) code.function) (thin.spec 𝓤 H A at-mem run)
-thin-meets 𝓤 H A W at-mem run 𝓣 met-j met-t met-a {mets} = walk-meets 𝓤 H A thin.ended stayed W (goes 𝓤 H A W at-mem run) (thin.clauses 𝓤 H A at-mem run) (WpFn 𝓤 H (𝓣 .C) (𝓣 .Λ) code.function) (WpFn-mono 𝓤 H (W .laws) 𝓣 code.function)
-    (thin-walks 𝓤 H A W at-mem run (𝓣 .C) (𝓣 .Λ) (fmOf 𝓤 H (W .laws) 𝓣) met-j met-t met-a {mets})
+    → Triple 𝓤 (𝓣 .C #judge) (Judge 𝓤 H A at-mem run) → {table-asks} → Meets 𝓤 H A thin.signature (WpFn 𝓤 H (𝓣 .C) (𝓣 .Λ) code.function) (thin.spec 𝓤 H A at-mem run)
+thin-meets 𝓤 H A W at-mem run 𝓣 met-j {met-names} = walk-meets 𝓤 H A thin.ended stayed W (goes 𝓤 H A W at-mem run) (thin.clauses 𝓤 H A at-mem run) (WpFn 𝓤 H (𝓣 .C) (𝓣 .Λ) code.function) (WpFn-mono 𝓤 H (W .laws) 𝓣 code.function)
+    (thin-walks 𝓤 H A W at-mem run (𝓣 .C) (𝓣 .Λ) (fmOf 𝓤 H (W .laws) 𝓣) met-j {met-names})
 
 pub {kebab}-spec : {{M : Type 1}} → stated.statement M
 unfolding code.routine tablesOf
@@ -424,14 +502,16 @@ unfolding code.routine tablesOf
 '''
 
 
-def core(tag, path):
+def core(tag, path, is_law=True, is_call=True):
+    """The modules of a core: a law speaks of its contract, and a call of its code and of the theorem that it meets the contract."""
     at = 'Rattle.control.proofs.' + path
-    return 'use {0} as {1}\nuse {0}.Symbol as {1}-def\nuse {0}.Symbol.{{name as #{2}}}\nuse {0}.Met as {1}-thm'.format(at, tag, {'judges': 'judge'}.get(tag, tag))
+    name = 'use %s.Symbol.{name as #%s}' % (at, {'judges': 'judge'}.get(tag, tag))
+    return '\n'.join(['use %s as %s' % (at, tag)] * is_law + ['use %s.Symbol as %s-def' % (at, tag)] * is_call + [name] + ['use %s.Met as %s-thm' % (at, tag)] * is_call)
 
 
 def cite(contract, name, tag, path):
     called = path.replace('.', '·').replace('_', '-')
-    return '    (cited 𝓤 H (%s 𝓤 H (𝓖 .A) (𝓜 .mem) (𝓡 .run)) 𝓜 𝓡 code.env #%s %s-def.routine code.calls-control·%s (%s-thm.met 𝓤 H 𝓜 𝓖 𝓡))' % (contract, name, tag, called, tag)
+    return '(cited 𝓤 H (%s 𝓤 H (𝓖 .A) (𝓜 .mem) (𝓡 .run)) 𝓜 𝓡 code.env #%s %s-def.routine code.calls-control·%s (%s-thm.met 𝓤 H 𝓜 𝓖 𝓡))' % (contract, name, tag, called, tag)
 
 
 def nest(parts):
@@ -494,6 +574,7 @@ def lent(elements):
         'entry-apart': 'split ! $ ' + up * n + 'move ! (%d ∷ []) $ fsplit ! $ fsplit3 ! $ drop ! $ ' % (n + 2)
         + (twice + 'move ! (3 ∷ 0 ∷ []) $ join ! $ move ! (4 ∷ 0 ∷ []) $ join ! $ move ! (3 ∷ 1 ∷ []) $ join ! $ move ! (3 ∷ 0 ∷ []) $ join ! $ move ! (5 ∷ 0 ∷ []) $ join ! $ move ! (6 ∷ 0 ∷ []) $ join ! $ '
            'move ! (6 ∷ 0 ∷ []) $ join ! $ keep ! (3 ∷ 4 ∷ 6 ∷ 0 ∷ 1 ∷ [])' if n else 'nothing ! $ keep ! (1 ∷ 2 ∷ 4 ∷ 5 ∷ 0 ∷ [])'),
+        'list-is': ''.join(x + '-is ' for x in lists),
         'slice-uses': 'use denote.Slice.{ShrSlice, sliceTy, sliceVal, slice-vals, shr-slice-tells, shr-slice-lawful, shr-slice-copy}\n' if n else '',
         'syntax-uses': 'use lib.ListN.{length}\nuse mir.Syntax.{named, imm, tyRef, tyInt, w64}\n' if n else 'use mir.Syntax.{named}\n',
         'fml': 'Fml, ' if n else '', 'use1': 'use1, ' if n else '', 'usize': ', usize' if n else '', 'stay-slice': 'stay-none-slice, ' if n else '', 'goes-slice': 'goes-none-slice, ' if n else '',
@@ -501,32 +582,46 @@ def lent(elements):
     return values
 
 
-def written(name):
-    call = CALLS[name]
+def values_of(call):
+    """What stands in the text of a call, or of the law of a family."""
     elements = call.get('slices', [])
-    call = dict(SHARED, **call) if not elements else dict(OBSERVED, **call)
+    call = dict(OBSERVED if elements else SHARED, **call)
     route, answers = call['routing']
-    makers = [dict(zip(('tag', 'path', 'ctor', 'table', 'requires', 'shows'), m), Tag=m[0].capitalize(), param=call['param']) for m in call['makers']]
+    is_law, family = 'of-what' in call, call.get('family')
+    pub = 'pub ' if is_law else ''
+    makers = [dict(zip(('tag', 'path', 'ctor', 'table', 'requires', 'shows'), m), Tag=m[0].capitalize(), param=call['param'], pub=pub) for m in call['makers']]
     n = len(makers)
+    # the cores but for the judge: their contracts, their tags, their modules
+    cores = [('Test', 'test', route), ('Answers', 'answer', answers)] + [(m['Tag'], m['tag'], m['path']) for m in makers]
+    met = ['cores .%d' % i for i in range(n + 2)] if is_law else ['met-t', 'met-a'] + ['met-' + m['tag'] for m in makers]
     none = 'Unit {0}'
     for j in range(1, n + 1):
         none = '(%s) × (y ≡ %d → ⊥)' % (none, j + call.get('first', 1) - 1)
     offs = ' '.join('(λ k. off%s .1 (c ∙ k))' % (' .0' * (n - j)) for j in range(1, n + 1))
     arms = []
-    for m in makers:
+    for m, meets in zip(makers, met[2:]):
         told = '(is-to r e y c %s on (λ z. absurd (omega arith)))' % m['ctor']
         out = m['shows'].format(move=m['ctor'], told=told)
-        arms.append('      (met-{tag} to-{tag}) (λ r e y c on. goes-{tag} ({shown})) comes-{tag}\n'
-                    '      (λ r e y c on n e′ w v is a. ends w v is n (right r e {ctor} {told} w a n e′))'.format(shown=out, told=told, **m))
-    triples = ' → '.join('Triple 𝓤 (C #{tag}) ({Tag} 𝓤 H A at-mem run)'.format(**m) for m in makers)
+        arms.append('      ({meets} to-{tag}) (λ r e y c on. goes-{tag} ({shown})) comes-{tag}\n'
+                    '      (λ r e y c on n e′ w v is a. ends w v is n (right r e {ctor} {told} w a n e′))'.format(shown=out, told=told, meets=meets, **m))
+    triples = ['Triple 𝓤 (C #%s) (%s 𝓤 H A at-mem run)' % (tag, contract) for contract, tag, path in cores]
+    asks = 'Cores 𝓤 H A at-mem run C' if family else ' → '.join(triples)
+    cites = [cite(contract, tag, tag, path) for contract, tag, path in cores]
     values = dict(
-        call, name=name, n=n, law='Judged%d' % n, kebab=name.replace('_', '-'), none='(%s)' % none, offs=offs, arms='\n'.join(arms), triples=triples,
-        uses='\n'.join(call['uses']), ctors=', '.join(m['ctor'] for m in makers), mets=' '.join('met-' + m['tag'] for m in makers),
+        call, n=n, pub=pub, law='Judged%d' % n, none='(%s)' % none, offs=offs, arms='\n'.join(arms), uses='\n'.join(call['uses']), ctors=', '.join(m['ctor'] for m in makers),
         psis=' '.join('(λ n. n ≡ %s)' % m['table'] for m in makers), pres=' '.join('({Tag} 𝓤 H A at-mem run .pre to-{tag})'.format(**m) for m in makers),
         posts=' '.join('({Tag} 𝓤 H A at-mem run .post to-{tag})'.format(**m) for m in makers), names=' '.join('#' + m['tag'] for m in makers),
-        cores='\n'.join([core('judges', call['judge']), core('test', route), core('answer', answers)] + [core(m['tag'], m['path']) for m in makers]),
-        cites='\n'.join([cite('Judge', 'judge', 'judges', call['judge']), cite('Test', 'test', 'test', route), cite('Answers', 'answer', 'answer', answers)]
-                        + [cite(m['Tag'], m['tag'], m['tag'], m['path']) for m in makers]))
+        judgement=call['Move'] + (', Verdict' if is_law else '') + ', carried')
+    contracts = ', '.join(contract for contract, tag, path in cores)
+    values['family-uses'] = 'use Rattle.control.proofs.%s.{pval, %s, Cores, walks}\n' % (family, contracts) if family else ''
+    values['cores'] = '\n'.join(([] if is_law else [core('judges', call['judge'])]) + [core(tag, path, not family, not is_law) for contract, tag, path in cores])
+    values['cores-type'] = ' × '.join('Triple 𝓤 (C #%s) %s' % (tag, contract) for contract, tag, path in cores)
+    values['asks'] = asks
+    values['table-asks'] = asks.replace('(C #', '(𝓣 .C #') if not family else 'Cores 𝓤 H A at-mem run (𝓣 .C)'
+    values['met-names'] = 'cores' if family else ' '.join(met)
+    values['judge-pre'], values['judge-post'] = ('Pre', 'Q') if is_law else ('(Judge 𝓤 H A at-mem run .pre to-judge)', '(Judge 𝓤 H A at-mem run .post to-judge)')
+    values['judge-name'], values['judge-met'] = ('f', 'met-judge') if is_law else ('#judge', '(met-j to-judge)')
+    values['test-met'], values['answer-met'] = met[:2]
     values.update(lent(elements))
     values.setdefault('home', 'begin' if call['param'] == 'VoterBegin' else 'control')
     values['arg-type'] = nest_type(['RefT VoterSlotTable'] + ['RefT (List ℕ)'] * len(elements) + [call['param']])
@@ -536,12 +631,51 @@ def written(name):
     values['valid'] = ' valid' if required else ''
     values['entered'] = 'asked 𝓤 (onEntry 𝓤 H A thin.signature κs qs a _) (validate (a .0 .now) ≡ Accepted) _ (λ valid.' if required else 'via 𝓤 _ (fst∗ 𝓤 _ (emp 𝓤))'
     values['entered-end'] = ')' if required else ''
-    values['table-triples'] = triples.replace('(C #', '(𝓣 .C #')
-    text = HEAD.format(**values)
-    text += ''.join(OF.format(**m) for m in makers)
-    text += MIDDLE.format(**values)
-    text += ''.join(MAKER.format(**m) for m in makers)
-    return text + TAIL.format(**values)
+    if is_law:
+        values['syntax-uses'] = values['syntax-uses'].replace('{named', '{Name, named')
+    values['walk-unfolding'] = '' if family else 'unfolding %s\n  ' % call['unfolding']
+    if not is_law:
+        judge = cite('Judge', 'judge', 'judges', call['judge'])
+        values['cites'] = '\n'.join('    ' + c for c in ([judge, '(' + ',\n    '.join(c[1:-1] for c in cites) + ')'] if family else [judge] + cites))
+    values['thin'] = (BY_FAMILY if family else THIN).format(**values)
+    return values, makers
+
+
+def made(makers, template):
+    return ''.join(template.format(**m) for m in makers)
+
+
+def used(uses, body):
+    """The uses of which the body has the names."""
+    names = set(re.split(r'[\s(){},.]+', body))
+    is_used = lambda name: name.replace('_', '') in names
+    kept = []
+    for line in uses.splitlines():
+        items = re.match(r'(use \S+\.\{)(.*)\}$', line)
+        if items:
+            some = [item for item in items.group(2).split(', ') if is_used(item.split(' as ')[-1])]
+            kept += [items.group(1) + ', '.join(some) + '}'] * bool(some)
+        elif is_used(line.split(' as ')[-1]):
+            kept.append(line)
+    return '\n'.join(kept) + '\n'
+
+
+def law_written(name):
+    values, makers = values_of(FAMILIES[name])
+    body = (VALUES + CONTRACTS + CORES).format(**values) + made(makers, OF) + (MET + LAW_MIDDLE + RIGHT).format(**values) + made(makers, MAKER) + (TOLD + WALKS).format(**values)
+    return LAW_HEAD.format(**values) + used(USES.format(**values), body) + body
+
+
+def written(name):
+    call = dict(CALLS[name], name=name, kebab=name.replace('_', '-'))
+    if 'family' in call:
+        shared = {part: FAMILIES[call['family']][part] for part in FAMILIES[call['family']] if part not in ('of-what', 'verdict', 'outcome', 'end')}
+        values, makers = values_of(dict(shared, **call))
+        body = (STAYED + CONTRACTS + JUDGE + MIDDLE + RIGHT + JUDGED + WALK + MEETS).format(**values)
+        return CALL_HEAD.format(**values) + used((USES + OWN_USES).format(**values), body) + body
+    values, makers = values_of(call)
+    body = (STAYED + VALUES + CONTRACTS + JUDGE + '\n' + CORES).format(**values) + made(makers, OF) + (MIDDLE + RIGHT + JUDGED).format(**values) + made(makers, MAKER) + (TOLD + WALK + MEETS).format(**values)
+    return (HEAD + USES + OWN_USES).format(**values) + body
 
 
 # The laws, by how many tables there are to be made, with the number of the first and how many parameters there are after the table.
@@ -550,6 +684,9 @@ LAWS = {1: (6, 1), 3: (1, 4), 5: (1, 1), 6: (1, 1)}
 for tables, (first, parameters) in LAWS.items():
     with open('crates/control/proofs/Judged%d.antt' % tables, 'w', encoding='utf-8') as file:
         subprocess.run([sys.executable, 'scripts/gen_judged.py', str(tables), str(parameters), 'control', str(first)], stdout=file, check=True)
+for name in FAMILIES:
+    with open('crates/control/proofs/%s.antt' % name, 'w', encoding='utf-8') as file:
+        file.write(law_written(name))
 for name in sys.argv[1:] or CALLS:
     with open('crates/control/proofs/%s/%s/Proof.antt' % (CALLS[name]['module'], name), 'w', encoding='utf-8') as file:
         file.write(written(name))

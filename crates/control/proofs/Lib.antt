@@ -5,3 +5,5 @@ pub mod Judged1
 pub mod Judged6
 pub mod ObserveParts
 pub mod Judged3
+pub mod Commands
+pub mod Observations
