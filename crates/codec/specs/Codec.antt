@@ -1,5 +1,7 @@
--- What reading gives, and the bytes that are written: `decode_voter_slot_table`, `decode_lost_voter_attestation` of codec.rs, in their order.
--- Document 01, "Refusals from the input": 5 for too many bytes first, the field's own number, 6 for bytes left over, then validity's.
+-- What reading gives, and the bytes that are written: `decode_voter_slot_table`,
+-- `decode_lost_voter_attestation` of codec.rs, in their order.
+-- Document 01, "Refusals from the input": 5 for too many bytes first, the field's own number, 6 for
+-- bytes left over, then validity's.
 -- Assumes nothing.
 use Prim.Native.Nat.{ℕ}
 use mathlib.Core.List.{List, _++_}
@@ -40,8 +42,9 @@ tableBytes t = table .enc t
 
 -- ---- what the calls answer and leave
 
--- `encode_voter_slot_table` into a lent buffer: 30, validity's number, then 32 for a buffer that is too short; else what the buffer holds
--- afterwards, the bytes from its start and after them what was there before, and the count.
+-- `encode_voter_slot_table` into a lent buffer: 30, validity's number, then 32 for a buffer that is
+-- too short; else what the buffer holds afterwards, the bytes from its start and after them what
+-- was there before, and the count.
 unfoldable pub encodeVoterSlotTable : VoterSlotTable → List ℕ → Res (List ℕ)
 encodeVoterSlotTable t buffer =
     andThen (gate (numberOf (validate t)) (tableBytes t) (length (tableBytes t)))

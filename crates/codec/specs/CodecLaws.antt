@@ -1,5 +1,7 @@
--- The two round trips of a table, and of an attestation. Document 01's demand: reading a written valid table returns it; writing a table just read gives its bytes.
--- Of every table that the types hold (`HeldVoterSlotTable`), with no other bound: GoodLaws and SizeLaws say that a valid one is read whole.
+-- The two round trips of a table, and of an attestation. Document 01's demand: reading a written
+-- valid table returns it; writing a table just read gives its bytes.
+-- Of every table that the types hold (`HeldVoterSlotTable`), with no other bound: GoodLaws and
+-- SizeLaws say that a valid one is read whole.
 -- Assumes nothing.
 use Prim.Native.Nat.{ℕ, zero, suc, _≤_}
 use mathlib.Core.Path.{_≡_, refl, sym, ap, _∙_, subst}
@@ -51,7 +53,8 @@ written-read t h v =
     let b = bytes-bounds t h v in
     rw (le-leb (length (table .enc t)) maxTableBytes (omega arith)) (rw (whole-there table t (table-good t h (s .0) (s .1))) (rw (s .1)))
 
--- Writing a valid table into a buffer that is long enough: its bytes, and after them what was there.
+-- Writing a valid table into a buffer that is long enough: its bytes, and after them what was
+-- there.
 pub encoded-is : (t : VoterSlotTable) (buffer : List ℕ) → validate t ≡ Accepted → length (tableBytes t) ≤ length buffer
     → encodeVoterSlotTable t buffer ≡ ok (tableBytes t ++ drop (length (tableBytes t)) buffer) (length (tableBytes t))
 unfolding encodeVoterSlotTable andThen gate pick
@@ -106,7 +109,8 @@ pub read-bounds : (bs : List ℕ) {t : VoterSlotTable} {n : ℕ} → Bytes bs �
 read-bounds bs {t} {n} z e =
     subst (λ (x : List ℕ). (180 ≤ length x) × (length x ≤ 8072)) (read-written bs z e) (bytes-bounds t (read-held bs z e) (read-valid bs z e))
 
--- It is written again, into every buffer that is long enough, and the bytes are those that were read.
+-- It is written again, into every buffer that is long enough, and the bytes are those that were
+-- read.
 pub read-encoded : (bs : List ℕ) {t : VoterSlotTable} {n : ℕ} → Bytes bs → decodeVoterSlotTable bs ≡ ok t n → (buffer : List ℕ) → length bs ≤ length buffer
     → encodeVoterSlotTable t buffer ≡ ok (bs ++ drop (length bs) buffer) (length bs)
 read-encoded bs {t} {n} z e buffer l =
@@ -120,7 +124,8 @@ pub read-restarted : (bs : List ℕ) {t : VoterSlotTable} {n : ℕ} → Bytes bs
 unfolding restarted andThen
 read-restarted bs z e buffer l = rw (read-encoded bs z e buffer l) (ap decodeVoterSlotTable (take-at bs (drop (length bs) buffer) (length bs) refl) ∙ e)
 
--- The same of an attestation by itself: one that the types hold, that passes the representability check and is valid, is read back as it was written.
+-- The same of an attestation by itself: one that the types hold, that passes the representability
+-- check and is valid, is read back as it was written.
 pub attestation-written-read : (a : LostVoterAttestationV1) → HeldLostVoterAttestationV1 a → representableAttestation a ≡ true → validAttestation a ≡ true
     → decodeLostVoterAttestation (attestation .enc a) ≡ ok a (length (attestation .enc a))
 unfolding decodeLostVoterAttestation bounded pick

@@ -1,4 +1,5 @@
--- A table that passes the representability check has lengths and counts that fit their fields (`TableFits`), an absent part too, which is blank.
+-- A table that passes the representability check has lengths and counts that fit their fields
+-- (`TableFits`), an absent part too, which is blank.
 -- Each name here is a step of a proof; what is right is said in Representable and Parts.
 -- Assumes nothing.
 use Prim.Native.Nat.{ℕ, _≤_, zero-le}
@@ -25,7 +26,8 @@ use Rattle.records.specs.TestLaws.{says}
 pub text-fits : (most len : ℕ) (bytes : List ℕ) → isText most len bytes ≡ true → len ≤ most
 text-fits most len bytes h = leb-true len most (says (text-is most len bytes) h .0)
 
--- a part that is there passes its test, and one that is absent is the blank: what holds of both holds of the part
+-- a part that is there passes its test, and one that is absent is the blank: what holds of both
+-- holds of the part
 part-by : {A : Type 0} (P : A → Type 0) (test same : A → Bool) (blank : A) → ((a : A) → test a ≡ true → P a) → ((a : A) → same a ≡ true → a ≡ blank) → P blank
     → (b : Bool) (a : A) → cond b (test a) (same a) ≡ true → P a
 part-by P test same blank f e z true a h = f a h

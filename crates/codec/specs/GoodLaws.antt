@@ -1,5 +1,7 @@
--- The formats hold what the types hold, the representability check passes and validity accepts: `table .Good t`, format by format, leaves first.
--- Each name here is a step of a proof; what is right is said in Format, Representable and Validation.
+-- The formats hold what the types hold, the representability check passes and validity accepts:
+-- `table .Good t`, format by format, leaves first.
+-- Each name here is a step of a proof; what is right is said in Format, Representable and
+-- Validation.
 -- Assumes nothing.
 use Prim.Native.Nat.{ℕ, zero, suc, _+_, _-_, _^_, _≤_, _<_, zero-le}
 use native.Mathlib.Omega.{arith}
@@ -91,7 +93,8 @@ blanks-after blank d l n k e h =
     let b : i < k - n = omega (arith, length-drop n l) in
     getD-drop n l i d ∙ h (n + i) (omega arith) (omega arith) ∙ sym (getD-replicate (k - n) i blank d b))
 
--- nine places, of which the first n are in use: each in use passes its test, and each after them is the blank
+-- nine places, of which the first n are in use: each in use passes its test, and each after them is
+-- the blank
 module _ {A : Type 0} (C : Codec A) (blank d : A) (P : A → Type 0) (test same : A → Bool) (good : (a : A) → P a → test a ≡ true → C .Good a) (is : (a : A) → same a ≡ true → a ≡ blank) where
   pub places-good : (l : List A) (n : ℕ) → n ≤ 9 → HeldArray P 9 l → allBelow (λ i. cond (leb n i) (same (getD l i d)) (test (getD l i d))) 9 ≡ true
       → padded (vec C blank n) n 9 blank (vec-long C blank n) .Good l
@@ -539,7 +542,8 @@ tableHead-good t h r = (
   refl,
 )
 
--- A table that the types hold, that passes the representability check and is valid, is one that the format holds.
+-- A table that the types hold, that passes the representability check and is valid, is one that the
+-- format holds.
 pub table-good : (t : VoterSlotTable) → HeldVoterSlotTable t → representable t ≡ true → validity t ≡ Accepted → table .Good t
 unfolding table via dep
 table-good t h r v =

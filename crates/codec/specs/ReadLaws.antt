@@ -1,4 +1,5 @@
--- What the formats hold passes the representability check: so what was read can be written, format by format, leaves first.
+-- What the formats hold passes the representability check: so what was read can be written, format
+-- by format, leaves first.
 -- Each name here is a step of a proof; what is right is said in Format and Representable.
 -- Assumes nothing.
 use Prim.Native.Nat.{ℕ, _+_, _-_, _≤_, _<_}

@@ -1,5 +1,7 @@
--- What the calls of each kind are to a command of any kind; and, where the caller has made the tests of the entry point, to `applyControl`.
--- Laws for the proofs of code, and for callers of the thin calls by kind; what is right is said in Control.
+-- What the calls of each kind are to a command of any kind; and, where the caller has made the
+-- tests of the entry point, to `applyControl`.
+-- Laws for the proofs of code, and for callers of the thin calls by kind; what is right is said in
+-- Control.
 -- Assumes nothing.
 use Prim.Native.Nat.{ℕ}
 use mathlib.Core.Path.{refl, sym, ap, ap₂, _≡_, _∙_}
@@ -50,8 +52,9 @@ module _ (t : VoterSlotTable) (c : VoterSlotControl) (cut : VoterSlotLogId) wher
       marker-carried true = refl
       marker-carried false = refl
 
--- ---- What the calls on a valid table do not test, their caller has tested: the cut has no zero, and
--- the command passes the representability check. Then each call is `applyControl` of the command.
+-- ---- What the calls on a valid table do not test, their caller has tested: the cut has no zero,
+-- and the command passes the representability check. Then each call is `applyControl` of the
+-- command.
 
 module _
     (t : VoterSlotTable)

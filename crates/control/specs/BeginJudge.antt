@@ -1,4 +1,5 @@
--- What the functions of a Begin answer and make, where Control has no name for it: what is found among the nine places, the parts of the table that is made, and a Begin with its cut.
+-- What the functions of a Begin answer and make, where Control has no name for it: what is found
+-- among the nine places, the parts of the table that is made, and a Begin with its cut.
 -- That these come to what Control and Judgement say is proved in BeginJudgeLaws.
 -- Assumes nothing.
 use Prim.Native.Nat.{ℕ}

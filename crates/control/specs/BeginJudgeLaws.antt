@@ -1,4 +1,5 @@
--- The nine places passed from the last to the first, and what a Begin's functions find there against Control.
+-- The nine places passed from the last to the first, and what a Begin's functions find there
+-- against Control.
 -- Laws for proofs of code; what is right is said in Control and Judgement.
 -- Assumes nothing.
 use Prim.Native.Nat.{ℕ, zero, suc, _+_, _-_, _<_, _≤_}

@@ -1,4 +1,5 @@
--- When a Begin is accepted: where no request is open, always; superseding one, exactly where the cut follows its latest evidence.
+-- When a Begin is accepted: where no request is open, always; superseding one, exactly where the
+-- cut follows its latest evidence.
 -- Laws for the layers above; what is right is said in Control.
 -- Assumes nothing.
 use Prim.Native.Nat.{ℕ, _+_, _<_, _≤_}
@@ -137,7 +138,8 @@ module _ (t : VoterSlotTable) (r : VoterReplacementRequest) (cut : VoterSlotLogI
   pub begin-valid : validate (begun t r cut) ≡ Accepted
   begin-valid = valid-joined (begun t r cut) (begun-held t r cut given) (begun-valid t r cut given)
 
-  -- The successor check passes exactly where no request was open, or the cut follows the latest evidence of the one that was; else 7.
+  -- The successor check passes exactly where no request was open, or the cut follows the latest
+  -- evidence of the one that was; else 7.
   pub begin-answer :
       validateSuccessorOf (begun t r cut) t ≡ orRegression (not (t .«has_replacement») || follows cut (latest (t .replacement .evidence)) false) Accepted
   begin-answer = begun-answer t r cut given
@@ -146,7 +148,8 @@ module _ (t : VoterSlotTable) (r : VoterReplacementRequest) (cut : VoterSlotLogI
       isAccepted (validateSuccessorOf (begun t r cut) t) ≡ (not (t .«has_replacement») || follows cut (latest (t .replacement .evidence)) false)
   begin-exact = ap isAccepted begin-answer ∙ accepted-where (not (t .«has_replacement») || follows cut (latest (t .replacement .evidence)) false)
 
--- A Begin settled without the successor check: by what is known of its id, by its tests, and by the cut and the latest evidence.
+-- A Begin settled without the successor check: by what is known of its id, by its tests, and by the
+-- cut and the latest evidence.
 module _ (t : VoterSlotTable) (r : VoterReplacementRequest) (cut : VoterSlotLogId) (valid : validate t ≡ Accepted) (request : representableRequest r ≡ true)
     (numbered : validLogId cut ≡ true) where
   pub begin-settles :

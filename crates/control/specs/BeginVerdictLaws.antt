@@ -1,4 +1,5 @@
--- What the verdict on a Begin tells: what its maker asks for, and the answer and the table by the number of the verdict.
+-- What the verdict on a Begin tells: what its maker asks for, and the answer and the table by the
+-- number of the verdict.
 -- Laws for proofs of code; what is right is said in Control and Judgement.
 -- Assumes nothing.
 use Prim.Native.Nat.{_<_, _≤_}

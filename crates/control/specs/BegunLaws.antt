@@ -34,7 +34,8 @@ use Rattle.control.specs.BeginCheckLaws.{Starts, fresh-open, fresh-slot,
 
 -- ---- the table that a Begin makes
 
--- What is given: a valid table, a cut with both numbers, an id that is not known, and tests that were passed.
+-- What is given: a valid table, a cut with both numbers, an id that is not known, and tests that
+-- were passed.
 pub record Given (t : VoterSlotTable) (r : VoterReplacementRequest) (cut : VoterSlotLogId) : Type 0 where
   pub held : representable t ≡ true
   pub valid : validity t ≡ Accepted

@@ -1,5 +1,7 @@
--- The blank request and the blank step, all zero, each defined once, and when two requests and two steps are the same (document 01, "What must change shape": "unused parts zero").
--- A part that a kind does not use is compared with its blank (Control), and is its blank where a command is made from a record of a replay. BlankLaws: the tests miss no field.
+-- The blank request and the blank step, all zero, each defined once, and when two requests and two
+-- steps are the same (document 01, "What must change shape": "unused parts zero").
+-- A part that a kind does not use is compared with its blank (Control), and is its blank where a
+-- command is made from a record of a replay. BlankLaws: the tests miss no field.
 -- Assumes nothing.
 use Prim.Native.Nat.{ℕ}
 use mathlib.Core.Bool.{Bool}

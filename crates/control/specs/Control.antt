@@ -1,5 +1,7 @@
--- Commands: document 01, section "Commands", and `apply_control` of control.rs with what it calls, in its order. What stands in quotes is document 01's. The tests give an
--- Answer; a call is a Decision: refused, unchanged, or a next table. The decision is then settled by the successor check. Each change of the table is a definition of its own.
+-- Commands: document 01, section "Commands", and `apply_control` of control.rs with what it calls,
+-- in its order. What stands in quotes is document 01's. The tests give an Answer; a call is a
+-- Decision: refused, unchanged, or a next table. The decision is then settled by the successor
+-- check. Each change of the table is a definition of its own.
 -- Assumes nothing.
 use Prim.Native.Nat.{ℕ, _+_, _-_, _^_}
 use mathlib.Core.Bool.{Bool, true, false, cond, not, _&&_, _||_}
@@ -32,7 +34,8 @@ use Rattle.control.specs.declared.control.VoterReplacementStep.{VoterRep
 use Rattle.control.specs.declared.control.VoterSlotControl.{VoterSlotControl}
 use Rattle.control.specs.Blank.{blankVoterReplacementRequest, blankVoterReplacementStep, blankRequestId, blankRequestDigest, sameVoterReplacementRequest, sameVoterReplacementStep}
 
--- "Command and step enums: a kind with its parts": the kinds of `VoterSlotControl`, in the order of the Rust
+-- "Command and step enums: a kind with its parts": the kinds of `VoterSlotControl`, in the order of
+-- the Rust
 abbrev pub beginKind : ℕ
 beginKind = 0
 
@@ -94,21 +97,24 @@ isBlankStep s = sameVoterReplacementStep s blankVoterReplacementStep
 abbrev pub isBlankName : VoterSlotControl → Bool
 isBlankName c = eqBytes (c .«request_id») blankRequestId && eqBytes (c .«request_digest») blankRequestDigest
 
--- a request: "epoch from 1", and what the candidate and the attestation may hold; any numbers and any digests in the rest
+-- a request: "epoch from 1", and what the candidate and the attestation may hold; any numbers and
+-- any digests in the rest
 abbrev pub representableRequest : VoterReplacementRequest → Bool
 representableRequest r =
     isConfigurationEpoch (r .«expected_configuration» .«configuration_epoch»)
     and representableMember (r .candidate)
     and representableAttestation (r .attestation)
 
--- a step: a kind of the five; the snapshot is RecordSnapshot's, the mark RecordCaughtUp's, where any numbers are one
+-- a step: a kind of the five; the snapshot is RecordSnapshot's, the mark RecordCaughtUp's, where
+-- any numbers are one
 unfoldable pub representableStep : VoterReplacementStep → Bool
 representableStep s =
     leb (s .kind) finalizeKind
     and cond (eqb (s .kind) recordSnapshotKind) (representableSnapshot (s .snapshot)) (sameVoterSnapshotEvidence (s .snapshot) blankVoterSnapshotEvidence)
     and (eqb (s .kind) recordCaughtUpKind || sameVoterSlotLogId (s .«caught_up») blankVoterSlotLogId)
 
--- a command: a kind of the three; the request is a Begin's, id and digest are the others', the step is an Advance's
+-- a command: a kind of the three; the request is a Begin's, id and digest are the others', the step
+-- is an Advance's
 unfoldable pub representableControl : VoterSlotControl → Bool
 representableControl c =
     leb (c .kind) markerKind
@@ -117,7 +123,8 @@ representableControl c =
 
 -- ---- `VoterReplacementRequest::validate`: 12
 
--- All of it but the digest. An attested incarnation of 2^47 is 12 too: a candidate's incarnation is at most 2^47, so none is the next one ("the Rust never gives 22").
+-- All of it but the digest. An attested incarnation of 2^47 is 12 too: a candidate's incarnation is
+-- at most 2^47, so none is the next one ("the Rust never gives 22").
 unfoldable pub validRequest : VoterReplacementRequest → Bool
 validRequest r =
     validAttestation (r .attestation)
@@ -185,15 +192,17 @@ namedIndex t r = slotIndex t (r .attestation .slot)
 abbrev pub namedSlot : VoterSlotTable → VoterReplacementRequest → VoterSlotRecord
 namedSlot t r = slotAt t (namedIndex t r)
 
--- The current configuration is the expected one: "The caller supplies .. the current configuration's id", and the cluster and the epoch are compared. (A valid table's
--- configuration is valid, so the Rust's 25 for one that is not does not come out.)
+-- The current configuration is the expected one: "The caller supplies .. the current
+-- configuration's id", and the cluster and the epoch are compared. (A valid table's configuration
+-- is valid, so the Rust's 25 for one that is not does not come out.)
 unfoldable pub isExpected : VoterSlotTable → VoterReplacementRequest → Bool
 isExpected t r =
     eqBytes (t .«cluster_instance») (r .«expected_configuration» .«cluster_id»)
     && eqBytes (r .«supplied_configuration_id») (r .«expected_configuration» .«configuration_id»)
     && eqb (currentConfiguration t .epoch) (r .«expected_configuration» .«configuration_epoch»)
 
--- "4. Slot missing, or revision, configuration, cluster, incarnation or old descriptor differs: 13."
+-- "4. Slot missing, or revision, configuration, cluster, incarnation or old descriptor differs:
+-- 13."
 unfoldable pub isCurrent : VoterSlotTable → VoterReplacementRequest → Bool
 isCurrent t r =
     ltb (namedIndex t r) (t .count)
@@ -227,7 +236,8 @@ unfoldable pub beginCheck : VoterSlotTable → VoterReplacementRequest → Voter
 beginCheck t r cut =
     firstRefusal (openCheck t r cut) (firstRefusal (requestCheck r) (firstRefusal (staleCheck t r) (firstRefusal (candidateCheck t r) (fullCheck t))))
 
--- a receipt of the open request, at the next revision, of the incarnation that its slot has now; it ends at the cut of the command
+-- a receipt of the open request, at the next revision, of the incarnation that its slot has now; it
+-- ends at the cut of the command
 abbrev pub receiptOf : VoterSlotTable → VoterSlotRecord → ℕ → VoterSlotLogId → VoterReplacementResult
 receiptOf t s kind cut =
     record {
@@ -240,7 +250,8 @@ receiptOf t s kind cut =
       terminal = cut;
     }
 
--- The slot of the candidate: its prior incarnation is retired, and a request that was open leaves a superseded receipt.
+-- The slot of the candidate: its prior incarnation is retired, and a request that was open leaves a
+-- superseded receipt.
 unfoldable pub begunSlot : VoterSlotTable → VoterReplacementRequest → VoterSlotLogId → VoterSlotRecord
 begunSlot t r cut =
     let old = namedSlot t r in
@@ -251,7 +262,8 @@ begunSlot t r cut =
 abbrev pub begunSlots : VoterSlotTable → VoterReplacementRequest → VoterSlotLogId → List VoterSlotRecord
 begunSlots t r cut = set (t .slots) (namedIndex t r) (begunSlot t r cut)
 
--- The request that is opened: Prepared at the cut, from the current configuration to that of the slots with the candidate, one epoch on.
+-- The request that is opened: Prepared at the cut, from the current configuration to that of the
+-- slots with the candidate, one epoch on.
 unfoldable pub begunOperation : VoterSlotTable → VoterReplacementRequest → VoterSlotLogId → VoterReplacementRecord
 begunOperation t r cut =
     let none = blankOptionalLogId in
@@ -285,7 +297,8 @@ advanced t phase evidence =
 abbrev pub snapshotRecorded : VoterSlotTable → VoterSnapshotEvidence → VoterSlotTable
 snapshotRecorded t snapshot = advanced t snapshotInstalled (withSnapshot (t .replacement .evidence) snapshot)
 
--- the same again 0, another 14; else in Prepared, with a cut before the command's index and not of a later term
+-- the same again 0, another 14; else in Prepared, with a cut before the command's index and not of
+-- a later term
 unfoldable pub recordSnapshot : VoterSlotTable → VoterSnapshotEvidence → VoterSlotLogId → Decision
 recordSnapshot t snapshot cut =
     let op = t .replacement in
@@ -302,7 +315,8 @@ caughtUpRecorded t mark = advanced t caughtUp (withCaughtUp (t .replacement .evi
 abbrev pub isCatchingUp : ℕ → Bool
 isCatchingUp phase = eqb phase learnerAdded || eqb phase caughtUp
 
--- the same mark again 0; else in LearnerAdded or CaughtUp, a mark of the command's term and before its index
+-- the same mark again 0; else in LearnerAdded or CaughtUp, a mark of the command's term and before
+-- its index
 unfoldable pub recordCaughtUp : VoterSlotTable → VoterSlotLogId → VoterSlotLogId → Decision
 recordCaughtUp t mark cut =
     let op = t .replacement in
@@ -400,7 +414,8 @@ advance t id digest s cut =
 
 -- ---- Marker
 
--- the open request, by id and digest, in LearnerAdded or CaughtUp; else 25. A full revision is not tested ("Begin repeats and Marker don't").
+-- the open request, by id and digest, in LearnerAdded or CaughtUp; else 25. A full revision is not
+-- tested ("Begin repeats and Marker don't").
 unfoldable pub marker : VoterSlotTable → (id digest : List ℕ) → Decision
 marker t id digest =
     cond (isOpenRequest t id && eqBytes (t .replacement .attestation .«request_digest») digest && isCatchingUp (t .replacement .phase)) keep

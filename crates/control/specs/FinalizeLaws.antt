@@ -1,4 +1,5 @@
--- When a Finalize of a valid table is accepted: its request is in the last phase, and the cut follows the latest of the evidence.
+-- When a Finalize of a valid table is accepted: its request is in the last phase, and the cut
+-- follows the latest of the evidence.
 -- Laws for SettleLaws; what is right is said in Control.
 -- Assumes nothing.
 use Prim.Native.Nat.{ℕ, _+_}

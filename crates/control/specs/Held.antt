@@ -1,5 +1,6 @@
--- A command is of its types: each number fits, each array has its length. The code's types give this; a theorem over all commands takes it as a premise, as `Held` of the
--- records does for tables. From the types of voter_slots/control.rs.
+-- A command is of its types: each number fits, each array has its length. The code's types give
+-- this; a theorem over all commands takes it as a premise, as `Held` of the records does for
+-- tables. From the types of voter_slots/control.rs.
 -- Assumes nothing.
 use Prim.Native.Nat.{_^_, _<_}
 use Rattle.identity.specs.declared.identity.ConsensusIdentity.{ConsensusIdentity}

@@ -1,4 +1,5 @@
--- The blanks, and every table that a command makes, are of their types: each number fits, each array has its length. (Every call keeps it: `call-valid` of HistoryLaws.)
+-- The blanks, and every table that a command makes, are of their types: each number fits, each
+-- array has its length. (Every call keeps it: `call-valid` of HistoryLaws.)
 -- Each name here is a step of a proof; what is right is said in Control.
 -- Assumes nothing.
 use Prim.Native.Nat.{ℕ, _+_, _^_, _<_}

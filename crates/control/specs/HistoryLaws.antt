@@ -1,4 +1,5 @@
--- Demand 3, proved: each call leaves the table, or raises the revision by one and a measure that reads nothing of the revision (see "the measure" below). Line does the rest.
+-- Demand 3, proved: each call leaves the table, or raises the revision by one and a measure that
+-- reads nothing of the revision (see "the measure" below). Line does the rest.
 -- Each name here is a step of the proof, `history`, whose claim is `DemandThree` of History.
 -- Assumes nothing.
 use Prim.Native.Nat.{ℕ, zero, suc, _+_, _-_, _*_, _^_, _<_, _≤_}
@@ -63,8 +64,10 @@ pub record ValidTable (t : VoterSlotTable) : Type 0 where
   pub held : HeldVoterSlotTable t
   pub valid : validate t ≡ Accepted
 
--- ---- the measure: it compares in turn the sum of the slots' incarnations (Begin), the phase, where no request open comes after the last phase (the steps, Finalize,
--- observations), the index of the caught-up mark (a second RecordCaughtUp), and whether there is a continuation (RecordContinuation)
+-- ---- the measure: it compares in turn the sum of the slots' incarnations (Begin), the phase,
+-- where no request open comes after the last phase (the steps, Finalize, observations), the index
+-- of the caught-up mark (a second RecordCaughtUp), and whether there is a continuation
+-- (RecordContinuation)
 
 abbrev incarnations : List VoterSlotRecord → ℕ
 incarnations [] = 0
@@ -154,7 +157,8 @@ Every P (refuse answer) = Unit {0}
 Every P keep = Unit {0}
 Every P (change next) = P next
 
--- what the next table has: it is of its type, one revision on, and larger in measure where it may follow
+-- what the next table has: it is of its type, one revision on, and larger in measure where it may
+-- follow
 record Moved (t next : VoterSlotTable) : Type 0 where
   held : HeldVoterSlotTable next
   revision : next .revision ≡ t .revision + 1

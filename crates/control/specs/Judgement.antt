@@ -1,5 +1,7 @@
--- What the calls of Control and Observation come to on a valid table, as tests of numbers, names and cuts: a verdict, which makes nothing, and a making for each change. No next
--- table is validated or compared. Nobody has to believe this page: SettleLaws proves that it is what Control and Observation say (`applies`, `observes`). Code is written after it.
+-- What the calls of Control and Observation come to on a valid table, as tests of numbers, names
+-- and cuts: a verdict, which makes nothing, and a making for each change. No next table is
+-- validated or compared. Nobody has to believe this page: SettleLaws proves that it is what Control
+-- and Observation say (`applies`, `observes`). Code is written after it.
 -- Assumes nothing.
 use Prim.Native.Nat.{ℕ}
 use mathlib.Core.Bool.{Bool, cond, false, not, true, _&&_, _||_}
@@ -151,7 +153,8 @@ judgeFence t cut =
     ((eqb (op .phase) caughtUp and op .evidence .«caught_up» .«is_some» and eqb (op .evidence .«caught_up» .cut .term) (cut .term)) && fenceTest (op .evidence) cut)
     (moves fences) (refused InvalidTransition))
 
--- `finalize` of Control: in Uniform the latest evidence is uniform's cut, and the slot being replaced is there
+-- `finalize` of Control: in Uniform the latest evidence is uniform's cut, and the slot being
+-- replaced is there
 unfoldable pub judgeFinalize : VoterSlotTable → VoterSlotLogId → Verdict Move
 judgeFinalize t cut =
     cond (eqb (t .replacement .phase) uniform && follows cut (t .replacement .evidence .uniform .cut) false) (moves finalizes) (refused InvalidTransition)
@@ -166,7 +169,8 @@ judgeStep t s cut =
 
 -- ---- Advance
 
--- `advanceOpen` of Control: the open request against the command; a step is judged at a cut past prepare
+-- `advanceOpen` of Control: the open request against the command; a step is judged at a cut past
+-- prepare
 unfoldable pub judgeOpen : VoterSlotTable → (id digest : List ℕ) → VoterReplacementStep → VoterSlotLogId → Verdict Move
 judgeOpen t id digest s cut =
     let op = t .replacement in

@@ -1,5 +1,6 @@
--- Lines of history, for any state, any calls and any step: from `Step`, what is to be shown of a single call, to `Line`, what then holds of a whole list, whatever its calls are
--- and however many (`line`).
+-- Lines of history, for any state, any calls and any step: from `Step`, what is to be shown of a
+-- single call, to `Line`, what then holds of a whole list, whatever its calls are and however many
+-- (`line`).
 -- Assumes nothing.
 use Prim.Native.Nat.{ℕ, zero, suc, _+_, _<_, _≤_}
 use mathlib.Core.Path.{refl, ap, sym, subst, _≡_, _∙_}
@@ -10,7 +11,8 @@ use native.Mathlib.Omega.{arith}
 use lib.ListN.{take}
 use Rattle.control.specs.Line.{at, changes}
 
--- what the theorem speaks of: equality, the revision, a state with its revision struck out, what is valid, what is retired, the open request, its phase's rank
+-- what the theorem speaks of: equality, the revision, a state with its revision struck out, what is
+-- valid, what is retired, the open request, its phase's rank
 pub record Views (S Id : Type 0) : Type 1 where
   pub same : S → S → Bool
   pub revision : S → ℕ

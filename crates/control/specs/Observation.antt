@@ -1,8 +1,8 @@
 -- Observations: `observe_membership` of control.rs with what it calls, in its order, and document
--- 01, end of section "Commands". (The target slot is looked for first here and last in the Rust; both
--- give 25.) Nothing is validated first, so it speaks of invalid tables too. A set of ids is what a
--- BTreeSet is: the ids in strictly rising order, each once, whatever the order and the repeats of the
--- members.
+-- 01, end of section "Commands". (The target slot is looked for first here and last in the Rust;
+-- both give 25.) Nothing is validated first, so it speaks of invalid tables too. A set of ids is
+-- what a BTreeSet is: the ids in strictly rising order, each once, whatever the order and the
+-- repeats of the members.
 -- Assumes nothing.
 use Prim.Native.Nat.{ℕ, zero, suc, _+_, _^_}
 use mathlib.Core.Bool.{Bool, true, false, cond, _&&_, _||_}
@@ -72,7 +72,8 @@ difference (x ∷ a) b = cond (contains x b) (difference a b) (x ∷ difference 
 abbrev pub isSubset : List ℕ → List ℕ → Bool
 isSubset a b = every (λ x. contains x b) a
 
--- ---- what the caller supplies: the sets one after another in one slice, with their counts in a second one
+-- ---- what the caller supplies: the sets one after another in one slice, with their counts in a
+-- second one
 
 -- "the sets of an observation" one after another "in one slice": each by its count
 unfoldable pub splitSets : List ℕ → List ℕ → List (List ℕ)
@@ -84,7 +85,8 @@ unfoldable pub total : List ℕ → ℕ
 total [] = 0
 total (n ∷ counts) = n + total counts
 
--- an id that the Rust type can hold: 0 too, since it has a default (`isConsensusNodeId` of Identity is what `ConsensusNodeId::new` takes)
+-- an id that the Rust type can hold: 0 too, since it has a default (`isConsensusNodeId` of Identity
+-- is what `ConsensusNodeId::new` takes)
 abbrev pub isHeldNodeId : ℕ → Bool
 isHeldNodeId id = leb id maxConsensusNodeId
 
@@ -121,8 +123,8 @@ pub data Sight : Type 0 where
 abbrev pub memberIndex : VoterConfiguration → ℕ → ℕ
 memberIndex c slot = firstFrom (λ i. eqb (memberAt c i .identity .slot) slot) (c .count) 0
 
--- A node of neither configuration may be the learner of a request that was superseded: of the slot being replaced, of an incarnation greater than the predecessor's and at
--- most the attested one.
+-- A node of neither configuration may be the learner of a request that was superseded: of the slot
+-- being replaced, of an incarnation greater than the predecessor's and at most the attested one.
 unfoldable pub isObsolete : VoterReplacementRecord → VoterSlotIdentityResult → Bool
 isObsolete op (VoterSlotIdentityResult.Err answer) = false
 isObsolete op (VoterSlotIdentityResult.Ok identity) =
@@ -161,7 +163,8 @@ seePredecessor op candidate nodes =
 abbrev pub seePhase : ℕ → ℕ → Sight → Sight
 seePhase phase at new = cond (eqb (phase + 1) at) new (cond (eqb phase at) nothingNew strange)
 
--- by the sets: the predecessor's; both, with the nodes of both; the successor's, with its nodes; else 25
+-- by the sets: the predecessor's; both, with the nodes of both; the successor's, with its nodes;
+-- else 25
 unfoldable pub seeSets : VoterReplacementRecord → ℕ → List (List ℕ) → List ℕ → Sight
 seeSets op candidate sets nodes =
     let old = memberIds (op .predecessor) in
@@ -170,7 +173,8 @@ seeSets op candidate sets nodes =
     (cond (eqSets sets (old ∷ (new ∷ [])) && eqIds nodes (unionIds old new)) (seePhase (op .phase) joint newJoint)
     (cond (eqSets sets (new ∷ []) && eqIds nodes new) (seePhase (op .phase) uniform newUniform) strange))
 
--- the candidate is the least id of the successor that is not the predecessor's; 25 where there is none
+-- the candidate is the least id of the successor that is not the predecessor's; 25 where there is
+-- none
 unfoldable pub seeFrom : VoterReplacementRecord → List ℕ → List (List ℕ) → List ℕ → Sight
 seeFrom op [] sets nodes = strange
 seeFrom op (candidate ∷ rest) sets nodes = seeSets op candidate sets nodes
@@ -181,7 +185,8 @@ see op sets nodes = seeFrom op (newIds op) sets nodes
 
 -- ---- making the next table; its revision is raised only where it differs
 
--- the open request and the epoch; the slot being replaced has the phase that goes with the request's
+-- the open request and the epoch; the slot being replaced has the phase that goes with the
+-- request's
 abbrev pub withTarget : VoterSlotTable → ℕ → VoterReplacementRecord → VoterSlotTable
 withTarget t epoch op =
     tableWith t (t .revision) epoch (set (t .slots) (targetIndex t) (inPhase (targetSlot t) (targetPhase (op .phase)))) true op
@@ -221,7 +226,8 @@ abbrev pub observeOpen : VoterSlotTable → List (List ℕ) → List ℕ → Vot
 observeOpen t sets nodes cut =
     cond (ltb (targetIndex t) (t .count)) (observed t (see (t .replacement) sets nodes) cut) (refuse InvalidTransition)
 
--- no request is open: one set, the current configuration's, and its nodes; "An idle observation may carry cut 0, 0"
+-- no request is open: one set, the current configuration's, and its nodes; "An idle observation may
+-- carry cut 0, 0"
 abbrev pub observeClosed : VoterSlotTable → List (List ℕ) → List ℕ → Decision
 observeClosed t sets nodes =
     let current = memberIds (currentConfiguration t) in

@@ -1,5 +1,7 @@
--- When an observation is accepted, of any table that the Rust types can hold: by what is seen, by tests of the cut, and by validity where something is new.
--- With nothing new the table made is the same, unless the slot's phase is not that of the request; with something new it differs.
+-- When an observation is accepted, of any table that the Rust types can hold: by what is seen, by
+-- tests of the cut, and by validity where something is new.
+-- With nothing new the table made is the same, unless the slot's phase is not that of the request;
+-- with something new it differs.
 -- Assumes nothing.
 use Prim.Native.Nat.{ℕ, _<_}
 use mathlib.Core.Path.{refl, sym, ap, _≡_, _∙_}

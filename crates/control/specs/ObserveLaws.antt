@@ -1,5 +1,7 @@
--- The verdict on a table that is known to be valid is that of Judgement, and on any other table but for validity, which is asked for only where something is new.
--- `observes-as` and `observes-valid` say so of the whole call; `weighed-room` is what a maker asks for.
+-- The verdict on a table that is known to be valid is that of Judgement, and on any other table but
+-- for validity, which is asked for only where something is new.
+-- `observes-as` and `observes-valid` say so of the whole call; `weighed-room` is what a maker asks
+-- for.
 -- Assumes nothing.
 use Prim.Native.Nat.{ℕ, _≤_}
 use mathlib.Core.Path.{refl, sym, ap, _≡_, _∙_}

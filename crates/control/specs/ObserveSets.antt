@@ -1,4 +1,5 @@
--- The ids of members and the sets of an observation as the code has them: the members' ids in the order of their places, and nothing sorted.
+-- The ids of members and the sets of an observation as the code has them: the members' ids in the
+-- order of their places, and nothing sorted.
 -- Definitions for the contracts of `sets`; what is right is said in Observation.
 -- Assumes nothing.
 use Prim.Native.Nat.{ℕ, zero, suc, _-_, _^_}

@@ -1,4 +1,5 @@
--- One more element, for the loops of `sets`: by what was passed (`take`), or by what is left (`drop`).
+-- One more element, for the loops of `sets`: by what was passed (`take`), or by what is left
+-- (`drop`).
 -- Each name here is a step of a proof; what is right is said in Observation.
 -- Assumes nothing.
 use Prim.Native.Nat.{ℕ, zero, suc, _+_, _-_, _<_, _≤_}

@@ -1,5 +1,7 @@
--- What an observation sees, and its verdict, as the code computes them: tests of the sets and the nodes first, and then picks.
--- Definitions for the contracts of `observe`; what is right is said in Observation and Judgement, and ObserveSightLaws and ObserveLaws say that this is the same.
+-- What an observation sees, and its verdict, as the code computes them: tests of the sets and the
+-- nodes first, and then picks.
+-- Definitions for the contracts of `observe`; what is right is said in Observation and Judgement,
+-- and ObserveSightLaws and ObserveLaws say that this is the same.
 -- Assumes nothing.
 use Prim.Native.Nat.{ℕ, _+_, _<_, _≤_}
 use mathlib.Core.Path.{_≡_}
@@ -63,7 +65,8 @@ routeOfObserved (moves addsUniform) = 3
 
 -- ---- the sight
 
--- the predecessor's set of voters: whether the nodes fit it, and whether the candidate's is among them
+-- the predecessor's set of voters: whether the nodes fit it, and whether the candidate's is among
+-- them
 unfoldable pub seenOld : ℕ → Bool → Bool → Sight
 seenOld phase fits candidate =
     cond fits
@@ -80,7 +83,8 @@ seenBy phase tests =
     (cond (tests .«is_joint») (seePhase phase joint newJoint)
     (cond (tests .«is_new») (seePhase phase uniform newUniform) strange)))
 
--- the tests, of the ids of the members and of what is supplied; `known` and `lingers` are of the first node that neither has
+-- the tests, of the ids of the members and of what is supplied; `known` and `lingers` are of the
+-- first node that neither has
 abbrev pub testsOf : (phase : ℕ) (old new ids counts nodes : List ℕ) (known lingers : Bool) → SetTests
 testsOf phase old new ids counts nodes known lingers =
     record {
@@ -96,7 +100,8 @@ testsOf phase old new ids counts nodes known lingers =
 abbrev pub lingersAs : VoterReplacementRecord → ℕ → Bool
 lingersAs op node = eqb node noId || isObsolete op (fromNodeId node)
 
--- the whole, where `old` and `new` are the ids of the members of the predecessor and of the successor
+-- the whole, where `old` and `new` are the ids of the members of the predecessor and of the
+-- successor
 abbrev pub seenOf : VoterReplacementRecord → (old new ids counts nodes : List ℕ) → Sight
 seenOf op old new ids counts nodes =
     let outside = firstOf (difference nodes (unionIds old new)) in
@@ -143,8 +148,8 @@ judgeSets t sets nodes cut =
     cond (eqb (t .revision) full) (refused RevisionExhausted)
     (cond (t .«has_replacement») (judgeSeen t (see (t .replacement) sets nodes) cut) (judgeClosed t sets nodes))
 
--- 30 and 31 of what is supplied, and then the verdict. 30 too where a count that the code goes by is
--- above nine; no table that passes the representability check has one.
+-- 30 and 31 of what is supplied, and then the verdict. 30 too where a count that the code goes by
+-- is above nine; no table that passes the representability check has one.
 unfoldable pub weighed : VoterSlotTable → (ids counts nodes : List ℕ) → VoterSlotLogId → Verdict Addition
 weighed t ids counts nodes cut =
     cond (fewMembers t && representableSets ids counts nodes)

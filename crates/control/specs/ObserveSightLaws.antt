@@ -1,5 +1,6 @@
--- What the code sees is what Observation sees: members' ids in the order of their places, whatever repeats, hold what the sets hold, and the tests of the code are those of
--- the definition. The laws that count are `see-is`, of an open request, and `idle-is`, of none.
+-- What the code sees is what Observation sees: members' ids in the order of their places, whatever
+-- repeats, hold what the sets hold, and the tests of the code are those of the definition. The laws
+-- that count are `see-is`, of an open request, and `idle-is`, of none.
 -- Assumes nothing.
 use Prim.Native.Nat.{ℕ, zero, suc, _+_, _-_, _*_, _<_, _≤_, _^_}
 use mathlib.Core.Path.{refl, sym, ap, _≡_, _∙_}

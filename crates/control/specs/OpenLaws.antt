@@ -1,4 +1,5 @@
--- A valid table with an open request, taken apart: its slots, its request, and the slot being replaced.
+-- A valid table with an open request, taken apart: its slots, its request, and the slot being
+-- replaced.
 -- Each name here is a step of a proof; what is right is said in Validation.
 -- Assumes nothing.
 use Prim.Native.Nat.{ℕ, _<_}

@@ -1,21 +1,32 @@
--- Who counts and what a quorum is, in a table; and the claim about the quorums of every line of history, which `quorums` of QuorumLaws proves.
--- It answers the fear that README.md names: "If a retired voter ever counted again, two majorities could confirm different sessions."
+-- Who counts and what a quorum is, in a table; and the claim about the quorums of every line of
+-- history, which `quorums` of QuorumLaws proves.
+-- It answers the fear that README.md names: "If a retired voter ever counted again, two majorities
+-- could confirm different sessions."
 --
 -- What it says, of any valid start, any calls and any number of them:
---   * A retired node counts in a table only while it is the one being replaced there, and no longer from Uniform on; so at most one does (`replaced`, `settled`).
+--   * A retired node counts in a table only while it is the one being replaced there, and no longer
+-- from Uniform on; so at most one does (`replaced`, `settled`).
 --   * A retired node that does not count, counts at no later place of the line (`out`).
---   * Two quorums of one epoch share a node that counts in both tables, however many calls lie between; so do one in phase Joint and one of the next epoch (`meet`).
---     From one place to the next the epoch stays, or it is the next one and the first place is in phase Joint. So quorums before and after a call always share a node
---     (`near`, `meet-next`).
---   * The nodes that count and are not retired are a quorum by themselves: the vote of the node being replaced is never needed, and may always be refused (`enough`).
---   * Where the later of two such quorums has no retired node, they share a node that is retired at neither place (`live`).
--- What it does not say, since it is not so (`quorumRows` of the table in crates/cases, on three slots with node 2 being replaced by 65,538):
---   * That two quorums share a node that is not retired, where votes of the node being replaced are taken: in Fenced {1, 2} and {2, 3} are quorums, and node 2 is retired.
---   * That any two quorums share a node: {1, 2} in Fenced and {3, 65,538} in Uniform do not. Neither is a quorum in Joint, which lies between.
+--   * Two quorums of one epoch share a node that counts in both tables, however many calls lie
+-- between; so do one in phase Joint and one of the next epoch (`meet`).
+--     From one place to the next the epoch stays, or it is the next one and the first place is in
+-- phase Joint. So quorums before and after a call always share a node (`near`, `meet-next`).
+--   * The nodes that count and are not retired are a quorum by themselves: the vote of the node
+-- being replaced is never needed, and may always be refused (`enough`).
+--   * Where the later of two such quorums has no retired node, they share a node that is retired at
+-- neither place (`live`).
+-- What it does not say, since it is not so (`quorumRows` of the table in crates/cases, on three
+-- slots with node 2 being replaced by 65,538):
+--   * That two quorums share a node that is not retired, where votes of the node being replaced are
+-- taken: in Fenced {1, 2} and {2, 3} are quorums, and node 2 is retired.
+--   * That any two quorums share a node: {1, 2} in Fenced and {3, 65,538} in Uniform do not.
+-- Neither is a quorum in Joint, which lies between.
 --
--- It is about the configurations that the tables of one line show, and not about the engine. A table follows the membership entries that were APPLIED, while an engine may
--- count by the last one APPENDED: between the two it may count by a configuration that no table shows yet. What the engine does then, that its voters are otherwise those of
--- the table, that it counts as `isQuorum` does, and that it asks the retired test before it takes a vote, is the service's part.
+-- It is about the configurations that the tables of one line show, and not about the engine. A
+-- table follows the membership entries that were APPLIED, while an engine may count by the last one
+-- APPENDED: between the two it may count by a configuration that no table shows yet. What the
+-- engine does then, that its voters are otherwise those of the table, that it counts as `isQuorum`
+-- does, and that it asks the retired test before it takes a vote, is the service's part.
 -- Assumes nothing.
 use Prim.Native.Nat.{ℕ, _+_, _*_, _≤_, _<_}
 use mathlib.Core.Path.{_≡_}
@@ -48,7 +59,8 @@ currentIds t = memberIds (currentConfiguration t)
 abbrev pub successorIds : VoterSlotTable → List ℕ
 successorIds t = memberIds (t .replacement .successor)
 
--- a node counts: it is a member of the current configuration, or in phase Joint of the one that follows
+-- a node counts: it is a member of the current configuration, or in phase Joint of the one that
+-- follows
 unfoldable pub countsIn : VoterSlotTable → ℕ → Bool
 countsIn t node = contains node (currentIds t) || (isJoint t && contains node (successorIds t))
 
@@ -69,7 +81,8 @@ isQuorum t nodes = isMajority (currentIds t) nodes && (not (isJoint t) || isMajo
 
 -- ---- the claim
 
--- A request is open that has not come to Uniform, and this is the predecessor's member in the slot being replaced.
+-- A request is open that has not come to Uniform, and this is the predecessor's member in the slot
+-- being replaced.
 pub record IsReplaced (t : VoterSlotTable) (node : ℕ) : Type 0 where
   pub some : t .«has_replacement» ≡ true
   pub phase : t .replacement .phase < uniform
@@ -124,7 +137,8 @@ pub record QuorumsOf (start : VoterSlotTable) (calls : List Call) : Type 0 where
   pub near : (i : ℕ) → Near (tableAt start calls i) (tableAt start calls (i + 1))
   pub meet-next : (i : ℕ) (a b : List ℕ) → isQuorum (tableAt start calls i) a ≡ true → isQuorum (tableAt start calls (i + 1)) b ≡ true
       → Shared (tableAt start calls i) (tableAt start calls (i + 1)) a b
-  -- where the later one has no retired node, the shared one is not retired (that the earlier one has none is not needed: what is retired stays so)
+  -- where the later one has no retired node, the shared one is not retired (that the earlier one
+  -- has none is not needed: what is retired stays so)
   pub live : (i j : ℕ) → i ≤ j → Near (tableAt start calls i) (tableAt start calls j) → (a b : List ℕ)
       → isQuorum (tableAt start calls i) a ≡ true → isQuorum (tableAt start calls j) b ≡ true → AllLive (tableAt start calls j) b
       → SharedLive (tableAt start calls i) (tableAt start calls j) a b

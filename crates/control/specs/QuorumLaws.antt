@@ -1,5 +1,7 @@
--- The claim of Quorum, proved: first of one table, then of one call, then of a line. A call keeps the current configuration, and in phase Joint its successor; or it is the
--- observation that comes to Uniform, where the successor takes over. Each name here is a step of a proof; what is right is said in Quorum.
+-- The claim of Quorum, proved: first of one table, then of one call, then of a line. A call keeps
+-- the current configuration, and in phase Joint its successor; or it is the observation that comes
+-- to Uniform, where the successor takes over. Each name here is a step of a proof; what is right is
+-- said in Quorum.
 -- Assumes nothing.
 use Prim.Native.Nat.{ℕ, zero, suc, _+_, _*_, _<_, _≤_}
 use mathlib.Core.Path.{_≡_, refl, sym, ap, _∙_, subst}
@@ -609,7 +611,8 @@ module _ (t : VoterSlotTable) where
         let c = leb-false fenced (op .phase) (chosen-not (leb fenced (op .phase)) ReplacementPastFence _ refl b .0) in
         omega arith
 
-    -- a request that is begun, superseding one or none, has the current configuration as its predecessor
+    -- a request that is begun, superseding one or none, has the current configuration as its
+    -- predecessor
     begun-moves : (q : VoterReplacementRequest) → beginCheck t q cut ≡ Accepted → Moves t (begun t q cut)
     unfolding begunOperation beginCheck
     begun-moves q h =

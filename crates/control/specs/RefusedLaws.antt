@@ -1,5 +1,7 @@
--- Demand 1 of commands and observations: a call that is refused returns the table that it was given. Of all values, invalid tables included.
--- The laws are `refused-command` and `refused-observation`, about the definitions that the contracts of the entry points name.
+-- Demand 1 of commands and observations: a call that is refused returns the table that it was
+-- given. Of all values, invalid tables included.
+-- The laws are `refused-command` and `refused-observation`, about the definitions that the
+-- contracts of the entry points name.
 -- Assumes nothing.
 use Prim.Native.Nat.{ℕ}
 use mathlib.Core.Path.{refl, sym, _≡_}

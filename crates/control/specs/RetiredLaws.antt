@@ -1,5 +1,7 @@
--- "A node being replaced is retired from the begin on, though still in the predecessor configuration": of every valid table with a request open.
--- Document 01, section "Validity"; the laws are `replaced-there` and `replaced-retired`. And the retired test says yes exactly where `isRetired` does, on every valid table: `test-yes`,
+-- "A node being replaced is retired from the begin on, though still in the predecessor
+-- configuration": of every valid table with a request open.
+-- Document 01, section "Validity"; the laws are `replaced-there` and `replaced-retired`. And the
+-- retired test says yes exactly where `isRetired` does, on every valid table: `test-yes`,
 -- `valid-yes`; and its number tells its cases apart: `number-tells`.
 -- Assumes nothing.
 use Prim.Native.Nat.{ℕ, _<_, _≤_}

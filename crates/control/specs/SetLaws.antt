@@ -1,4 +1,5 @@
--- Laws of the sets of Observation, for the code, which sorts nothing: what a set holds, that it rises, and that two that rise are equal where each lies within the other.
+-- Laws of the sets of Observation, for the code, which sorts nothing: what a set holds, that it
+-- rises, and that two that rise are equal where each lies within the other.
 -- Each name here is a step of a proof; what is right is said in Observation.
 -- Assumes nothing.
 use Prim.Native.Nat.{ℕ, zero, suc, _<_, _≤_}

@@ -1,5 +1,7 @@
--- One step of the open request of a valid table: a phase not before the one it has, evidence with the same prepare, the slot's phase and the epoch with it. The successor check looks
--- at nothing but the evidence: it is valid for the phase, and it keeps what was there (`stepped-exactly`). Each other name here is a step of a proof.
+-- One step of the open request of a valid table: a phase not before the one it has, evidence with
+-- the same prepare, the slot's phase and the epoch with it. The successor check looks at nothing
+-- but the evidence: it is valid for the phase, and it keeps what was there (`stepped-exactly`).
+-- Each other name here is a step of a proof.
 -- Assumes nothing.
 use Prim.Native.Nat.{ℕ, _+_, _≤_}
 use mathlib.Core.Path.{subst, ap₂, refl, sym, ap, _≡_, _∙_}

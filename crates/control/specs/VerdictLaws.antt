@@ -1,5 +1,7 @@
--- Laws of verdicts, for the proofs of code: which kind of command makes which table, what a verdict that makes one gives its maker, and what the entry point comes to.
--- Each name here is a step of a proof; what is right is said in Control, and how code decides it in Judgement.
+-- Laws of verdicts, for the proofs of code: which kind of command makes which table, what a verdict
+-- that makes one gives its maker, and what the entry point comes to.
+-- Each name here is a step of a proof; what is right is said in Control, and how code decides it in
+-- Judgement.
 -- Assumes nothing.
 use Prim.Native.Nat.{ℕ, _<_, _≤_}
 use mathlib.Core.Path.{refl, sym, ap, ap₂, _≡_, _∙_}

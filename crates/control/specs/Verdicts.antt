@@ -1,5 +1,7 @@
--- The cases of the code's enum `Judged` as verdicts of Judgement, and what a verdict comes to in the code: an answer, a number, a table.
--- From `apply_control` of control.rs, as Judgement cuts it; that the entry point is `applyControl` is proved by the laws of VerdictLaws.
+-- The cases of the code's enum `Judged` as verdicts of Judgement, and what a verdict comes to in
+-- the code: an answer, a number, a table.
+-- From `apply_control` of control.rs, as Judgement cuts it; that the entry point is `applyControl`
+-- is proved by the laws of VerdictLaws.
 -- Assumes nothing.
 use Prim.Native.Nat.{ℕ}
 use mathlib.Core.Bool.{cond, _&&_}

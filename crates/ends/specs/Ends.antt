@@ -1,5 +1,7 @@
--- Two tables at both ends of the size: one slot and no request, 180 bytes; nine slots and a request with every part at its longest, 8072.
--- Document 01's limits: nine slots, names of 2,048 bytes, a snapshot id of 256. EndsLaws has the theorems.
+-- Two tables at both ends of the size: one slot and no request, 180 bytes; nine slots and a request
+-- with every part at its longest, 8072.
+-- Document 01's limits: nine slots, names of 2,048 bytes, a snapshot id of 256. EndsLaws has the
+-- theorems.
 -- Assumes nothing.
 use Prim.Native.Nat.{ℕ, _-_}
 use mathlib.Core.Bool.{true, false}
@@ -56,7 +58,8 @@ smallest =
       replacement = blankVoterReplacementRecord;
     }
 
--- ---- the largest: the request replaces slot 1, in its third incarnation, and is past its last step
+-- ---- the largest: the request replaces slot 1, in its third incarnation, and is past its last
+-- step
 
 -- the slots after slot 1
 abbrev pub others : {A : Type 0} → (ℕ → A) → List A

@@ -1,4 +1,5 @@
--- Both bounds of a table's size are met: `smallest` and `largest` are tables that the types hold, valid, of 180 and of 8072 bytes.
+-- Both bounds of a table's size are met: `smallest` and `largest` are tables that the types hold,
+-- valid, of 180 and of 8072 bytes.
 -- Each other name here is a step of a proof; the tables are in Ends.
 -- Assumes nothing.
 use Prim.Native.Nat.{ℕ, _<_}

@@ -1,4 +1,5 @@
--- Codecs: a writer and a reader of one form, with the laws that tie them, and the ways to make one of others.
+-- Codecs: a writer and a reader of one form, with the laws that tie them, and the ways to make one
+-- of others.
 -- Assumes nothing.
 use Prim.Native.Nat.{ℕ, zero, suc, _+_, _-_, _≤_, _<_, zero-le}
 use native.Mathlib.Omega.{arith}
@@ -213,7 +214,8 @@ module _ {A : Type 0} (C : Codec A) (G : A → Type 0) (to : (a : A) → G a →
     good = λ bs {a} z e. from a (C .good bs z e);
   }
 
--- The two round trips of a whole form. What is written is read back to its end, and of what was read to its end the same bytes are written.
+-- The two round trips of a whole form. What is written is read back to its end, and of what was
+-- read to its end the same bytes are written.
 pub there-and-back : {A : Type 0} (C : Codec A) (a : A) → C .Good a → C .dec (C .enc a) ≡ ok a (length (C .enc a))
 there-and-back C a g = rw append-nil at (C .back a [] g)
 
@@ -233,7 +235,8 @@ codecOf {G = G} {e = e} {d = d} L = record { Good = G; enc = e; dec = d; back = 
 abbrev pub lawsOf : {A : Type 0} (C : Codec A) → Laws (C .Good) (C .enc) (C .dec)
 lawsOf C = record { back = C .back; within = C .within; bytes = C .bytes; good = C .good }
 
--- What a form that is made of others reads, from what they read: all that a proof of a reader cites.
+-- What a form that is made of others reads, from what they read: all that a proof of a reader
+-- cites.
 module _ {A B : Type 0} (C : Codec A) (D : A → Codec B) (bs : List ℕ) where
   pub dep-ok : {a : A} {b : B} {n m : ℕ} → C .dec bs ≡ ok a n → D a .dec (drop n bs) ≡ ok b m → dep C D .dec bs ≡ ok (a, b) (n + m)
   unfolding dep

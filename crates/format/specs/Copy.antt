@@ -1,4 +1,5 @@
--- A copy into a place of its own from the front: the first i are the source's, and after them is what was there before.
+-- A copy into a place of its own from the front: the first i are the source's, and after them is
+-- what was there before.
 -- Assumes nothing.
 use Prim.Native.Nat.{ℕ, zero, suc, _+_, _-_, _≤_, _<_}
 use native.Mathlib.Nat.{le-of-suc-le-suc, not-suc-le-zero}
@@ -53,7 +54,8 @@ pub copied-zeros : (s : List ℕ) (k n : ℕ) → copied s (zeros k) n ≡ take 
 unfolding zeros copied
 copied-zeros s k n = ap (λ l. take n s ++ l) (drop-replicate n k 0)
 
--- A place is filled from the front, one store a turn: what is filled grows by one, and what is not is as it was.
+-- A place is filled from the front, one store a turn: what is filled grows by one, and what is not
+-- is as it was.
 module _ {A : Type 0} where
   pub filled-more : (v : List A) (i : ℕ) (a : A) → i < length v → take (i + 1) (set v i a) ≡ take i v ++ (a ∷ [])
   filled-more v i a h = rw add-one (take-suc-set v i a h)

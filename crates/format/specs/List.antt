@@ -1,4 +1,5 @@
--- A list of n values of one form, one after the other; and a list in a place of fixed size, with blanks after it.
+-- A list of n values of one form, one after the other; and a list in a place of fixed size, with
+-- blanks after it.
 -- Assumes nothing.
 use Prim.Native.Nat.{ℕ, zero, suc, _+_, _-_, _≤_, _<_}
 use native.Mathlib.Omega.{arith}

@@ -12,7 +12,8 @@ use lib.Seq.{drop-cons, getD-set-same, drop-set-lt, take-length, paste, length-t
 unfoldable pub put : List ℕ → ℕ → List ℕ → List ℕ
 put e at xs = take at xs ++ (e ++ drop (at + length e) xs)
 
--- e was written at `at`: xs is what stood there before and ys what stands there now, and r is the place after e
+-- e was written at `at`: xs is what stood there before and ys what stands there now, and r is the
+-- place after e
 pub record Put (e : List ℕ) (at : ℕ) (xs ys : List ℕ) (r : ℕ) : Type 0 where
   pub next : r ≡ at + length e
   pub bytes : ys ≡ put e at xs
@@ -58,7 +59,8 @@ module _ {a : List ℕ} (b : List ℕ) {at : ℕ} {xs ys : List ℕ} {r : ℕ} w
 pub room-left : (a b : List ℕ) (at n : ℕ) → at + length (a ++ b) ≤ n → at + length a ≤ n
 room-left a b at n h = omega (arith, length-append a b)
 
--- One turn of a writer that puts a number's bytes from the last to the first: with j bytes left to write it is j + 1 before.
+-- One turn of a writer that puts a number's bytes from the last to the first: with j bytes left to
+-- write it is j + 1 before.
 drop-set : (l : List ℕ) (i b : ℕ) → i < length l → drop i (set l i b) ≡ b ∷ drop (suc i) l
 drop-set l i b h =
     drop-cons (set l i b) i 0 (omega (arith, length-set l i b)) ∙ ap₂ (λ x t. x ∷ t) (getD-set-same l i b 0 h) (drop-set-lt (suc i) l i b (omega arith))

@@ -8,7 +8,8 @@ pub data Res (A : Type 0) : Type 0 where
   ok : A → ℕ → Res A
   no : ℕ → Res A
 
--- The two refusals that a form has of its own, by document 01's numbers: bad bytes, and more bytes than a bound allows. A test may refuse by any number.
+-- The two refusals that a form has of its own, by document 01's numbers: bad bytes, and more bytes
+-- than a bound allows. A test may refuse by any number.
 abbrev pub malformed : ℕ
 malformed = 6
 

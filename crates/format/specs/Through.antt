@@ -1,4 +1,5 @@
--- A form read out of another by a reading of its own, which may refuse; and a form in a box: its size, and its bytes to the last.
+-- A form read out of another by a reading of its own, which may refuse; and a form in a box: its
+-- size, and its bytes to the last.
 -- Assumes nothing.
 use Prim.Native.Nat.{ℕ, _^_, _≤_, _<_}
 use mathlib.Core.Path.{_≡_, refl, sym, ap, ap₂, _∙_, subst}
@@ -109,7 +110,8 @@ module _ {A : Type 0} (C : Codec A) (bound : ℕ) where
   unfolding boxed through box dep check raw
   boxed-bytes a = refl
 
-  -- a value whose bytes a box holds: bytes they are, no more than the bound, and their number fits two bytes
+  -- a value whose bytes a box holds: bytes they are, no more than the bound, and their number fits
+  -- two bytes
   pub boxed-good : (a : A) → C .Good a → Bytes (C .enc a) → length (C .enc a) ≤ bound → length (C .enc a) < 256 ^ 2 → boxed .Good a
   unfolding boxed through box dep check raw uint held sizeTest pick
   boxed-good a g z h k = (((k, rw (le-leb (length (C .enc a)) bound h)), (refl, z)), (length (C .enc a), whole-there C a g))

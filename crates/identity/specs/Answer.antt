@@ -1,5 +1,7 @@
--- The number of each answer: document 01, "Refusals from the input", "Refusals from the state", and 0 for accepted.
--- 1 to 7 are `VoterSlotError`, 11 to 28 number `VoterReplacementError` in its order, 30 to 33 are document 01's own.
+-- The number of each answer: document 01, "Refusals from the input", "Refusals from the state", and
+-- 0 for accepted.
+-- 1 to 7 are `VoterSlotError`, 11 to 28 number `VoterReplacementError` in its order, 30 to 33 are
+-- document 01's own.
 -- Assumes nothing.
 use Prim.Native.Nat.{ℕ}
 use mathlib.Core.Bool.{Bool}

@@ -1,5 +1,7 @@
--- Laws of the answers: no two have one number, and what a call of `accepted` on a callee's answer tells of the definition.
--- Each name here is a step of a proof or a law for the layers above; what is right is said in Answer.
+-- Laws of the answers: no two have one number, and what a call of `accepted` on a callee's answer
+-- tells of the definition.
+-- Each name here is a step of a proof or a law for the layers above; what is right is said in
+-- Answer.
 -- Assumes nothing.
 use Prim.Native.Nat.{ℕ}
 use mathlib.Core.Path.{_≡_, refl, sym, ap, _∙_}
@@ -67,7 +69,8 @@ answer-of-number BadRecord = refl
 pub number-injective : (a b : Answer) → numberOf a ≡ numberOf b → a ≡ b
 number-injective a b e = sym (answer-of-number a) ∙ (ap answerOf e ∙ answer-of-number b)
 
--- ---- `let answer = check(..); if !accepted(answer) { .. }`: what is known of the check's definition in each arm
+-- ---- `let answer = check(..); if !accepted(answer) { .. }`: what is known of the check's
+-- definition in each arm
 
 module _ (definition result : Answer) (t : Bool) (met : result ≡ definition) (asked : t ≡ isAccepted result) where
   same-test : t ≡ isAccepted definition

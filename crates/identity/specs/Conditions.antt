@@ -1,4 +1,5 @@
--- A list of conditions: `a and b and c` is `a && (b && c)`. `&&` groups to the left, and would need the parentheses.
+-- A list of conditions: `a and b and c` is `a && (b && c)`. `&&` groups to the left, and would need
+-- the parentheses.
 -- Assumes nothing.
 use mathlib.Core.Bool.{Bool, _&&_}
 

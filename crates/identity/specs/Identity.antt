@@ -1,5 +1,7 @@
--- Slots, incarnations, epochs and node ids: document 01, "Ported", and the numbers 1, 2 and 3 of its refusals.
--- From voter_slots/identity.rs and identity.rs: `SlotId`, `VoterIncarnation`, `VoterSlotIdentity`, `ConsensusNodeId`.
+-- Slots, incarnations, epochs and node ids: document 01, "Ported", and the numbers 1, 2 and 3 of
+-- its refusals.
+-- From voter_slots/identity.rs and identity.rs: `SlotId`, `VoterIncarnation`, `VoterSlotIdentity`,
+-- `ConsensusNodeId`.
 -- Assumes nothing.
 use Prim.Native.Nat.{ℕ, _+_, _-_, _*_, _/_, _%_, _^_}
 use mathlib.Core.Bool.{Bool, cond, _&&_}
@@ -27,8 +29,9 @@ isVoterIncarnation value = leb 1 value && leb value maxVoterIncarnation
 abbrev pub isConfigurationEpoch : ℕ → Bool
 isConfigurationEpoch value = leb 1 value
 
--- `CONSENSUS_NODE_ID_MAX` and `ConsensusNodeId::new` of identity.rs: not 0, and below 2^63. Document 01 refuses a node id from 2^63 on in an observation
--- with 30; 0, which the Rust's type can hold all the same, is compared there (DECISIONS, reading 1).
+-- `CONSENSUS_NODE_ID_MAX` and `ConsensusNodeId::new` of identity.rs: not 0, and below 2^63.
+-- Document 01 refuses a node id from 2^63 on in an observation with 30; 0, which the Rust's type
+-- can hold all the same, is compared there (DECISIONS, reading 1).
 abbrev pub maxConsensusNodeId : ℕ
 maxConsensusNodeId = 2 ^ 63 - 1
 
@@ -80,8 +83,9 @@ nodeId identity =
 unfoldable pub fromNodeId : ℕ → VoterSlotIdentityResult
 fromNodeId node = newVoterSlotIdentity (node % nodeIdSpan) (node / nodeIdSpan + 1)
 
--- "For every case of an enum answer, a definition gives this paper's number and values": those of the two results. A refusal has the value 0, or slot 0
--- and incarnation 0. The contracts equate the pair of both.
+-- "For every case of an enum answer, a definition gives this paper's number and values": those of
+-- the two results. A refusal has the value 0, or slot 0 and incarnation 0. The contracts equate the
+-- pair of both.
 abbrev pub numberOfNumber : NumberResult → ℕ
 numberOfNumber (NumberResult.Ok value) = 0
 numberOfNumber (NumberResult.Err answer) = numberOf answer

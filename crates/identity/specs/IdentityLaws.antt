@@ -1,6 +1,7 @@
--- Laws of slots, incarnations and node ids: what passed a check is within its bounds, node ids are made and read without loss, and document 01's number and
--- value of a result leave one result.
--- Each name here is a step of a proof or a law for the layers above; what is right is said in Identity.
+-- Laws of slots, incarnations and node ids: what passed a check is within its bounds, node ids are
+-- made and read without loss, and document 01's number and value of a result leave one result.
+-- Each name here is a step of a proof or a law for the layers above; what is right is said in
+-- Identity.
 -- Assumes nothing.
 use Prim.Native.Nat.{ℕ, _+_, _-_, _*_, _/_, _%_, _≤_}
 use mathlib.Core.Path.{_≡_, refl, sym, ap, _∙_}
@@ -103,7 +104,8 @@ made-held identity node h =
 
 -- ---- document 01's number and value leave one result
 
--- A result that its number and value tell from every other: a value that is no refusal's, or a refusal whose number is not 0.
+-- A result that its number and value tell from every other: a value that is no refusal's, or a
+-- refusal whose number is not 0.
 abbrev pub TellingNumber : NumberResult → Type 0
 TellingNumber (NumberResult.Ok value) = 1 ≤ value
 TellingNumber (NumberResult.Err answer) = isAccepted answer ≡ false
@@ -115,7 +117,8 @@ TellingIdentity (VoterSlotIdentityResult.Err answer) = isAccepted answer ≡ fal
 not-zero : (a : Answer) → isAccepted a ≡ false → 0 ≡ numberOf a → ⊥
 not-zero a h e = let z : true ≡ false = ap (λ (n : ℕ). eqb n 0) e ∙ h in let y : _≡_ {A = ℕ} 0 1 = cc in omega arith
 
--- What a contract says of number and value, made an equation of results: `number-told r (nodeId identity) (node-telling identity) (c .node-id .ensures)`.
+-- What a contract says of number and value, made an equation of results: `number-told r (nodeId
+-- identity) (node-telling identity) (c .node-id .ensures)`.
 pub number-told : (r d : NumberResult) → TellingNumber d → numberAndValue r ≡ numberAndValue d → r ≡ d
 number-told (NumberResult.Ok v) (NumberResult.Ok w) t e = λ i. NumberResult.Ok (e i .1)
 number-told (NumberResult.Ok v) (NumberResult.Err b) t e = absurd (not-zero b t (λ i. e i .0))

@@ -1,5 +1,6 @@
 -- Names, snapshot ids and strict names: document 01, section "Text". Lengths are counted in bytes.
--- The first two are the rules on text in validation.rs; the strict name is this project's, after the SPIFFE-ID standard.
+-- The first two are the rules on text in validation.rs; the strict name is this project's, after
+-- the SPIFFE-ID standard.
 -- Assumes nothing.
 use Prim.Native.Nat.{ℕ, _+_}
 use mathlib.Core.Bool.{Bool, true, false, cond, not, _&&_, _||_}
@@ -36,8 +37,8 @@ allows Any code = true
 allows NoControl code = not (isControl code)
 allows NoControlNoWhitespace code = not (isControl code) && not (isWhitespace code)
 
--- The ASCII characters that a rule allows are those from the first to the last: the inner functions `first_ascii`, `last_ascii`, by which text that is
--- all ASCII is judged without decoding it.
+-- The ASCII characters that a rule allows are those from the first to the last: the inner functions
+-- `first_ascii`, `last_ascii`, by which text that is all ASCII is judged without decoding it.
 abbrev pub firstAscii : Allowed → ℕ
 firstAscii Any = 0x00
 firstAscii NoControl = 0x20
@@ -66,7 +67,8 @@ maxSpiffeIdBytes = 2048
 abbrev pub maxSnapshotIdBytes : ℕ
 maxSnapshotIdBytes = 256
 
--- "A controller or candidate name starts with `spiffe://`, is 10 to 2,048 bytes, and holds no control character .. and none of Unicode's 25 White_Space code points"
+-- "A controller or candidate name starts with `spiffe://`, is 10 to 2,048 bytes, and holds no
+-- control character .. and none of Unicode's 25 White_Space code points"
 unfoldable pub isName : List ℕ → Bool
 isName s =
     (leb 10 (length s) && leb (length s) maxSpiffeIdBytes)
@@ -77,7 +79,8 @@ isName s =
 unfoldable pub isSnapshotId : List ℕ → Bool
 isSnapshotId s = (leb 1 (length s) && leb (length s) maxSnapshotIdBytes) && allChars (allows NoControl) s
 
--- The bytes of a strict name: "a-z, 0-9, dot, hyphen, underscore" in a trust domain, and A-Z too in a segment.
+-- The bytes of a strict name: "a-z, 0-9, dot, hyphen, underscore" in a trust domain, and A-Z too in
+-- a segment.
 abbrev pub isDomainByte : ℕ → Bool
 isDomainByte b =
     (leb 97 b && leb b 122) || ((leb 48 b && leb b 57) || (eqb b 46 || (eqb b 45 || eqb b 95)))
@@ -122,8 +125,9 @@ areStrictParts (domain ∷ segments) = isTrustDomain domain && allSegments segme
 unfoldable pub isStrictName : List ℕ → Bool
 isStrictName s = leb (length s) maxSpiffeIdBytes and startsWith s scheme and areStrictParts (split (drop (length scheme) s))
 
--- The part of a strict name that is being read, and one byte more: the inner function `next_part`, by which a strict name is judged in one pass. A slash
--- ends a part, which must not be empty; any other byte must be one of those that the part may hold, and a trust domain holds 255 at most.
+-- The part of a strict name that is being read, and one byte more: the inner function `next_part`,
+-- by which a strict name is judged in one pass. A slash ends a part, which must not be empty; any
+-- other byte must be one of those that the part may hold, and a trust domain holds 255 at most.
 abbrev pub nextPart : Part → ℕ → Part
 nextPart part b =
     cond (eqb b slash) (record { good = part .good && ltb 0 (part .run); «in_domain» = false; run = 0 })

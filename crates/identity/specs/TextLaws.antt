@@ -1,4 +1,5 @@
--- Laws of the rules on text: the ASCII shortcut, the ranges without white space, the loops' steps, and the strict name read byte by byte.
+-- Laws of the rules on text: the ASCII shortcut, the ranges without white space, the loops' steps,
+-- and the strict name read byte by byte.
 -- Each name here is a step of a proof; what is right is said in Text.
 -- Assumes nothing.
 use Prim.Native.Nat.{ℕ, zero, suc, _+_, _<_, _≤_}
@@ -121,7 +122,8 @@ ascii-allowed NoControlNoWhitespace b h =
 abbrev part : Bool → Bool → ℕ → Part
 part good inDomain run = record { good = good; «in_domain» = inDomain; run = run }
 
--- In the trust domain (true) or a segment (false), of which n bytes were read: the byte b may follow.
+-- In the trust domain (true) or a segment (false), of which n bytes were read: the byte b may
+-- follow.
 abbrev byteFits : Bool → ℕ → ℕ → Bool
 byteFits true n b = isDomainByte b && ltb n 255
 byteFits false n b = isSegmentByte b

@@ -1,5 +1,6 @@
 -- UTF-8 as RFC 3629 defines it: the grammar of its section 4, and the code points of its section 3.
--- States "UTF-8 as RFC 3629 has it; the first byte is judged by its range" of document 01, section "Text".
+-- States "UTF-8 as RFC 3629 has it; the first byte is judged by its range" of document 01, section
+-- "Text".
 -- Assumes nothing.
 use Prim.Native.Nat.{ℕ, zero, suc, _+_, _*_, _%_}
 use mathlib.Core.Bool.{Bool, true, false, cond, _&&_}
@@ -24,7 +25,8 @@ within r b = leb (r .low) b && leb b (r .high)
 abbrev pub utf8Tail : Range
 utf8Tail = octets 0x80 0xBF
 
--- UTF8-char = UTF8-1 / UTF8-2 / UTF8-3 / UTF8-4: each alternative of the grammar, in its order, as the ranges of its bytes.
+-- UTF8-char = UTF8-1 / UTF8-2 / UTF8-3 / UTF8-4: each alternative of the grammar, in its order, as
+-- the ranges of its bytes.
 abbrev pub utf8Char : List (List Range)
 utf8Char =
     (octets 0x00 0x7F ∷ [])
@@ -53,7 +55,8 @@ widthIn (a ∷ more) s = cond (fits a s) (length a) (widthIn more s)
 abbrev pub charWidth : List ℕ → ℕ
 charWidth s = widthIn utf8Char s
 
--- The code point of a character of that many bytes: the bits marked x in the table of section 3, in order.
+-- The code point of a character of that many bytes: the bits marked x in the table of section 3, in
+-- order.
 abbrev pub codePoint : ℕ → List ℕ → ℕ
 codePoint width s =
     cond (eqb width 1) (getD s 0 0)
@@ -69,8 +72,9 @@ decodedOf (suc n) s = Char (codePoint (suc n) s) (suc n)
 unfoldable pub decodedChar : List ℕ → Decoded
 decodedChar s = decodedOf (charWidth s) s
 
--- What stands at the front of s where the first byte has picked an alternative and rs are the ranges of the bytes after it: `decode_two`,
--- `decode_three`, `decode_four`, which take the bounds of the second byte.
+-- What stands at the front of s where the first byte has picked an alternative and rs are the
+-- ranges of the bytes after it: `decode_two`, `decode_three`, `decode_four`, which take the bounds
+-- of the second byte.
 abbrev pub ledBy : List Range → List ℕ → Decoded
 ledBy rs s = decodedOf (cond (fits rs (drop 1 s)) (suc (length rs)) 0) s
 
@@ -78,7 +82,8 @@ abbrev pub passes : (ℕ → Bool) → Decoded → Bool
 passes p (Char code width) = p code
 passes p Malformed = false
 
--- UTF8-octets = *( UTF8-char ): s is UTF-8, and p holds of each of its code points. No text of n bytes has more than n characters.
+-- UTF8-octets = *( UTF8-char ): s is UTF-8, and p holds of each of its code points. No text of n
+-- bytes has more than n characters.
 unfoldable pub charsFrom : (ℕ → Bool) → ℕ → List ℕ → Bool
 charsFrom p zero s = eqb (length s) 0
 charsFrom p (suc n) s = cond (eqb (length s) 0) true (passes p (decodedChar s) && charsFrom p n (drop (charWidth s) s))

@@ -1,4 +1,5 @@
--- Laws of UTF-8's definition: what the lead byte decides, and the steps of a reader that goes from character to character.
+-- Laws of UTF-8's definition: what the lead byte decides, and the steps of a reader that goes from
+-- character to character.
 -- Each name here is a step of a proof; what is right is said in Utf8.
 -- Assumes nothing.
 use Prim.Native.Nat.{ℕ, zero, suc, _<_, _≤_}
@@ -75,7 +76,8 @@ unfolding decodedChar widthIn fits
 char-none [] h = refl
 char-none (b ∷ t) h = absurd (omega arith)
 
--- A lead byte in the first range of the alternative at n, those before it ending below and those after it starting above: the ranges after decide.
+-- A lead byte in the first range of the alternative at n, those before it ending below and those
+-- after it starting above: the ranges after decide.
 pub char-led : (n : ℕ) (r : Range) (rs : List Range)
     → utf8Char ≡ take n utf8Char ++ ((r ∷ rs) ∷ drop (suc n) utf8Char)
     → endsBelow (r .low) (take n utf8Char) ≡ true → startsAbove (r .high) (drop (suc n) utf8Char) ≡ true

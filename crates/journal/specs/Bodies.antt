@@ -1,4 +1,5 @@
--- What the readers of bodies answer, as what the body asks; and the blanks that they return with a refusal.
+-- What the readers of bodies answer, as what the body asks; and the blanks that they return with a
+-- refusal.
 -- From document 01, section "Replay program", by way of Records and Replay.
 -- Assumes nothing.
 use Prim.Native.Nat.{ℕ}
@@ -69,7 +70,8 @@ beginBy head attestation digest configuration =
       cut = head .cut;
     }
 
--- the body of a BG from what stands before the attestation, the attestation's bytes, and the 64 bytes after them
+-- the body of a BG from what stands before the attestation, the attestation's bytes, and the 64
+-- bytes after them
 abbrev pub suppliedBody : BeginHead → (attestation supplied : List ℕ) → BeginBody
 suppliedBody head attestation supplied =
     record { head = head; attestation = attestation; «supplied_request_digest» = take 32 supplied; «supplied_configuration_id» = take 32 (drop 32 supplied) }
@@ -95,7 +97,8 @@ beginAskingBy Begin b = asks (command (beginControl (b .request)) (b .cut))
 abbrev pub beginAsking : BeginRead → Asking
 beginAsking r = beginAskingBy (r .asks) (r .value)
 
--- the ids of the sets stand at the front of one array, the nodes after them, and the counts of the sets at the front of another
+-- the ids of the sets stand at the front of one array, the nodes after them, and the counts of the
+-- sets at the front of another
 abbrev pub observationAsking : ObservationRead → (ids counts : List ℕ) → Asking
 observationAsking r ids counts =
     cond (r .formed) (asks (observation (take (r .ids) ids) (take (r .sets) counts) (take (r .nodes) (drop (r .ids) ids)) (r .cut))) bad

@@ -1,4 +1,5 @@
--- What the proofs of the readers of bodies cite: sized bytes whose bound no size passes, an id in its place, a step by its kind, and what each body asks.
+-- What the proofs of the readers of bodies cite: sized bytes whose bound no size passes, an id in
+-- its place, a step by its kind, and what each body asks.
 -- Assumes nothing.
 use Prim.Native.Nat.{ℕ, _+_, _-_, _≤_, _<_}
 use native.Mathlib.Omega.{arith}

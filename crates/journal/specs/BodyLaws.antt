@@ -1,4 +1,5 @@
--- The bodies that a format holds: those whose values are of their types. So a log that is written is read again as it was meant (ReplayLaws).
+-- The bodies that a format holds: those whose values are of their types. So a log that is written
+-- is read again as it was meant (ReplayLaws).
 -- Each name here is a step of a proof; what is right is said in Records.
 -- Assumes nothing.
 use Prim.Native.Nat.{ℕ, zero, suc, _+_, _*_, _^_, _<_}
@@ -234,7 +235,8 @@ pub observation-size : (b : ObservationBody) → length (observationBody .enc b)
 unfolding observationBody via dep
 observation-size b = simp (length-append, logId-long, sets-size, ids-size) (omega arith)
 
--- So the ids and the nodes of a body are few: in one of at most 65,535 bytes there are fewer than 8,192 of both together.
+-- So the ids and the nodes of a body are few: in one of at most 65,535 bytes there are fewer than
+-- 8,192 of both together.
 pub observation-few : (body : List ℕ) {b : ObservationBody} {n : ℕ} → Bytes body → whole observationBody body ≡ ok b n
     → 19 + 2 * length (b .sets) + 8 * (length (flatten (b .sets)) + length (b .nodes)) ≡ length body
 observation-few body {b} z e = sym (observation-size b) ∙ ap length (back-and-there observationBody body z (whole-is observationBody body e))

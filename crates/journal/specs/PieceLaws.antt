@@ -1,5 +1,6 @@
--- Pieces of an input one after another: the records that are ready in the first bytes are the first records of all the bytes, whatever follows; so a program that plays
--- piece after piece prints what `replay` says of the whole input.
+-- Pieces of an input one after another: the records that are ready in the first bytes are the first
+-- records of all the bytes, whatever follows; so a program that plays piece after piece prints what
+-- `replay` says of the whole input.
 -- Assumes nothing.
 use Prim.Native.Nat.{ℕ, zero, suc, _+_, _≤_, _<_}
 use native.Mathlib.Omega.{arith}
@@ -101,8 +102,9 @@ begins (suc most) bs more = begins-by most bs more (λ n. begins most (drop n bs
 
 -- ---- and so do the lines
 
--- Of the lines of all the bytes, from a count of records and a standing on: those of the records that are ready come first, and then those of the bytes that are left and
--- whatever follows; a record that ends the reading ends them.
+-- Of the lines of all the bytes, from a count of records and a standing on: those of the records
+-- that are ready come first, and then those of the bytes that are left and whatever follows; a
+-- record that ends the reading ends them.
 module _ (count : ℕ) (s : Standing) (most : ℕ) (bs more : List ℕ) where
   abbrev es : List Entry
   es = ready most false bs
@@ -118,7 +120,8 @@ module _ (count : ℕ) (s : Standing) (most : ℕ) (bs more : List ℕ) where
   pub last-piece : endsIn es ≡ true → left (count + 1) s (bs ++ more) ≡ lines (count + 1) (run s es)
   last-piece q = ap (λ (l : List Entry). lines (count + 1) (run s l)) (begins most bs more .1 q)
 
--- where no bytes follow, the records that are ready are the records of the bytes, as many as were asked for
+-- where no bytes follow, the records that are ready are the records of the bytes, as many as were
+-- asked for
 last-broken : (b : ℕ) (bs : List ℕ) → isBroken true (b ∷ bs) ≡ true
 unfolding isBroken
 last-broken b bs = by (leb 2 (length (b ∷ bs))) (not (isKnownMark (headMark (b ∷ bs))))

@@ -1,6 +1,9 @@
--- The bodies of the records that a replay reads: document 01, section "Replay program", field by field, and the record around a body.
--- A format here has its writer, its reader and the laws that tie them (crate `format`). Numbers are big-endian. A format refuses with the numbers of its parts;
--- a body that it does not read to the last byte is "not of this form", whatever the number. The body of a TB is any bytes: codec's reader judges it.
+-- The bodies of the records that a replay reads: document 01, section "Replay program", field by
+-- field, and the record around a body.
+-- A format here has its writer, its reader and the laws that tie them (crate `format`). Numbers are
+-- big-endian. A format refuses with the numbers of its parts;
+-- a body that it does not read to the last byte is "not of this form", whatever the number. The
+-- body of a TB is any bytes: codec's reader judges it.
 -- Assumes nothing.
 use Prim.Native.Nat.{ℕ}
 use mathlib.Core.Path.{_≡_, refl, sym, ap}
@@ -53,9 +56,11 @@ markerBody =
     via (dep (dep logId (λ a. raw 16)) (λ a. raw 32)) (λ p. record { cut = p .0 .0; «request_id» = p .0 .1; «request_digest» = p .1 })
     (λ b. ((b .cut, b .«request_id»), b .«request_digest»)) (λ a g. refl)
 
--- ---- AD: "the same, then step byte 0 snapshot (cut, 16-bit size, id, digest 32), 1 caught up (cut), 2 continuation, 3 fence, 4 finalize"
+-- ---- AD: "the same, then step byte 0 snapshot (cut, 16-bit size, id, digest 32), 1 caught up
+-- (cut), 2 continuation, 3 fence, 4 finalize"
 
--- The id may be any bytes of a 16-bit size: one that is too long or not UTF-8 is of the form, and the call gives it 30.
+-- The id may be any bytes of a 16-bit size: one that is too long or not UTF-8 is of the form, and
+-- the call gives it 30.
 pub record SnapshotPart : Type 0 where
   pub cut : VoterSlotLogId
   pub id : List ℕ
@@ -70,7 +75,8 @@ snapshotPart =
     via (dep (dep logId (λ a. sizedBytes)) (λ a. raw 32)) (λ p. record { cut = p .0 .0; id = p .0 .1; digest = p .1 })
     (λ s. ((s .cut, s .id), s .digest)) (λ a g. refl)
 
--- a step is a kind with its parts as fields, as in a command; a part that the kind does not have takes no bytes
+-- a step is a kind with its parts as fields, as in a command; a part that the kind does not have
+-- takes no bytes
 pub record StepBody : Type 0 where
   pub kind : ℕ
   pub snapshot : SnapshotPart
@@ -92,14 +98,17 @@ pub record AdvanceBody : Type 0 where
 unfoldable pub advanceBody : Codec AdvanceBody
 advanceBody = via (dep markerBody (λ a. stepBody)) (λ p. record { named = p .0; step = p .1 }) (λ b. (b .named, b .step)) (λ a g. refl)
 
--- ---- BG: "cut, expected revision (64 bits), expected cluster (32), configuration id (32), epoch (64 bits), candidate (slot 16 bits, incarnation 64 bits, key 32,
--- descriptor 32, generation 64 bits), attestation with 16-bit size, supplied request digest (32), supplied configuration id (32)"
+-- ---- BG: "cut, expected revision (64 bits), expected cluster (32), configuration id (32), epoch
+-- (64 bits), candidate (slot 16 bits, incarnation 64 bits, key 32, descriptor 32, generation 64
+-- bits), attestation with 16-bit size, supplied request digest (32), supplied configuration id
+-- (32)"
 
 -- the width of a slot number
 abbrev pub slotWidth : ℕ
 slotWidth = 2
 
--- any number is allowed here: one that is no slot, incarnation or epoch is of the form, and the call gives it 30
+-- any number is allowed here: one that is no slot, incarnation or epoch is of the form, and the
+-- call gives it 30
 unfoldable pub anyIdentity : Codec VoterSlotIdentity
 anyIdentity = via (dep (uint slotWidth) (λ a. uint 8)) (λ p. record { slot = p .0; incarnation = p .1 }) (λ i. (i .slot, i .incarnation)) (λ a g. refl)
 
@@ -151,7 +160,8 @@ observationBody =
 
 -- ---- a record: "a two-byte mark, a 16-bit body size, the body"
 
--- the bytes of a mark, and what is printed of one that is unknown: `TB`, `MK`, `AD`, `BG`, `OB`, `??`
+-- the bytes of a mark, and what is printed of one that is unknown: `TB`, `MK`, `AD`, `BG`, `OB`,
+-- `??`
 abbrev pub markText : Mark → List ℕ
 markText Tb = 84 ∷ 66 ∷ []
 markText Mk = 77 ∷ 75 ∷ []

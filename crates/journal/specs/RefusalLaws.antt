@@ -1,4 +1,5 @@
--- No reading is refused by 0: where the reader of a table or of an attestation answers 0, it read one (document 01: 0 is "accepted").
+-- No reading is refused by 0: where the reader of a table or of an attestation answers 0, it read
+-- one (document 01: 0 is "accepted").
 -- Assumes nothing.
 use Prim.Native.Nat.{ℕ, zero, suc, _+_}
 use native.Mathlib.Omega.{arith}

@@ -1,8 +1,9 @@
--- The replay program: document 01, section "Replay program". From the bytes of standard input to the bytes of standard output: `replay`.
---     entries    the records that the bytes are, or the broken one that ends them; no table plays a part in it
---     step       one record at the table that stands, or at none: the answer, and the table that stands afterwards
---     run        a list of records, from any table or none;  line  what is printed of one
--- Assumes nothing.
+-- The replay program: document 01, section "Replay program". From the bytes of standard input to
+-- the bytes of standard output: `replay`.
+--     entries    the records that the bytes are, or the broken one that ends them; no table plays a
+-- part in it step       one record at the table that stands, or at none: the answer, and the table
+-- that stands afterwards run        a list of records, from any table or none;  line  what is
+-- printed of one Assumes nothing.
 use Prim.Native.Nat.{ℕ, zero, suc, _+_, _/_, _%_}
 use mathlib.Core.Bool.{cond}
 use mathlib.Core.List.{List, [], _∷_, _++_, flatten, map}
@@ -55,7 +56,8 @@ markerControl b =
 unfoldable pub markerAsked : MarkerBody → Asked
 markerAsked b = command (markerControl b) (b .cut)
 
--- "A snapshot id in AD that is over 256 bytes or not UTF-8 gives 30": its length is kept, and of its bytes as many as have a place, so that the call gives 30.
+-- "A snapshot id in AD that is over 256 bytes or not UTF-8 gives 30": its length is kept, and of
+-- its bytes as many as have a place, so that the call gives 30.
 unfoldable pub snapshotIdOf : List ℕ → SnapshotId
 snapshotIdOf id = record { len = length id; bytes = take maxSnapshotIdBytes (id ++ replicate maxSnapshotIdBytes 0) }
 
@@ -98,7 +100,8 @@ beginControl r = record { kind = beginKind; request = r; «request_id» = blankR
 unfoldable pub beginAsked : BeginBody → LostVoterAttestationV1 → Asked
 beginAsked b attestation = command (beginControl (beginOf b attestation .request)) (b .head .cut)
 
--- document 01: "the sets of an observation stand one behind another in one slice, with their counts beside it"
+-- document 01: "the sets of an observation stand one behind another in one slice, with their counts
+-- beside it"
 unfoldable pub observationAsked : ObservationBody → Asked
 observationAsked b = observation (flatten (b .sets)) (map length (b .sets)) (b .nodes) (b .cut)
 
@@ -161,7 +164,8 @@ opening Bg body = (badRecord, absent)
 opening Ob body = (badRecord, absent)
 opening Unknown body = (badRecord, absent)
 
--- One record: the answer's number, and the table that stands afterwards. With a table "TB while a table stands: 33", whatever its body.
+-- One record: the answer's number, and the table that stands afterwards. With a table "TB while a
+-- table stands: 33", whatever its body.
 unfoldable pub step : Standing → Entry → ℕ × Standing
 step s (broken mark) = (badRecord, s)
 step absent (framed mark body) = opening mark body
@@ -169,7 +173,8 @@ step (stands t) (framed mark body) = called t (asking mark body)
 
 -- ---- the records of the input
 
--- "Unknown mark, mark or size cut short, or body cut short: 33 and end." What is shown then is the mark, where it is a known one.
+-- "Unknown mark, mark or size cut short, or body cut short: 33 and end." What is shown then is the
+-- mark, where it is a known one.
 unfoldable pub firstEntry : Mark → Res (Mark × List ℕ) → (ℕ → List Entry) → List Entry
 firstEntry shown (no k) rest = broken shown ∷ []
 firstEntry shown (ok p n) rest = framed (p .0) (p .1) ∷ rest n
@@ -231,7 +236,8 @@ unfoldable pub revisionOf : Standing → ℕ
 revisionOf absent = 0
 revisionOf (stands t) = t .revision
 
--- "Each further line holds record number, mark (`??` if unknown or itself cut short), answer, revision afterwards"
+-- "Each further line holds record number, mark (`??` if unknown or itself cut short), answer,
+-- revision afterwards"
 unfoldable pub lineOf : ℕ → Mark → ℕ → ℕ → List ℕ
 lineOf number mark answer revision =
     decimal number ++ space ++ markText mark ++ space ++ decimal answer ++ space ++ decimal revision ++ newline

@@ -1,5 +1,6 @@
--- Laws of the replay: what the first record of the bytes is, with no bound on how many there are; that records which are written are read again; that what is
--- printed of a record does not hang on what follows it; and decimal numbers.
+-- Laws of the replay: what the first record of the bytes is, with no bound on how many there are;
+-- that records which are written are read again; that what is printed of a record does not hang on
+-- what follows it; and decimal numbers.
 -- Assumes nothing.
 use Prim.Native.Nat.{ℕ, zero, suc, _+_, _*_, _-_, _/_, _%_, _^_, _≤_, _<_}
 use native.Mathlib.Omega.{arith}
@@ -228,7 +229,8 @@ pub entries-later : (i : ℕ) (bs : List ℕ) → Reached i bs → Later i bs
 entries-later zero = reached-first
 entries-later (suc i) = reached-next i (entries-later i)
 
--- ---- the same by what a program with little memory holds at a time: up to four bytes of head, and of the body up to as many as its size says
+-- ---- the same by what a program with little memory holds at a time: up to four bytes of head, and
+-- of the body up to as many as its size says
 
 abbrev pub isComplete : List ℕ → List ℕ → Bool
 isComplete head body = leb 4 (length head) && (isKnownMark (headMark head) && leb (headSize head) (length body))
@@ -434,7 +436,8 @@ replay-append s l g rest =
     ∙ ap (λ (x : List ℕ). heading ++ x) (lines-append 1 (run s es) (run (ended s es) (entries rest)))
     ∙ ap (λ (k : ℕ). heading ++ (lines 1 (run s es) ++ lines (1 + k) (run (ended s es) (entries rest)))) (run-long s es)
 
--- ---- what is left to print, for a loop over the bytes: nothing; a line, and what is left after the record; a last line
+-- ---- what is left to print, for a loop over the bytes: nothing; a line, and what is left after
+-- the record; a last line
 
 abbrev pub left : ℕ → Standing → List ℕ → List ℕ
 left number s bs = lines number (run s (entries bs))

@@ -1,4 +1,5 @@
--- Demand 3 of a replay: from an accepted TB on, the tables that a run goes through are a line of history, and its calls are those that the records ask for.
+-- Demand 3 of a replay: from an accepted TB on, the tables that a run goes through are a line of
+-- history, and its calls are those that the records ask for.
 -- The proof is `played` and `replayed` of RunHistoryLaws.
 -- Assumes nothing.
 use Prim.Native.Nat.{ℕ, _+_}
@@ -52,7 +53,8 @@ abbrev pub BytesEntry : Entry → Type 0
 BytesEntry (framed mark body) = Bytes body
 BytesEntry (broken mark) = Unit {0}
 
--- Of a table and records: after each of them stands the table of the line that is after as many calls as the records up to there ask for. And it is a line of history.
+-- Of a table and records: after each of them stands the table of the line that is after as many
+-- calls as the records up to there ask for. And it is a line of history.
 pub record LineOfRun (start : VoterSlotTable) (es : List Entry) : Type 0 where
   pub held : AllOf HeldAsked (asked es)
   pub tables : (i : ℕ) → ended (stands start) (take i es) ≡ stands (tableAt start (calls (asked es) held) (length (asked (take i es))))
@@ -67,12 +69,14 @@ PlayedHistory =
 abbrev pub standingAt : List ℕ → ℕ → Standing
 standingAt input i = ended absent (take i (entries input))
 
--- Of an input: where a record brings a table, the records after it are such a line from that table, to the end.
+-- Of an input: where a record brings a table, the records after it are such a line from that table,
+-- to the end.
 pub record ReplayHistory (input : List ℕ) : Type 0 where
   pub from : (i : ℕ) (start : VoterSlotTable) → standingAt input i ≡ absent → standingAt input (i + 1) ≡ stands start
       → LineOfRun start (drop (i + 1) (entries input))
-  -- What stands after i + j records is what the j records after the first i leave of what stood there. So the tables of `from` are those of the input from place i + 1 on,
-  -- which by `run-at` of ReplayLaws are the tables whose revisions are printed.
+  -- What stands after i + j records is what the j records after the first i leave of what stood
+  -- there. So the tables of `from` are those of the input from place i + 1 on, which by `run-at` of
+  -- ReplayLaws are the tables whose revisions are printed.
   pub onwards : (i j : ℕ) → standingAt input (i + j) ≡ ended (standingAt input i) (take j (drop i (entries input)))
 
 abbrev pub ReplayedHistory : Type 0

@@ -1,4 +1,5 @@
--- That a replay is a line of history: what a body carries is of its types, each record is one call or none, and a table that was read is valid.
+-- That a replay is a line of history: what a body carries is of its types, each record is one call
+-- or none, and a table that was read is valid.
 -- Each name here is a step of a proof; what is right is said in Records, Replay and RunHistory.
 -- Assumes nothing.
 use Prim.Native.Nat.{ℕ, zero, suc, _+_, _^_, _<_}

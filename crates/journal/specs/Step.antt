@@ -1,5 +1,7 @@
--- A record at a valid table, judged before anything is made: `called` of Replay in the two steps of the code. That both give the same is proved (StepLaws).
--- From document 01, section "Replay program": 33; the attestation reader's number; 30; 31; the call.
+-- A record at a valid table, judged before anything is made: `called` of Replay in the two steps of
+-- the code. That both give the same is proved (StepLaws).
+-- From document 01, section "Replay program": 33; the attestation reader's number; 30; 31; the
+-- call.
 -- Assumes nothing.
 use Prim.Native.Nat.{ℕ}
 use mathlib.Core.Path.{_≡_}

@@ -1,5 +1,6 @@
--- Laws of a record that is judged and then made: what the judges of bodies come to, that a verdict makes its table from the body it was judged of, what each maker
--- asks for, and that both together are `step` of Replay.
+-- Laws of a record that is judged and then made: what the judges of bodies come to, that a verdict
+-- makes its table from the body it was judged of, what each maker asks for, and that both together
+-- are `step` of Replay.
 -- Assumes nothing.
 use Prim.Native.Nat.{ℕ, _+_, _<_, _≤_}
 use native.Mathlib.Omega.{arith}
@@ -207,7 +208,8 @@ begin-steps t r cut =
     (step-not (eqBytes (knownDigest t (r .attestation .«request_id»)) (r .attestation .«request_digest»)) _ _ (step-not (isAccepted (requestCheck r)) _ _ refl refl) refl)
     (step-not (isAccepted (beginCheck t r cut)) _ _ (step-not (beginTest t cut) _ _ refl refl) refl)
 
--- An Advance makes no table of a Begin: what it makes is that of a step (`advance-made`), and a Begin's has another revision.
+-- An Advance makes no table of a Begin: what it makes is that of a step (`advance-made`), and a
+-- Begin's has another revision.
 begins-not : (t : VoterSlotTable) (a : VoterAdvance) → judgeOf t a ≡ moves begins → ⊥
 unfolding carried made stepMade advanceControl
 begins-not t a e =

@@ -1,6 +1,9 @@
--- The bytes of a table (`OPVI` version 1) and of an attestation, field by field, in the order of codec.rs.
--- A format here has its writer, its reader and the laws that tie them (crate `format`). From codec.rs; document 01, "Refusals from the input":
--- 1 and 2 for a slot or incarnation, 4 for another version, 5 for a name, snapshot id or attestation that is too long, 6 for any other bad bytes.
+-- The bytes of a table (`OPVI` version 1) and of an attestation, field by field, in the order of
+-- codec.rs.
+-- A format here has its writer, its reader and the laws that tie them (crate `format`). From
+-- codec.rs; document 01, "Refusals from the input":
+-- 1 and 2 for a slot or incarnation, 4 for another version, 5 for a name, snapshot id or
+-- attestation that is too long, 6 for any other bad bytes.
 -- Assumes nothing.
 use Prim.Native.Nat.{ℕ, _-_}
 use mathlib.Core.Path.{_≡_, refl, ap, ap₂, sym}
@@ -185,7 +188,8 @@ claimsRequest =
     (λ p. record { «request_id» = p .0 .1; «request_digest» = p .1 })
     (λ r. ((tt, r .«request_id»), r .«request_digest»)) (λ a g. refl)
 
--- the installation, the slot with the incarnation that was lost, its descriptor, and the candidate's key
+-- the installation, the slot with the incarnation that was lost, its descriptor, and the
+-- candidate's key
 unfoldable pub claimsSlot : Codec ClaimsSlot
 claimsSlot =
     via (dep (dep (dep (raw 32) (λ a. identity)) (λ a. raw 32)) (λ a. raw 32))

@@ -1,4 +1,5 @@
--- What the readers' proofs use of single formats: the bound of sized bytes, a part of a slice, and the magic byte by byte.
+-- What the readers' proofs use of single formats: the bound of sized bytes, a part of a slice, and
+-- the magic byte by byte.
 -- Assumes nothing.
 use Prim.Native.Nat.{ℕ, _+_, _-_, _≤_}
 use native.Mathlib.Omega.{arith}
@@ -48,7 +49,8 @@ magic-bytes (a ∷ b ∷ []) h = absurd (omega arith)
 magic-bytes (a ∷ b ∷ c ∷ []) h = absurd (omega arith)
 magic-bytes (a ∷ b ∷ c ∷ d ∷ s) h = ap (λ t. eqb a 79 && (eqb b 80 && (eqb c 86 && t))) (and-true (eqb d 73))
 
--- all of the bytes are an attestation where nothing is left over and its rule holds; both are refused by 6
+-- all of the bytes are an attestation where nothing is left over and its rule holds; both are
+-- refused by 6
 pub attestation-by : (bs : List ℕ) {a : LostVoterAttestationV1} {n : ℕ} (w v : Bool) → claims .dec bs ≡ ok a n → eqb n (length bs) ≡ w → validAttestation a ≡ v
     → whole attestation bs ≡ pick (w && v) (ok a n) (no malformed)
 unfolding attestation pick

@@ -1,5 +1,7 @@
--- What the readers' answers say: for each case document 01's number and the values. An answer that carries a value is a reading of the format;
--- `report` is of an answer that comes with its value, and `outcome` puts both together, with the blank where it is a refusal.
+-- What the readers' answers say: for each case document 01's number and the values. An answer that
+-- carries a value is a reading of the format;
+-- `report` is of an answer that comes with its value, and `outcome` puts both together, with the
+-- blank where it is a refusal.
 -- Assumes nothing.
 use Prim.Native.Nat.{ℕ, _+_}
 use mathlib.Core.Bool.{Bool}
@@ -43,12 +45,14 @@ abbrev pub report : Extent → Res (Unit {0})
 report (reading.To n) = ok tt n
 report (reading.Refused a) = no (numberOf a)
 
--- the report of a reading, and its value, or the blank with a refusal; of a writing, and the buffer, unchanged with a refusal
+-- the report of a reading, and its value, or the blank with a refusal; of a writing, and the
+-- buffer, unchanged with a refusal
 unfoldable pub outcome : {A : Type 0} → A → Res A → Res (Unit {0}) × A
 outcome blank (ok a n) = (ok tt n, a)
 outcome blank (no k) = (no k, blank)
 
--- the refusal; of what was not refused, which nobody asks, some refusal (this and each `why..` below)
+-- the refusal; of what was not refused, which nobody asks, some refusal (this and each `why..`
+-- below)
 abbrev pub whyOf : Extent → Answer
 whyOf (reading.To n) = InvalidRecord
 whyOf (reading.Refused a) = a

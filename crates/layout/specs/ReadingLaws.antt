@@ -1,4 +1,5 @@
--- What an answer with its value tells of the reading, and what the reading tells of it: all that a reader's proof cites of `report` and `outcome`.
+-- What an answer with its value tells of the reading, and what the reading tells of it: all that a
+-- reader's proof cites of `report` and `outcome`.
 -- Assumes nothing.
 use Prim.Native.Nat.{ℕ}
 use native.Mathlib.Omega.{arith}

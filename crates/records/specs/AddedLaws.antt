@@ -1,4 +1,5 @@
--- Evidence with one part added to valid evidence: the Rust types can hold it, and the tests of the whole come to those of the part that is added.
+-- Evidence with one part added to valid evidence: the Rust types can hold it, and the tests of the
+-- whole come to those of the part that is added.
 -- Each name here is a step of a proof; what is right is said in Evidence.
 -- Assumes nothing.
 use Prim.Native.Nat.{ℕ, _<_, _≤_}

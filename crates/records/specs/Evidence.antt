@@ -1,5 +1,7 @@
--- Cuts and the evidence of a replacement: `VoterSlotLogId` and `VoterReplacementEvidence` of validation.rs (`validate`, `follows`, `retains`, `latest`).
--- Document 01, section "Validity": a cut is a log position, and the evidence runs from prepare to uniform.
+-- Cuts and the evidence of a replacement: `VoterSlotLogId` and `VoterReplacementEvidence` of
+-- validation.rs (`validate`, `follows`, `retains`, `latest`).
+-- Document 01, section "Validity": a cut is a log position, and the evidence runs from prepare to
+-- uniform.
 -- Assumes nothing.
 use Prim.Native.Nat.{ℕ}
 use mathlib.Core.Bool.{Bool, true, false, cond, not, Bool·beq, _&&_, _||_}
@@ -36,7 +38,8 @@ stageOr stage previous = cond (stage .«is_some») (stage .cut) previous
 abbrev pub snapshotCut : VoterReplacementEvidence → OptionalLogId
 snapshotCut e = record { «is_some» = e .«has_snapshot»; cut = e .snapshot .cut }
 
--- "Evidence runs prepare, snapshot, learner, caught up, fence, joint, uniform ..; only a snapshot cut may equal prepare."
+-- "Evidence runs prepare, snapshot, learner, caught up, fence, joint, uniform ..; only a snapshot
+-- cut may equal prepare."
 unfoldable pub validStages : VoterReplacementEvidence → ℕ → Bool
 validStages e phase =
     let toSnapshot = stageOr (snapshotCut e) (e .prepare) in

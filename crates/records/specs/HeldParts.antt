@@ -1,4 +1,5 @@
--- Which values the types hold, part by part: arrays, every blank, and the records of With whose parts the types hold.
+-- Which values the types hold, part by part: arrays, every blank, and the records of With whose
+-- parts the types hold.
 -- Each name here is a step of a proof; what is right is said in Held.
 -- Assumes nothing.
 use Prim.Native.Nat.{ℕ, zero, suc, _^_, _<_}

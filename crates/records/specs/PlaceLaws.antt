@@ -1,5 +1,7 @@
--- A table with one slot put in another's place, and a next revision: what it takes to be valid, to be one that the Rust types can hold, and to follow the old one.
--- Each name here is a step of a proof; what is right is said in Validation, Representable and Successor.
+-- A table with one slot put in another's place, and a next revision: what it takes to be valid, to
+-- be one that the Rust types can hold, and to follow the old one.
+-- Each name here is a step of a proof; what is right is said in Validation, Representable and
+-- Successor.
 -- Assumes nothing.
 use Prim.Native.Nat.{ℕ, _+_, _<_, _≤_}
 use mathlib.Core.Path.{refl, _≡_, _∙_}

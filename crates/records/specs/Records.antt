@@ -1,5 +1,6 @@
 -- Names for the numbers that a table holds in place of the Rust's enums, and for its places.
--- From records.rs: `VoterSlotPhase`, `VoterReplacementPhase`, `VoterReplacementResultKind`, `VoterLossReason`, `MAX_FIXED_VOTER_SLOTS`.
+-- From records.rs: `VoterSlotPhase`, `VoterReplacementPhase`, `VoterReplacementResultKind`,
+-- `VoterLossReason`, `MAX_FIXED_VOTER_SLOTS`.
 -- Assumes nothing.
 use Prim.Native.Nat.{ℕ, zero, suc, _+_}
 use mathlib.Core.Bool.{Bool, true, false, cond, _&&_}

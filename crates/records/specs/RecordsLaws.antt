@@ -1,4 +1,5 @@
--- Laws of the names in Records: a test of every place below a count, one more place passed, and the first place of which a test holds.
+-- Laws of the names in Records: a test of every place below a count, one more place passed, and the
+-- first place of which a test holds.
 -- Each name here is a step of a proof; what is right is said in Records.
 -- Assumes nothing.
 use Prim.Native.Nat.{ℕ, zero, suc, _+_, _-_, _<_, _≤_}

@@ -1,4 +1,5 @@
--- The representability check, part by part: each record's is all of the tests listed at once. `says` takes it apart, `passes` puts it together (TestLaws).
+-- The representability check, part by part: each record's is all of the tests listed at once.
+-- `says` takes it apart, `passes` puts it together (TestLaws).
 -- Each name here is a step of a proof; what is right is said in Representable.
 -- Assumes nothing.
 use Prim.Native.Nat.{ℕ, _<_, _≤_}

@@ -1,5 +1,7 @@
--- The successor check: `VoterSlotTable::validate_successor_of` of validation.rs. 30; the new table's number; the old one's; 7.
--- Document 01: "Every changed table must pass the successor check", "7: successor check: regression".
+-- The successor check: `VoterSlotTable::validate_successor_of` of validation.rs. 30; the new
+-- table's number; the old one's; 7.
+-- Document 01: "Every changed table must pass the successor check", "7: successor check:
+-- regression".
 -- Assumes nothing.
 use Prim.Native.Nat.{ℕ, _+_}
 use mathlib.Core.Bool.{Bool, false, cond, not, _&&_, _||_}
@@ -48,7 +50,8 @@ requestSucceeds new old =
     and leb (old .phase) (new .phase)
     and retains (new .evidence) (old .evidence) (old .phase)
 
--- The receipt of the request itself: completed once the epoch is the successor's, or superseded before the fence.
+-- The receipt of the request itself: completed once the epoch is the successor's, or superseded
+-- before the fence.
 unfoldable pub ownReceipt : ℕ → VoterReplacementRecord → VoterReplacementResult → Bool
 ownReceipt epoch old receipt =
     let isCompleted = eqb (receipt .kind) completed in
@@ -56,7 +59,8 @@ ownReceipt epoch old receipt =
     and eqBytes (receipt .«request_digest») (old .attestation .«request_digest»)
     and ((isCompleted && leb (old .successor .epoch) epoch) || (not isCompleted && ltb (old .phase) fenced))
 
--- The request that was open has ended: the receipt of its slot, in a table of that epoch, is its own or a later one.
+-- The request that was open has ended: the receipt of its slot, in a table of that epoch, is its
+-- own or a later one.
 unfoldable pub requestEnded : ℕ → VoterReplacementRecord → VoterReplacementResult → Bool
 requestEnded epoch old receipt =
     ltb (old .attestation .«expected_incarnation») (receipt .incarnation)
@@ -72,8 +76,9 @@ slotIndex t slot = firstFrom (λ i. eqb (slotAt t i .member .identity .slot) slo
 abbrev pub orRegression : Bool → Answer → Answer
 orRegression kept next = cond kept next Regression
 
--- The request that was open is open no more: its slot has the receipt. (3 as in the Rust, which asks for the next incarnation here; an old table
--- that is valid has none of 2^47 attested, so 3 does not come out.)
+-- The request that was open is open no more: its slot has the receipt. (3 as in the Rust, which
+-- asks for the next incarnation here; an old table that is valid has none of 2^47 attested, so 3
+-- does not come out.)
 unfoldable pub endedSucceeds : VoterSlotTable → VoterReplacementRecord → Answer
 endedSucceeds new old =
     let s = slotAt new (slotIndex new (old .attestation .slot)) in

@@ -1,6 +1,8 @@
--- Laws of validity and of the successor check, for the layers above: what a valid table has, and what a table that may follow another keeps.
--- The check is reflexive on valid tables, and not transitive: a request's id may be used again once its receipt was replaced by a later one, and the
--- check of the first table, where the old request is open, against the third, where the new one of that id is, compares the two. What it keeps of
+-- Laws of validity and of the successor check, for the layers above: what a valid table has, and
+-- what a table that may follow another keeps.
+-- The check is reflexive on valid tables, and not transitive: a request's id may be used again once
+-- its receipt was replaced by a later one, and the check of the first table, where the old request
+-- is open, against the third, where the new one of that id is, compares the two. What it keeps of
 -- installation, revision, epoch and slots is transitive.
 -- Assumes nothing.
 use Prim.Native.Nat.{ℕ, _+_, _-_, _%_, _<_, _≤_}

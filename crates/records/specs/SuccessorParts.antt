@@ -1,4 +1,5 @@
--- The successor check, part by part: slots, open requests and heads that follow others, `succession` of two tables, and the whole check.
+-- The successor check, part by part: slots, open requests and heads that follow others,
+-- `succession` of two tables, and the whole check.
 -- Each name here is a step of a proof; what is right is said in Successor.
 -- Assumes nothing.
 use Prim.Native.Nat.{ℕ, _<_, _≤_}
@@ -31,7 +32,8 @@ use Rattle.records.specs.With.{slotWith, inPhase}
 
 -- ---- the tests, one by one
 
--- a slot: its number, what never falls, a member that stays or is admitted later, a receipt that stays or is followed
+-- a slot: its number, what never falls, a member that stays or is admitted later, a receipt that
+-- stays or is followed
 pub slot-succeeds-is : (new old : VoterSlotRecord) → MadeOf (
     eqb (new .member .identity .slot) (old .member .identity .slot)
     ∷ leb (old .«retired_through») (new .«retired_through»)
@@ -142,7 +144,8 @@ slot-same s = slot-in-phase s (s .phase) (le-refl _)
 
 -- ---- two tables that are valid
 
--- The head follows; tables of one revision are equal; of another, each slot follows the old one, and so does the open request.
+-- The head follows; tables of one revision are equal; of another, each slot follows the old one,
+-- and so does the open request.
 pub record SuccessionHolds (new old : VoterSlotTable) : Type 0 where
   pub head : headSucceeds new old ≡ true
   pub same : new .revision ≡ old .revision → new ≡ old

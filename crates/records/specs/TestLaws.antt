@@ -1,5 +1,7 @@
--- Tests taken apart and put together: a long `&&`, a choice whose test is decided, an answer that leads on, every place and the first place below a count.
--- Each name here is a step of a proof. `ValidParts`, `RepresentableParts` and `SuccessorParts` say which tests a definition consists of.
+-- Tests taken apart and put together: a long `&&`, a choice whose test is decided, an answer that
+-- leads on, every place and the first place below a count.
+-- Each name here is a step of a proof. `ValidParts`, `RepresentableParts` and `SuccessorParts` say
+-- which tests a definition consists of.
 -- Assumes nothing.
 use Prim.Native.Nat.{ℕ, zero, suc, _+_, _-_, _<_, _≤_}
 use mathlib.Core.Path.{refl, sym, ap, _≡_, _∙_}

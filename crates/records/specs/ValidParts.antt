@@ -1,4 +1,5 @@
--- Validity, part by part: what a valid table, slot or open request has, as facts (`..-holds`), and that these facts make it valid (`..-valid`).
+-- Validity, part by part: what a valid table, slot or open request has, as facts (`..-holds`), and
+-- that these facts make it valid (`..-valid`).
 -- Each name here is a step of a proof; what is right is said in Validation.
 -- Assumes nothing.
 use Prim.Native.Nat.{ℕ, zero, suc, _+_, _-_, _%_, _<_, _≤_}

@@ -1,5 +1,7 @@
--- Validity of a table: document 01, section "Validity", and exactly validation.rs, in its order. Numbers 6 and 3, after 30.
--- The Rust gives 5 for a name above 2,048 bytes and a snapshot id above 256. Here both get 30, before validity is asked, so validity never gives 5.
+-- Validity of a table: document 01, section "Validity", and exactly validation.rs, in its order.
+-- Numbers 6 and 3, after 30.
+-- The Rust gives 5 for a name above 2,048 bytes and a snapshot id above 256. Here both get 30,
+-- before validity is asked, so validity never gives 5.
 -- Assumes nothing.
 use Prim.Native.Nat.{ℕ, zero, suc, _+_, _-_, _%_}
 use mathlib.Core.Path.{_≡_}
@@ -40,11 +42,13 @@ validConfiguration c =
     and allBelow (λ i. ltb 0 (memberAt c i .«admission_generation»)) (c .count)
     and allBelow (λ i. ltb (memberAt c i .identity .slot) (memberAt c (i + 1) .identity .slot)) (c .count - 1)
 
--- A controller or candidate name. One that is longer than its field is invalid, whatever the field holds.
+-- A controller or candidate name. One that is longer than its field is invalid, whatever the field
+-- holds.
 abbrev pub validSpiffeId : SpiffeId → Bool
 validSpiffeId s = leb (s .len) maxSpiffeIdBytes && isName (take (s .len) (s .bytes))
 
--- Both names of an attestation are valid: what `validate_operation` requires, since its caller looks at the names.
+-- Both names of an attestation are valid: what `validate_operation` requires, since its caller
+-- looks at the names.
 pub record NamesHold (a : LostVoterAttestationV1) : Type 0 where
   pub candidate : validSpiffeId (a .«candidate_spiffe_id») ≡ true
   pub controller : validSpiffeId (a .«controller_spiffe_id») ≡ true
@@ -79,7 +83,8 @@ validResult revision epoch active s =
     and (not active || ltb (r .incarnation) own)
     and (not (eqb (r .incarnation) own) || (eqb (s .phase) voting && eqb (r .kind) completed))
 
--- One slot: "retired-through is incarnation − 1"; past its first incarnation it is being replaced or has its completed receipt.
+-- One slot: "retired-through is incarnation − 1"; past its first incarnation it is being replaced
+-- or has its completed receipt.
 unfoldable pub validSlot : ℕ → ℕ → Bool → VoterSlotRecord → Bool
 validSlot revision epoch active s =
     let r = s .«last_result» in
@@ -103,7 +108,8 @@ validSlots t =
 
 -- ---- `VoterSlotTable::validate_operation`
 
--- "Slot phase of the slot being replaced: Pending up to SnapshotInstalled, CatchingUp to Fenced, then Voting."
+-- "Slot phase of the slot being replaced: Pending up to SnapshotInstalled, CatchingUp to Fenced,
+-- then Voting."
 abbrev pub targetPhase : ℕ → ℕ
 targetPhase phase = cond (leb phase snapshotInstalled) pending (cond (leb phase fenced) catchingUp voting)
 
@@ -144,7 +150,8 @@ claimsOf op =
       prepare = op .evidence .prepare;
     }
 
--- The receipt that a supersession leaves: of the incarnation that the new request replaces, at its prepare.
+-- The receipt that a supersession leaves: of the incarnation that the new request replaces, at its
+-- prepare.
 abbrev pub supersededReceipt : VoterSlotRecord → Claims → Bool
 supersededReceipt s c =
     s .«has_last_result»
@@ -152,7 +159,8 @@ supersededReceipt s c =
     and eqb (s .«last_result» .kind) superseded
     and sameVoterSlotLogId (s .«last_result» .terminal) (c .prepare)
 
--- The member that is being replaced: the attested one, or, where the attested one was a candidate, the one before it.
+-- The member that is being replaced: the attested one, or, where the attested one was a candidate,
+-- the one before it.
 unfoldable pub retiredMember : Claims → VoterSlotRecord → VoterSlotMember → Bool
 retiredMember c s predecessor =
     cond (eqb (predecessor .identity .incarnation) (c .«expected_incarnation»))
@@ -179,7 +187,8 @@ otherRequest c s =
 abbrev pub otherMember : VoterSlotRecord → VoterSlotMember → VoterSlotMember → Bool
 otherMember s predecessor successor = sameVoterSlotMember predecessor successor && eqb (s .phase) voting
 
--- One slot and its two members; 3 where the slot is the target and no incarnation follows the attested one.
+-- One slot and its two members; 3 where the slot is the target and no incarnation follows the
+-- attested one.
 unfoldable pub validateMember : Claims → VoterSlotRecord → VoterSlotMember → VoterSlotMember → Answer
 validateMember c s predecessor successor =
     requireOf (sameVoterSlotMember (s .member) successor && eqb (predecessor .identity .slot) (successor .identity .slot))

@@ -1,4 +1,5 @@
--- Laws of Validation: what a test tells, the bounds of a valid count, names, a slot without a receipt, and the first refusal of the slots.
+-- Laws of Validation: what a test tells, the bounds of a valid count, names, a slot without a
+-- receipt, and the first refusal of the slots.
 -- Each name here is a step of a proof; what is right is said in Validation.
 -- Assumes nothing.
 use Prim.Native.Nat.{ℕ, zero, suc, _+_, _-_, _%_, _<_, _≤_}

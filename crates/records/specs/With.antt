@@ -1,5 +1,7 @@
--- Records with some parts changed: a table, an open request, a slot, and the evidence with one part more.
--- For the commands and observations of control.rs, each of which changes a few fields of a table: an argument is what changes, and the rest stays.
+-- Records with some parts changed: a table, an open request, a slot, and the evidence with one part
+-- more.
+-- For the commands and observations of control.rs, each of which changes a few fields of a table:
+-- an argument is what changes, and the rest stays.
 -- Assumes nothing.
 use Prim.Native.Nat.{ℕ}
 use mathlib.Core.Bool.{Bool, true}

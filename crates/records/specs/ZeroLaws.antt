@@ -1,4 +1,5 @@
--- Laws of the test for a blank: bytes against zeros, a bool against false, and a turn of the loop over the places.
+-- Laws of the test for a blank: bytes against zeros, a bool against false, and a turn of the loop
+-- over the places.
 -- Each name here is a step of a proof; what is right is said in Equality, Blank and Representable.
 -- Assumes nothing.
 use Prim.Native.Nat.{ℕ, _+_, _<_}
@@ -28,7 +29,8 @@ pub beq-false : (b : Bool) → not b ≡ Bool·beq b false
 beq-false true = refl
 beq-false false = refl
 
--- a loop over n places without early exit, whose answer so far is `same`: one more place, whose test is t
+-- a loop over n places without early exit, whose answer so far is `same`: one more place, whose
+-- test is t
 module _ {A : Type 0} (f : A → A → Bool) (blank : A) where
   pub blank-more : (d : A) (a : List A) (n i : ℕ) (same t : Bool) → length a ≡ n → i < n
       → same ≡ eqList f (take i a) (take i (replicate n blank)) → t ≡ f (getD a i d) blank

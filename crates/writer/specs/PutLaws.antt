@@ -1,4 +1,5 @@
--- What the proofs of the writers cite: an optional value by its flag, and the values of a list in use, one more at a time.
+-- What the proofs of the writers cite: an optional value by its flag, and the values of a list in
+-- use, one more at a time.
 -- Assumes nothing.
 use Prim.Native.Nat.{ℕ, zero, suc, _+_, _-_, _≤_}
 use native.Mathlib.Omega.{arith}

@@ -1,5 +1,7 @@
--- How many bytes each record takes, where that varies: the sizes that the writers of codec.rs come to, and that `table_size` of the code computes.
--- A flag takes 1, a number its width, a digest 32, a request id 16; a length or a size 2, and the bytes after it.
+-- How many bytes each record takes, where that varies: the sizes that the writers of codec.rs come
+-- to, and that `table_size` of the code computes.
+-- A flag takes 1, a number its width, a digest 32, a request id 16; a length or a size 2, and the
+-- bytes after it.
 -- Assumes nothing.
 use Prim.Native.Nat.{ℕ, zero, suc, _+_, _*_}
 use mathlib.Core.Bool.{cond}
@@ -50,7 +52,8 @@ threeCutsSize c = cutSize (c .first) + cutSize (c .second) + cutSize (c .third)
 abbrev pub configurationSize : VoterConfiguration → ℕ
 configurationSize c = 8 + 1 + memberSize * c .count
 
--- version, id and two digests; slot, incarnation, two digests and generation; the lengths of both names and a digest; reason, digest, four times and signature
+-- version, id and two digests; slot, incarnation, two digests and generation; the lengths of both
+-- names and a digest; reason, digest, four times and signature
 abbrev pub claimsSize : ℕ
 claimsSize = (2 + 16 + 32 + 32) + (2 + 8 + 32 + 32 + 8) + (2 + 2 + 32) + (1 + 32 + 8 + 8 + 8 + 8 + 64)
 

@@ -1,4 +1,5 @@
--- How long the bytes of each format are: as Size says, of a value that the types hold and whose lengths fit their fields.
+-- How long the bytes of each format are: as Size says, of a value that the types hold and whose
+-- lengths fit their fields.
 -- Each name here is a step of a proof; what is written is said in Format, and the sizes in Size.
 -- Assumes nothing.
 use Prim.Native.Nat.{ℕ, zero, suc, _+_, _*_, _≤_, _<_}
@@ -255,7 +256,8 @@ pub threeCuts-long : (c : ThreeCuts) → length (threeCuts .enc c) ≡ threeCuts
 unfolding threeCuts via dep
 threeCuts-long c = simp (length-append, optionalLogId-long)
 
--- the evidence from its six cuts, an open request from its parts, a table from its slots and its request: as the sizes are added up
+-- the evidence from its six cuts, an open request from its parts, a table from its slots and its
+-- request: as the sizes are added up
 pub evidence-sum : (e : VoterReplacementEvidence) → HeldVoterReplacementEvidence e → e .snapshot .«snapshot_id» .len ≤ 256
     → (let cuts = length (threeCuts .enc (earlyCuts e)) + length (threeCuts .enc (lateCuts e)) in
     length (evidence .enc e) ≡ cond (e .«has_snapshot») (67 + e .snapshot .«snapshot_id» .len + cuts) (17 + cuts))
