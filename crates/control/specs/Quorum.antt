@@ -15,7 +15,7 @@
 -- being replaced is never needed, and may always be refused (`enough`).
 --   * Where the later of two such quorums has no retired node, they share a node that is retired at
 -- neither place (`live`).
--- What it does not say, since it is not so (`quorumRows` of the table in crates/cases, on three
+-- What it does not say, since it is not so (`quorumRows` of the table in crates/proved_cases, on three
 -- slots with node 2 being replaced by 65,538):
 --   * That two quorums share a node that is not retired, where votes of the node being replaced are
 -- taken: in Fenced {1, 2} and {2, 3} are quorums, and node 2 is retired.
