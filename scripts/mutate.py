@@ -825,8 +825,10 @@ def caught(room, source, m):
     try:
         for name in ('replay', 'cases'):
             program = os.path.abspath(f'{ROOM}/target/run/{name}')
-            subprocess.run([sys.executable, os.path.abspath('scripts/unproved.py'), 'program', name, program], cwd=ROOM, check=True,
-                           stdout=subprocess.DEVNULL)
+            built = subprocess.run([sys.executable, os.path.abspath('scripts/unproved.py'), 'program', name, program], cwd=ROOM, check=False,
+                                   stdout=subprocess.PIPE, stderr=subprocess.STDOUT)
+            if built.returncode:
+                sys.exit(built.stdout.decode(errors='replace'))
             with open(f'crates/{name}/stdin', 'rb') as given, open(f'crates/{name}/stdout', 'rb') as expected:
                 try:
                     run = subprocess.run([program], stdin=given, stdout=subprocess.PIPE, stderr=subprocess.DEVNULL, timeout=300, check=False)

@@ -13,6 +13,7 @@ use Rattle.identity.specs.declared.answer.Answer.the-variants.{Accepted}
 use Rattle.format.specs.Put.{Put, put}
 use Rattle.format.specs.Res.{Res}
 use Rattle.format.specs.Res.Res.{ok, no}
+use Rattle.records.specs.Blank.{blankVoterSlotTable}
 use Rattle.records.specs.Validation.{validate}
 use Rattle.records.specs.declared.records.VoterSlotTable.{VoterSlotTable}
 use Rattle.control.specs.Control.{full}
@@ -88,6 +89,10 @@ isStanding (stands t) = true
 abbrev pub tableIn : VoterSlotTable → Standing → VoterSlotTable
 tableIn t absent = t
 tableIn t (stands u) = u
+
+-- before the first record: no table, and nothing read
+abbrev pub newJournal : Journal
+newJournal = record { stands = false; count = 0; ended = false; table = blankVoterSlotTable }
 
 abbrev pub standingOf : Journal → Standing
 standingOf j = standing (j .stands) (j .table)

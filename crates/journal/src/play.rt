@@ -9,7 +9,7 @@ ghost use Rattle.identity.specs.declared.answer.Answer.the-variants.{Accepted, 
 ghost use Rattle.records.specs.Blank.{blankVoterSlotTable};
 ghost use Rattle.records.specs.Validation.{validate};
 ghost use Rattle.control.specs.Control.{full};
-ghost use Rattle.journal.specs.Play.{Goes, PutTurn, Safe, brings, longestLine, openedAt, openedTo, playOf, playedTo, readyOf, standing, startAnswer, startPlace, turnsAfter};
+ghost use Rattle.journal.specs.Play.{Goes, PutTurn, Safe, brings, longestLine, newJournal, openedAt, openedTo, playOf, playedTo, readyOf, standing, startAnswer, startPlace, turnsAfter};
 ghost use Rattle.journal.specs.Replay.{opening};
 ghost use Rattle.journal.specs.RunHistory.{LineOfRun};
 ghost use Rattle.journal.specs.Step.{ValidStanding};
@@ -91,7 +91,9 @@ struct Opened {
 }
 
 // No table, and nothing read.
-pub fn new_journal() -> Journal {
+pub fn new_journal() -> Journal
+    ensures { λ r. ⌜ r ≡ newJournal ⌝ }
+{
     let table = blank_voter_slot_table();
     Journal {
         stands: false,
