@@ -131,6 +131,7 @@ def limited(program, logs):
             with open(out, 'rb') as file:
                 held(f'{name}, a file of at most {limit} bytes', lines[:limit], file.read())
             ended_by_itself(f'{name}, a file of at most {limit} bytes', run)
+            check_said(f'{name}, a file of at most {limit} bytes', limit < len(lines), run.stderr)
             cases += 1
     return cases
 
@@ -148,12 +149,19 @@ def full_disk(program, logs):
         print('faults: a full file system: not tried, it may not be mounted here')
         return 0
     held('a full file system', lines[:4096], run.stdout)
+    check_said('a full file system', True, run.stderr.replace(b'exit 0\n', b''))
     return 1
 
 
 def ended_by_itself(asked, run):
     if run.returncode < 0:
         raise Difference(f'{asked}: ended by signal {-run.returncode}')
+
+
+def check_said(asked, fails, said):
+    """An output that fails is said in one line; one that nobody reads is no fault."""
+    if fails != (said.count(b'\n') == 1 and said.startswith(b'replay: standard output: ')) or (said and not fails):
+        raise Difference(f'{asked}: on standard error {said!r}')
 
 
 def failing_calls(program, logs):
@@ -179,6 +187,8 @@ def failing_calls(program, logs):
                 held(asked, lines if whole else lines[:len(run.stdout)], run.stdout)
                 if not run.stdout.endswith(b'\n') and run.stdout:
                     raise Difference(f'{asked}: a line that is cut short: {run.stdout[-60:]!r}')
+                if call[0] == 'write':
+                    check_said(asked, not whole and kind != str(errno.EPIPE), run.stderr)
                 if call[0] == 'read' and not whole and run.stderr.count(b'\n') != 1:
                     raise Difference(f'{asked}: it ends without a message: {run.stderr!r}')
                 cases += 1

@@ -31,7 +31,7 @@ fn main() {
     let mut input = [0u8; 131072];
     // 992 lines.
     let mut output = [0u8; 65536];
-    if io::write_all(1, b"replay 1\n") {
+    if put(b"replay 1\n") {
         run(&mut input, &mut output);
     }
 }
@@ -75,11 +75,22 @@ fn play_part(journal: Journal, input: &[u8], at: Input, output: &mut [u8]) -> Pl
     play(journal, &input[start..held], at.last, output)
 }
 
-// A closed or full output ends the program, quietly.
 fn write_part(output: &[u8], written: usize) -> bool
     requires { ⌜ written ≤ length (now output) ⌝ }
 {
-    io::write_all(1, &output[..written])
+    put(&output[..written])
+}
+
+// An output that takes no more ends the program. Where nobody reads it, that is no fault, and nothing is
+// said of it.
+fn put(bytes: &[u8]) -> bool {
+    if io::write_all(1, bytes) {
+        return true;
+    }
+    if os::errno() != libc::EPIPE {
+        os::fail(b"replay: standard output");
+    }
+    false
 }
 
 // Moves what is left to the front, and reads once. A read that is interrupted brings nothing, and is

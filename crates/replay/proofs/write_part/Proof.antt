@@ -5,14 +5,14 @@ use borrow.Author.Needs.{needs}
 use Rattle.replay.proofs.write_part.Statement.{statement}
 use Rattle.replay.proofs.write_part.Tie as tie
 
-slice-aggregate-write-all : tie.Need-slice-aggregate-write-all
-slice-aggregate-write-all c = simp length-take (omega arith)
+slice-aggregate-put : tie.Need-slice-aggregate-put
+slice-aggregate-put c = simp length-take (omega arith)
 
-write-all-requires : tie.Need-write-all-requires
-write-all-requires c κs = search needs
+put-requires : tie.Need-put-requires
+put-requires c κs = search needs
 
 returns : tie.Need-returns
 returns c = search needs
 
 pub write-part-spec : {M : Type 1} → statement M
-write-part-spec = tie.close (tie.spec slice-aggregate-write-all write-all-requires returns)
+write-part-spec = tie.close (tie.spec slice-aggregate-put put-requires returns)
