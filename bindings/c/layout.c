@@ -131,7 +131,11 @@ int main(void) {
     CHECK(kept.value.replacement.successor.count == 3);
     CHECK(kept.value.replacement.successor.members[1].identity.incarnation == 2);
     CHECK(kept.value.replacement.evidence.prepare.index > 0);
-    /* The last field of all. */
+    /* Fields that lie late. */
+    body = advance_body(12, 0, 8);
+    CHECK(voter_slots_table_apply(&kept.table, VOTER_SLOTS_ADVANCE, body.bytes, body.len).answer == 0);
+    CHECK(kept.value.replacement.phase == 1 && kept.value.replacement.evidence.has_snapshot);
+    CHECK(kept.value.replacement.evidence.snapshot.snapshot_id.len == 8);
     CHECK(!kept.value.replacement.evidence.uniform.is_some);
     printf("layout: %zu bytes, %d failed\n", sizeof(value), failures);
     return failures == 0 ? 0 : 1;

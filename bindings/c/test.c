@@ -50,12 +50,14 @@ static bool is_refused(voter_slots_result r, uint32_t answer) {
  * table afterwards has the bytes that were written (`out`). There is no buffer that could be too short. */
 static void check_kept(const buffer *table, uint32_t mark, const buffer *body,
                        voter_slots_result told, const uint8_t *out) {
+    uint8_t *t = exact(table->bytes, table->len);
+    uint8_t *b = exact(body->bytes, body->len);
     voter_slots_table *kept = calloc(1, sizeof *kept);
     uint8_t before[VOTER_SLOTS_TABLE_BYTES], after[VOTER_SLOTS_TABLE_BYTES];
     if (kept == NULL) {
         exit(2);
     }
-    voter_slots_result read = voter_slots_table_read(kept, table->bytes, table->len);
+    voter_slots_result read = voter_slots_table_read(kept, t, table->len);
     voter_slots_result by_bytes = voter_slots_read(table->bytes, table->len);
     CHECK(memcmp(&read, &by_bytes, sizeof read) == 0);
     voter_slots_result first = voter_slots_table_write(kept, before, sizeof before);
@@ -63,16 +65,20 @@ static void check_kept(const buffer *table, uint32_t mark, const buffer *body,
                            : is_refused(first, VOTER_SLOTS_UNREPRESENTABLE));
     voter_slots_result r = first;
     if (mark == 0) {
-        r = voter_slots_table_observe(kept, body->bytes, body->len);
+        r = voter_slots_table_observe(kept, b, body->len);
     } else if (mark != 1) {
-        r = voter_slots_table_apply(kept, mark, body->bytes, body->len);
+        r = voter_slots_table_apply(kept, mark, b, body->len);
     }
     if (read.answer != 0) {
-        /* refused: the blank table, as it was */
-        CHECK(is_refused(r, r.answer));
+        /* refused: the blank table, as it was; 33 first here too */
+        CHECK(r.answer != 0 && is_refused(r, r.answer));
+        CHECK(mark == 1 || (r.answer == VOTER_SLOTS_BAD_RECORD) ==
+                               (told.answer == VOTER_SLOTS_BAD_RECORD));
         CHECK(is_refused(voter_slots_table_write(kept, after, sizeof after),
                          VOTER_SLOTS_UNREPRESENTABLE));
         CHECK(voter_slots_table_retired(kept, 2) == VOTER_SLOTS_UNREPRESENTABLE);
+        free(t);
+        free(b);
         free(kept);
         return;
     }
@@ -98,11 +104,14 @@ static void check_kept(const buffer *table, uint32_t mark, const buffer *body,
     memset(before, 0xA5, sizeof before);
     CHECK(voter_slots_table_write(kept, before, (size_t)last.count).answer == 0);
     CHECK(memcmp(before, after, (size_t)last.count) == 0);
+    CHECK(all_are(before + last.count, sizeof before - (size_t)last.count, 0xA5));
     memset(before, 0xA5, sizeof before);
     CHECK(is_refused(voter_slots_table_write(kept, before, (size_t)last.count - 1),
                      VOTER_SLOTS_BUFFER_TOO_SHORT));
     CHECK(is_refused(voter_slots_table_write(kept, NULL, 0), VOTER_SLOTS_BUFFER_TOO_SHORT));
     CHECK(all_are(before, sizeof before, 0xA5));
+    free(t);
+    free(b);
     free(kept);
 }
 
@@ -296,6 +305,11 @@ static void test_order(void) {
     CHECK(answer(&bad, VOTER_SLOTS_BEGIN, begin_body(v)) ==
           VOTER_SLOTS_FRESH_INSTALLATION_REQUIRED);
     CHECK(answer(&table, VOTER_SLOTS_BEGIN, begin_body(v)) == VOTER_SLOTS_INVALID_RECORD);
+    /* The attestation's number comes before the 30 of a table that was never read. */
+    voter_slots_table blank = {{0}};
+    body = begin_body(v);
+    CHECK(is_refused(voter_slots_table_apply(&blank, VOTER_SLOTS_BEGIN, body.bytes, body.len),
+                     VOTER_SLOTS_INVALID_RECORD));
     v.signed_well = true;
     v.revision = 7;
     CHECK(answer(&table, VOTER_SLOTS_BEGIN, begin_body(v)) == VOTER_SLOTS_UNREPRESENTABLE);
@@ -340,6 +354,20 @@ static void test_forms(void) {
                      VOTER_SLOTS_UNREPRESENTABLE));
     CHECK(is_refused(voter_slots_table_observe(&kept, NULL, 0), VOTER_SLOTS_BAD_RECORD));
     CHECK(is_refused(voter_slots_table_read(&kept, NULL, 0), VOTER_SLOTS_INVALID_RECORD));
+    /* A reading that is refused leaves the table that stands; one that is accepted takes its place. */
+    uint8_t again[VOTER_SLOTS_TABLE_BYTES];
+    CHECK(voter_slots_table_read(&kept, table.bytes, table.len).answer == 0);
+    CHECK(is_refused(voter_slots_table_read(&kept, NULL, 0), VOTER_SLOTS_INVALID_RECORD));
+    CHECK(voter_slots_table_write(&kept, again, sizeof again).count == table.len);
+    CHECK(memcmp(again, table.bytes, table.len) == 0);
+    for (size_t i = 0; i < sizeof none / sizeof none[0]; i++) {
+        CHECK(is_refused(voter_slots_table_apply(&kept, none[i], body.bytes, body.len),
+                         VOTER_SLOTS_BAD_RECORD));
+    }
+    buffer one = idle_table(1);
+    CHECK(voter_slots_table_read(&kept, one.bytes, one.len).slots == 1);
+    CHECK(voter_slots_table_write(&kept, again, sizeof again).count == one.len);
+    CHECK(memcmp(again, one.bytes, one.len) == 0);
     for (size_t len = 0; len < body.len; len++) {
         buffer cut_short = body;
         cut_short.len = len;

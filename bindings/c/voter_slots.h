@@ -102,11 +102,17 @@ uint32_t voter_slots_retired(const uint8_t *table, size_t table_len, uint64_t no
 
 /* ---- a table that is kept in memory
  *
- * The same calls on a table value, for a service that makes many: no bytes are read or written but by
- * voter_slots_table_read and voter_slots_table_write. The value is opaque. It is all zero before its first
- * reading (`voter_slots_table table = {{0}};`), and only these functions write it: bytes of another
- * origin are undefined. It may be copied and moved. A call that is refused leaves it as it was. It is
- * changed by one thread at a time.
+ * The same calls on a table value, for a service that makes many: a table's bytes are read and written
+ * only by voter_slots_table_read and voter_slots_table_write. The value is opaque. It is all zero before
+ * its first reading (`voter_slots_table table = {{0}};`), and only these functions write it: with bytes of
+ * another origin the behaviour is undefined. It may be copied and moved, but not compared byte by byte and
+ * not stored: it has filler, and its form may change. Its pointer is never NULL, and it overlaps no buffer
+ * of the call.
+ *
+ * A call that is refused, a reading too, leaves its value as it was. While a call runs that takes it
+ * without `const`, whatever it answers, no other thread may use it; the others may run side by side. Until
+ * a reading is accepted every other call is refused, with VOTER_SLOTS_UNREPRESENTABLE unless the body or
+ * its attestation is refused first.
  */
 typedef struct voter_slots_table {
     uint64_t words[1057];
@@ -120,7 +126,8 @@ voter_slots_result voter_slots_table_read(voter_slots_table *table, const uint8_
 voter_slots_result voter_slots_table_write(const voter_slots_table *table, uint8_t *out,
                                            size_t out_len);
 
-/* Applies a command, of which `mark` is the mark; `count` is 0. */
+/* Applies a command, of which `mark` is the mark; `count` is 0. Accepted, nothing changed where `revision`
+ * is the one before. */
 voter_slots_result voter_slots_table_apply(voter_slots_table *table, uint32_t mark,
                                            const uint8_t *body, size_t body_len);
 
@@ -128,7 +135,7 @@ voter_slots_result voter_slots_table_apply(voter_slots_table *table, uint32_t ma
 voter_slots_result voter_slots_table_observe(voter_slots_table *table, const uint8_t *body,
                                              size_t body_len);
 
-/* As voter_slots_retired. A table that was never read is VOTER_SLOTS_UNREPRESENTABLE. */
+/* As voter_slots_retired. */
 uint32_t voter_slots_table_retired(const voter_slots_table *table, uint64_t node);
 
 #ifdef __cplusplus

@@ -1,5 +1,7 @@
 //! The functions of the archive, made safe. All of the crate's `unsafe` is here.
 
+use std::mem::MaybeUninit;
+
 /// What a call gives; see `voter_slots_result` in `bindings/c/voter_slots.h`.
 #[derive(Clone, Copy, Debug, PartialEq, Eq)]
 #[repr(C)]
@@ -13,15 +15,18 @@ pub(crate) struct Outcome {
     pub open_phase: u32,
 }
 
+/// Size of a table value, in words; `bin/bindings` holds it to the header's.
+const WORDS: usize = 1057;
+
 /// Room for a table value; see `voter_slots_table` in `bindings/c/voter_slots.h`. All zero, it is the
 /// blank table, which no call but a reading accepts.
 #[derive(Clone)]
 #[repr(C)]
-pub(crate) struct Value([u64; 1057]);
+pub(crate) struct Value([MaybeUninit<u64>; WORDS]);
 
 impl Value {
     pub(crate) fn blank() -> Box<Self> {
-        Box::new(Value([0; 1057]))
+        Box::new(Value([MaybeUninit::new(0); WORDS]))
     }
 }
 
@@ -69,7 +74,8 @@ extern "C" {
 
 // SAFETY, of each call: every pointer and length is that of a slice that lives throughout it, and the
 // slice that is written is borrowed `&mut`, so that it overlaps no other. The archive keeps no pointer.
-// A `Value` is zero when it is made, which is a table, and only the archive writes it.
+// A `Value` is zero when it is made, which is the blank table, and only the archive writes it; its filler
+// may be anything and is never looked at.
 
 pub(crate) fn read(table: &[u8]) -> Outcome {
     unsafe { voter_slots_read(table.as_ptr(), table.len()) }

@@ -5,7 +5,7 @@ use crate::table::{accepted, count, is_retired};
 use crate::MAX_TABLE_BYTES;
 use crate::{Change, Command, CommandKind, Observation, OpenRequest, Record, Refusal, Table};
 
-/// A table that is kept as a value: a call changes it in place, and no byte is read or written.
+/// A table that is kept as a value: a call changes it in place, and reads and writes no bytes of a table.
 ///
 /// A [`Table`] keeps its bytes, and each call reads and writes them. Both answer the same: take a
 /// `LiveTable` where calls come often, and [`encode`](LiveTable::encode) it where it is stored. It is
@@ -72,7 +72,7 @@ impl LiveTable {
 
     fn apply_body(&mut self, kind: CommandKind, body: &[u8]) -> Result<Change, Refusal> {
         let said = ffi::table_apply(&mut self.value, kind.number(), body);
-        self.hear(said)
+        self.take_outcome(said)
     }
 
     /// Applies an observation of the engine's membership.
@@ -85,7 +85,7 @@ impl LiveTable {
 
     fn observe_body(&mut self, body: &[u8]) -> Result<Change, Refusal> {
         let said = ffi::table_observe(&mut self.value, body);
-        self.hear(said)
+        self.take_outcome(said)
     }
 
     /// Applies a record of a log: a command or an observation.
@@ -100,7 +100,7 @@ impl LiveTable {
         }
     }
 
-    fn hear(&mut self, said: Outcome) -> Result<Change, Refusal> {
+    fn take_outcome(&mut self, said: Outcome) -> Result<Change, Refusal> {
         let said = accepted(said)?;
         let change = if said.revision == self.said.revision {
             Change::Unchanged
@@ -151,6 +151,14 @@ impl From<&Table> for LiveTable {
 impl From<&LiveTable> for Table {
     fn from(table: &LiveTable) -> Self {
         Table::decode(&table.encode()).expect("a table is valid")
+    }
+}
+
+impl TryFrom<&[u8]> for LiveTable {
+    type Error = Refusal;
+
+    fn try_from(bytes: &[u8]) -> Result<Self, Refusal> {
+        LiveTable::decode(bytes)
     }
 }
 

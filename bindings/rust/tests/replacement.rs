@@ -3,7 +3,7 @@
 mod common;
 
 use common::{idle, marker, replacement, Call};
-use voter_slots::{Change, LogId, Phase, Refusal, Table};
+use voter_slots::{Change, LiveTable, LogId, Phase, Refusal, Table};
 
 fn play(table: &mut Table, call: &Call) -> Result<Change, Refusal> {
     match call {
@@ -47,6 +47,14 @@ fn every_table_of_three_to_nine_slots_goes_through() {
                 (table.revision(), table.epoch())
             );
             table = again;
+
+            // The same table as a value, and back.
+            let live = LiveTable::from(&table);
+            assert_eq!(Table::from(&live), table);
+            assert_eq!(live.clone().encode(), table.as_bytes());
+            let mut short = vec![7; table.as_bytes().len() - 1];
+            assert_eq!(live.encode_into(&mut short), Err(Refusal::BufferTooShort));
+            assert!(short.iter().all(|byte| *byte == 7));
 
             // A marker names the request while the candidate is a learner, at any cut.
             let learns = matches!(phase, Some(Phase::LearnerAdded | Phase::CaughtUp));

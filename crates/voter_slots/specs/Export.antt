@@ -1,5 +1,5 @@
 -- The service's boundary, of a table alone: what `voter_slots_read`, `voter_slots_write` and `voter_slots_retired` give, and what they leave in the bytes lent.
--- DESIGN's order "export over bytes": the table reader's number; the call; 32 last. A call that is refused leaves every lent byte as it was.
+-- The order of refusals: the table reader's number; the call; 32 last. A call that is refused leaves every lent byte as it was.
 -- Assumes nothing.
 use Prim.Native.Nat.{ℕ}
 use mathlib.Core.Path.{_≡_}

@@ -1,6 +1,9 @@
--- The service's boundary, of a table value that the caller lends: what the functions `voter_slots_table_..` give, and the table afterwards.
--- The calls are document 01's on a table value, so any table is answered as there. DESIGN's order for a command or an observation: 33; the attestation reader's number; 30; 31;
--- the call. A call that is refused leaves the table as it was lent, a reading too: what it would give, the blank table, goes nowhere.
+-- The service's boundary, of a table value that the caller lends: what the functions
+-- `voter_slots_table_..` give, and the table afterwards. The calls are document 01's on a table
+-- value, so any table is answered as there. The order for a command or an observation is that of a
+-- replay record: 33; the attestation reader's number; 30; 31; the call. A call that is refused
+-- leaves the table as it was lent, a reading too: the blank table that `decode_voter_slot_table`
+-- returns is not stored.
 -- Assumes nothing.
 use Prim.Native.Nat.{ℕ}
 use mathlib.Core.Bool.{Bool, cond, _&&_}
@@ -44,7 +47,7 @@ tableWriteOf t out = written t out
 
 -- ---- calls
 
--- what a call gives, with its table; no byte is read or written
+-- what a call gives, with its table; `count` is 0: no byte of a table is read or written
 abbrev pub told : Answer × VoterSlotTable → VoterSlotsResult × VoterSlotTable
 told r = (cond (isAccepted (r .0)) (resultOf (r .1) 0) (refusedBy (numberOf (r .0))), r .1)
 
@@ -62,7 +65,9 @@ tableApplyOf t mark body = askedAt (asking (commandOf mark (length body)) body) 
 abbrev pub tableObserveOf : VoterSlotTable → List ℕ → VoterSlotsResult × VoterSlotTable
 tableObserveOf t body = askedAt (asking (observationOf (length body)) body) t
 
--- A command at a table that is not valid, in the steps of the code: 33; the attestation reader's number; 30; 25. The first is whether the table passes the representability check.
+-- For the code alone, and in no export's contract: a command at a table that is not valid, in the
+-- steps of the code: 33; the attestation reader's number; 30; 25. The first is whether the table
+-- passes the representability check.
 unfoldable pub refusalAt : Bool → Asking → ℕ
 refusalAt fits bad = badRecord
 refusalAt fits (refused k) = k

@@ -145,7 +145,7 @@ fn tell(controlled: Controlled) -> Afterwards
     }
 }
 
-// The refusal of a command at a table that is not valid. That the table is representable is given.
+// The refusal of a command at a table that is not valid. `fits`: it passes the representability check.
 fn refuse_command(fits: bool, asks: Mark, body: &[u8]) -> Answer
     requires { ⌜ (asks ≡ Ob → ⊥) ⌝ }
     ensures { λ r. ⌜ numberOf r ≡ refusalAt fits (asking asks (now (body .entry))) ⌝ }

@@ -1,6 +1,6 @@
 // The exports on a table value that the caller lends: a service that keeps its table in memory pays
 // for no reading and no writing. Each is document 01's "one thin call" over the call by value of
-// `lent`: it copies the table out, and stores the table afterwards.
+// `lent`: it copies the table out, and where it may change it, stores the table afterwards.
 ghost use mathlib.Core.Path.{_≡_};
 ghost use Rattle.voter_slots.specs.Lent.{tableApplyOf, tableObserveOf, tableReadOf, tableRetiredOf, tableWriteOf};
 use crate::lent::apply_to;
