@@ -26,6 +26,11 @@ LIMITED = ('worked-example', 'whole-replacement', 'every-answer')
 # Logs for the service. Each starts with a table, and no unknown mark ends it.
 SERVED = ('whole-replacement', 'supersession')
 ENDING = (signal.SIGTERM, signal.SIGINT, signal.SIGHUP, signal.SIGPIPE, signal.SIGKILL)
+
+# A shell has a command in the background ignore SIGINT, and nohup SIGHUP; the programs below would inherit that.
+for _number in ENDING[:3]:
+    if signal.getsignal(_number) is signal.SIG_IGN:
+        signal.signal(_number, signal.SIG_DFL)
 # Kinds of fault that kill, and errors that a system gives.
 KILLS = ('before', 'after', 'half')
 ERRORS = (errno.ENOSPC, errno.EIO)

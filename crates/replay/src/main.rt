@@ -4,8 +4,10 @@
 // the crate `journal`, which is proved; this program moves the bytes. It reads what there is, plays
 // the whole records in it, and writes what is due before it reads again, so that it works through a
 // pipe by hand. Memory is constant: the buffers below hold the longest record.
-ghost use Prim.Native.Nat.{_+_, _≤_};
-ghost use lib.ListN.{length};
+ghost use Prim.Native.Nat.{_+_, _-_, _≤_};
+ghost use mathlib.Core.Path.{_≡_};
+ghost use lib.ListN.{length, take, drop};
+ghost use Rattle.journal.specs.Play.{playOf};
 use journal::play::Journal;
 use journal::play::Played;
 use journal::play::new_journal;
@@ -66,9 +68,10 @@ fn run(input: &mut [u8; 131072], output: &mut [u8; 65536]) {
     }
 }
 
+// Plays what is held, and no more.
 fn play_part(journal: Journal, input: &[u8], at: Input, output: &mut [u8]) -> Played
     requires { ⌜ (at .start ≤ at .held) × (at .held ≤ length (now input)) ⌝ }
-    ensures { λ r. ⌜ (at .start + r .read ≤ at .held) × (r .written ≤ length (now (output .exit))) ⌝ }
+    ensures { λ r. ⌜ (((r .answer, (r .read, (r .written, r .journal))), now (output .exit)) ≡ playOf journal (take (at .held - at .start) (drop (at .start) (now (input .entry)))) (at .last) (now (output .entry))) × ((at .start + r .read ≤ at .held) × (r .written ≤ length (now (output .exit)))) ⌝ }
 {
     let start = at.start;
     let held = at.held;

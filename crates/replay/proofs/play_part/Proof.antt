@@ -1,4 +1,4 @@
--- `replay::play_part` meets its contract: `play` reads no more than there is, and writes no more than has room. Assumes nothing.
+-- `replay::play_part` meets its contract: `play` is given the part that is held; it reads no more than there is, and writes no more than has room. Assumes nothing.
 use Prim.Native.Nat.{_-_}
 use native.Mathlib.Omega.{arith}
 use mathlib.Core.Path.{_≡_}
@@ -33,7 +33,7 @@ returns c =
     let x = f .0 in
     let y = f .1 in
     let s = same-length c in
-    (omega arith, omega arith)
+    (c .before .before .play .ensures .0, (omega arith, omega arith))
 
 pub play-part-spec : {M : Type 1} → statement M
 play-part-spec =

@@ -29,7 +29,7 @@ add-at : tie.Need-add-at Inv-loop μ-loop
 add-at c = search needs
 
 refill-requires : tie.Need-refill-requires Inv-loop μ-loop
-refill-requires c κs = (c .before .before .before .before .before .before .before .before .before .before .before .before .before .before .play-part .ensures .0, c .before .before .before .before .before .before .before .before .before .before .before .before .before .before .before .before .before .before .before .loop .inv .1)
+refill-requires c κs = (c .before .before .before .before .before .before .before .before .before .before .before .before .before .before .play-part .ensures .1 .0, c .before .before .before .before .before .before .before .before .before .before .before .before .before .before .before .before .before .before .before .loop .inv .1)
 
 sub-turns : tie.Need-sub-turns Inv-loop μ-loop
 sub-turns c = omega (arith, c .before .before .before .before .before .before .before .before .before .before .before .before .before .before .before .before .before .before .loop-test .taken)
@@ -40,7 +40,7 @@ loop-less c = omega (arith, c .before .before .before .before .before .before .b
 loop-again : tie.Need-loop-again Inv-loop μ-loop
 loop-again c =
     ⊎-elim (λ w. subst (λ a. (a .start ≤ a .held) × (a .held ≤ 131072)) (sym (w .4)) (w .2 .ensures))
-    (λ w. subst (λ a. (a .start ≤ a .held) × (a .held ≤ 131072)) (sym (w .2)) (c .before .before .before .before .before .before .before .before .before .before .before .before .before .before .play-part .ensures .0, c .before .before .before .before .before .before .before .before .before .before .before .before .before .before .before .before .before .before .before .loop .inv .1))
+    (λ w. subst (λ a. (a .start ≤ a .held) × (a .held ≤ 131072)) (sym (w .2)) (c .before .before .before .before .before .before .before .before .before .before .before .before .before .before .play-part .ensures .1 .0, c .before .before .before .before .before .before .before .before .before .before .before .before .before .before .before .before .before .before .before .loop .inv .1))
     (c .before .if3 .came)
 
 returns : tie.Need-returns Inv-loop μ-loop
