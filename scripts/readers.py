@@ -193,12 +193,12 @@ HOMES = {
     "format.specs.List": ["opt"],
     "format.specs.Num": ["uint", "raw"],
     "format.specs.Through": ["boxed"],
-    "layout.specs.Format": [
+    "layout.specs.Layout": [
         "slotId", "incarnation", "epoch", "slotCount", "choice", "identity", "logId", "optionalLogId", "threeCuts", "times", "version", "magicAndVersion",
         "spiffeId", "snapshotId", "binding", "member", "members", "configuration", "resultHead", "result", "slotMember", "slot", "slots",
         "claimsRequest", "claimsSlot", "claimsNames", "claimsEnd", "claims", "attestation", "snapshot", "evidence", "change", "replacement",
         "tableHead", "tableFront", "table"],
-    "layout.specs.FormatLaws": ["count-read"],
+    "layout.specs.LayoutLaws": ["count-read"],
     "layout.specs.Reading": ["report", "outcome"],
     "layout.specs.ReadingLaws": ["told", "told-not", "got", "outcome-ok", "outcome-no"],
     "identity.specs.Answer": ["numberOf"],
@@ -473,7 +473,7 @@ def header(r, body, own):
              "use Prim.Native.Nat.{ℕ, _+_, _≤_}", "use mathlib.Core.Bool.{Bool}", "use mathlib.Core.List.{List}", "use mathlib.Core.Path.{_≡_, refl, sym, ap, _∙_}",
              "use native.Mathlib.Nat.{lt-of-le-of-lt}", "use borrow.Author.Needs.{needs}", "use lib.ListN.{length, drop}",
              "use Rattle.format.specs.Res.Res.{ok, no}",
-             "use Rattle.format.specs.Codec.{Codec, dep, dep-ok, dep-no-1, dep-no-2, via-ok, via-no, rest}"]
+             "use Rattle.format.specs.Combinators.{Codec, dep, dep-ok, dep-no-1, dep-no-2, via-ok, via-no, rest}"]
     blanks = sorted(w for w in words if re.fullmatch(r"(blank|absent)\w+", w))
     homes = {b: BLANK_HOMES.get(b, "layout.specs.Parts" if b in PARTS_BLANKS else "records.specs.Blank") for b in blanks}
     for home in ("records.specs.Blank", "layout.specs.Parts", *dict.fromkeys(BLANK_HOMES.values())):
@@ -539,8 +539,8 @@ both c = opt-some _ _ _ (flagged-yes ({back(6)})) (told {blank} _ {src} ({back(2
 
     refill("decode", f"read_optional_{name}", [
         "use Prim.Native.Nat.{ℕ, _+_}", PATH, "use mathlib.Core.Bool.{true, false}", FITS, "use borrow.Author.Tests.{not-true, not-false}", RESULTS,
-        "use Rattle.format.specs.Codec.{rest}", "use Rattle.format.specs.List.{flag, opt, opt-no, opt-none, opt-some, opt-bad}", NUMBER,
-        f"use Rattle.records.specs.Blank.{{{blank}}}", f"use Rattle.layout.specs.Format.{{{codec}}}",
+        "use Rattle.format.specs.Combinators.{rest}", "use Rattle.format.specs.List.{flag, opt, opt-no, opt-none, opt-some, opt-bad}", NUMBER,
+        f"use Rattle.records.specs.Blank.{{{blank}}}", f"use Rattle.layout.specs.Layout.{{{codec}}}",
         f"use Rattle.layout.specs.Parts.{{{absent}}}", "use Rattle.layout.specs.Reading.{outcome, boolRead, whyOf, whyBool}", LAWS,
     ], defs, {
         "returns": f"\n    {passed('', ('why-bool', 'whyBool'), told)}\n    (opt-no _ _ _ (got boolRead ({back(4)} .read-flag .ensures) ({told})))",
@@ -580,10 +580,10 @@ blanks-after i = drop-replicate i 9 {blank}
 """
     refill("decode", f"read_{name}", [
         "use Prim.Native.Nat.{ℕ, _+_, _-_, _≤_}", PATH, "use mathlib.Core.List.{_++_}", FITS, ARITH,
-        "use lib.ListN.{length, take, drop, set, replicate, length-set, take-append-drop}", RESULTS, "use Rattle.format.specs.Codec.{rest}",
+        "use lib.ListN.{length, take, drop, set, replicate, length-set, take-append-drop}", RESULTS, "use Rattle.format.specs.Combinators.{rest}",
         "use Rattle.format.specs.Copy.{filled-more, unfilled-more, drop-replicate}",
         "use Rattle.format.specs.List.{vec, vec-start, vec-next, vec-refused, padded-ok, padded-no}", NUMBER,
-        f"use Rattle.records.specs.Blank.{{{blank}}}", f"use Rattle.layout.specs.Format.{{{element}, {name}}}",
+        f"use Rattle.records.specs.Blank.{{{blank}}}", f"use Rattle.layout.specs.Layout.{{{element}, {name}}}",
         f"use Rattle.layout.specs.Parts.{{{blanks}}}", "use Rattle.layout.specs.Reading.{outcome, whyOf}", LAWS,
     ], defs, {
         **{need: "search needs" for need in [f"{make}-requires", f"part-{call}-end", f"{call}-requires", "enum-known-to", "enum-told", "why-requires",
@@ -645,10 +645,10 @@ fits c = sized {size} .within _ (is c)
     refill("reader", call, [
         "use Prim.Native.Nat.{ℕ, _+_, _-_, _≤_}", PATH, "use mathlib.Core.List.{List, _++_}", FITS, ARITH,
         "use lib.ListN.{length, take, drop, replicate, length-take, length-drop}", "use lib.Seq.{length-take-le}", RESULTS,
-        "use Rattle.format.specs.Codec.{checked-ok, checked-no, checked-bad, via-ok, via-no}", "use Rattle.format.specs.Copy.{length-zeros}",
+        "use Rattle.format.specs.Combinators.{checked-ok, checked-no, checked-bad, via-ok, via-no}", "use Rattle.format.specs.Copy.{length-zeros}",
         "use Rattle.format.specs.Fill.{put-zeros}", "use Rattle.format.specs.Num.{pick}", "use Rattle.format.specs.Put.{put}", NUMBER,
         "use Rattle.identity.specs.Text.{isUtf8}", f"use Rattle.records.specs.Blank.{{{blank}}}", "use Rattle.records.specs.ValidationLaws.{failed, held}",
-        f"use Rattle.layout.specs.Format.{{require, sized, string, {codec}}}", "use Rattle.layout.specs.FormatLaws.{sized-small, part-is}",
+        f"use Rattle.layout.specs.Layout.{{require, sized, string, {codec}}}", "use Rattle.layout.specs.LayoutLaws.{sized-small, part-is}",
         "use Rattle.layout.specs.Reading.{outcome, sizedRead, whySized}", LAWS,
     ], defs, {
         "returns": (f"""

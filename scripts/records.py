@@ -48,8 +48,7 @@ lengths = read('crates/identity/src/text.rt')
 here = read(CRATE + '/src/records.rt')
 CONSTANTS = dict(re.findall(r'^pub const (\w+): usize = (\d+);$', lengths + here, re.M))
 ALIASES = dict(re.findall(r'^pub type (\w+) = (.+);$', below, re.M))
-USED = re.findall(r'^use identity::identity::(\w+);$', here, re.M)
-FROM_BELOW = [s for s in structs_of(below) if s[0] in USED]
+FROM_BELOW = [s for s in structs_of(below) if re.search(r': \[?%s\b' % s[0], here)]
 FROM_HERE = structs_of(here)
 HOME = {name: 'identity' for name, _ in FROM_BELOW}
 HOME.update({name: 'records' for name, _ in FROM_HERE})
@@ -117,7 +116,7 @@ def use_declared(name):
 
 
 def use_rattle(names):
-    return 'use crate::records::%s;\n' % PLACES_NAME + ''.join('use %s::%s;\n' % ('identity::identity' if HOME[n] == 'identity' else 'crate::records', n) for n in names)
+    return 'use crate::records::*;\n' + ''.join('use identity::identity::%s;\n' % n for n in names if HOME[n] == 'identity')
 
 
 DECLARED = ''.join(use_declared(name) for name in NAMES)

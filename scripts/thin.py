@@ -44,7 +44,8 @@ OBSERVED = {
     'outcome': 'observeMembership h (s₁ .now) (s₂ .now) (s₃ .now) p',
     'making': 'added h p',
     'unfolding': 'added',
-    'stays': 'routed-none (added h p) h',
+    'stays': 'added-none (added h p) h',
+    'routed': 'added-to',
     'judging': 'observe',
     'routing': ('observe.route_of_observed', 'observe.answer_of_observed'),
     'Judged': 'Observed',
@@ -67,6 +68,7 @@ SHARED = {
     'routeOf': 'routeOf',
     'answerOf': 'answerOf',
     'parts': 'Parts',
+    'routed': 'routed-to',
     'some': ' some',
 }
 
@@ -186,7 +188,7 @@ FAMILIES = {
         'known': 'Room h',
         'uses': ['use Rattle.control.specs.Judgement.{added}',
                  'use Rattle.control.specs.ObserveSight.{Room, answerOfObserved, routeOfObserved, verdictOfObserved}',
-                 'use Rattle.control.specs.ObserveLaws.{routed-none, routed-to}'],
+                 'use Rattle.control.specs.ObserveLaws.{added-none, added-to}'],
         'makers': [(tag, 'observe.%s_table' % tag, 'adds' + tag.capitalize(), 'added h p adds' + tag.capitalize(), 'Room h', 'knows {move} {told}') for tag in ('learner', 'joint', 'uniform')],
     }),
 }
@@ -419,7 +421,7 @@ TOLD = '''
 
   -- by the number: the verdict, and what is stored
   is-to : (r : {Judged}) → {verdictOf} r ≡ {verdict} → (y : ℕ) → y ≡ {routeOf} ({verdictOf} r) → (m : {Move}) → y ≡ {routeOf} (moves m) → ({routeOf} (moves m) ≡ 0 → ⊥) → {verdict} ≡ moves m
-  is-to r e y c m on some = sym e ∙ routed-to ({verdictOf} r) m (sym c ∙ on){some}
+  is-to r e y c m on some = sym e ∙ {routed} ({verdictOf} r) m (sym c ∙ on){some}
 
   right : (r : {Judged}) → {verdictOf} r ≡ {verdict} → (m : {Move}) → {verdict} ≡ moves m → (w : Answer) → w ≡ {answerOf} ({verdictOf} r) → (n : VoterSlotTable) → n ≡ {making} m → Right w n
   unfolding carried

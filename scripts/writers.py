@@ -154,7 +154,7 @@ FROM = [
     ('borrow.Author.Needs', 'needs'),
     ('lib.ListN', 'length take getD'),
     ('lib.Seq', 'length-take-le'),
-    ('Rattle.format.specs.Codec', 'dep via check always'),
+    ('Rattle.format.specs.Combinators', 'dep via check always'),
     ('Rattle.format.specs.Num', 'uint raw'),
     ('Rattle.format.specs.List', 'flag either opt'),
     ('Rattle.format.specs.Through', 'boxed boxed-bytes'),
@@ -162,7 +162,7 @@ FROM = [
     ('Rattle.records.specs.Blank', 'blankVoterSlotLogId blankVoterSlotMember blankVoterReplacementResult blankVoterSlotRecord blankVoterSnapshotEvidence blankVoterReplacementRecord'),
     ('Rattle.records.specs.Records', 'noMember noSlotRecord'),
     ('Rattle.layout.specs.Parts', 'bindingOf resultHeadOf slotMemberOf timesOf claimsRequestOf claimsSlotOf claimsNamesOf claimsEndOf changeOf earlyCuts lateCuts tableHeadOf'),
-    ('Rattle.layout.specs.Format', 'slotId incarnation epoch slotCount choice identity logId optionalLogId sized string spiffeId snapshotId binding member members configuration resultHead result slotMember slot slots version claimsRequest claimsSlot claimsNames times claimsEnd claims attestation snapshot threeCuts evidence change replacement magic magicAndVersion tableHead table'),
+    ('Rattle.layout.specs.Layout', 'slotId incarnation epoch slotCount choice identity logId optionalLogId sized string spiffeId snapshotId binding member members configuration resultHead result slotMember slot slots version claimsRequest claimsSlot claimsNames times claimsEnd claims attestation snapshot threeCuts evidence change replacement magic magicAndVersion tableHead table'),
     ('Rattle.writer.specs.SizeLaws', 'getD-any'),
     ('Rattle.writer.specs.PutLaws', 'put-is room-is opt-flag opt-some opt-none firsts firsts-none firsts-more firsts-within members-firsts slots-firsts'),
 ]

@@ -1,10 +1,7 @@
 // The replies about bytes: reading a table or an attestation, and writing a table.
 use crate::reply::Reply;
 use crate::reply::number;
-use codec::codec::decode_lost_voter_attestation;
-use codec::codec::decode_voter_slot_table;
-use codec::codec::encode_voter_slot_table;
-use codec::codec::restart;
+use codec::codec::*;
 use identity::answer::Answer;
 use identity::answer::accepted;
 use layout::reading::Extent;

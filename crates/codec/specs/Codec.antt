@@ -10,14 +10,14 @@ use lib.Dec.{leb}
 use Rattle.identity.specs.Answer.{numberOf}
 use Rattle.format.specs.Res.{Res, andThen}
 use Rattle.format.specs.Res.Res.{ok, no}
-use Rattle.format.specs.Codec.{gate}
+use Rattle.format.specs.Combinators.{gate}
 use Rattle.format.specs.Num.{pick}
 use Rattle.format.specs.Through.{whole}
 use Rattle.records.specs.Blank.{blankVoterSlotTable}
 use Rattle.records.specs.Validation.{validity, validate}
 use Rattle.records.specs.declared.records.LostVoterAttestationV1.{LostVoterAttestationV1}
 use Rattle.records.specs.declared.records.VoterSlotTable.{VoterSlotTable}
-use Rattle.layout.specs.Format.{maxAttestationBytes, attestation, table}
+use Rattle.layout.specs.Layout.{maxAttestationBytes, attestation, table}
 use Rattle.layout.specs.Reading.{outcome}
 
 -- `MAX_VOTER_SLOT_TABLE_BYTES`

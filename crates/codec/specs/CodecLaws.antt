@@ -17,7 +17,7 @@ use Rattle.identity.specs.AnswerLaws.{number-injective}
 use Rattle.identity.specs.declared.answer.Answer.the-variants.{Accepted}
 use Rattle.format.specs.Res.{Res, andThen, began, ok-value, no-ok}
 use Rattle.format.specs.Res.Res.{ok, no}
-use Rattle.format.specs.Codec.{Bytes, gate, back-and-there}
+use Rattle.format.specs.Combinators.{Bytes, gate, back-and-there}
 use Rattle.format.specs.Num.{pick}
 use Rattle.format.specs.Through.{whole, whole-is, whole-there}
 use Rattle.records.specs.Held.{HeldLostVoterAttestationV1, HeldVoterSlotTable}
@@ -27,7 +27,7 @@ use Rattle.records.specs.ValidationLaws.{count-some}
 use Rattle.records.specs.ValidParts.{valid-parts, valid-joined, valid-slots-hold}
 use Rattle.records.specs.declared.records.LostVoterAttestationV1.{LostVoterAttestationV1}
 use Rattle.records.specs.declared.records.VoterSlotTable.{VoterSlotTable}
-use Rattle.layout.specs.Format.{maxAttestationBytes, attestation, table}
+use Rattle.layout.specs.Layout.{maxAttestationBytes, attestation, table}
 use Rattle.codec.specs.Codec.{maxTableBytes, bounded, decodeVoterSlotTable, decodeLostVoterAttestation, tableBytes, encodeVoterSlotTable, restarted}
 use Rattle.writer.specs.SizeLaws.{attestation-long, table-long, table-bounds}
 use Rattle.codec.specs.GoodLaws.{attestation-good, table-good}

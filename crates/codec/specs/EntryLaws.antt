@@ -11,7 +11,7 @@ use lib.Dec.{leb, eqb}
 use borrow.Author.Tests.{le-leb, lt-leb}
 use Rattle.identity.specs.Answer.{numberOf}
 use Rattle.identity.specs.declared.answer.Answer.the-variants.{Accepted}
-use Rattle.format.specs.Codec.{gate}
+use Rattle.format.specs.Combinators.{gate}
 use Rattle.format.specs.Fill.{gate-refused}
 use Rattle.format.specs.Num.{pick}
 use Rattle.format.specs.Put.{put}
@@ -21,7 +21,7 @@ use Rattle.format.specs.Through.{whole-no, whole-by-count}
 use Rattle.records.specs.Validation.{validity, validate}
 use Rattle.records.specs.declared.records.VoterSlotTable.{VoterSlotTable}
 use Rattle.codec.specs.Codec.{bounded, decoded, decodeVoterSlotTable, encodeVoterSlotTable, restarted, maxTableBytes, tableBytes}
-use Rattle.layout.specs.Format.{table}
+use Rattle.layout.specs.Layout.{table}
 
 -- ---- a bound
 

@@ -17,7 +17,7 @@ use Rattle.identity.specs.Identity.{isSlotId, isVoterIncarnation, isConfigurati
 use Rattle.identity.specs.Text.{isUtf8}
 use Rattle.identity.specs.declared.answer.Answer.the-variants.{Accepted, InvalidSlot, InvalidIncarnation}
 use Rattle.identity.specs.declared.identity.VoterSlotIdentity.{VoterSlotIdentity}
-use Rattle.format.specs.Codec.{Codec, Bytes, dep, check, via, held, always}
+use Rattle.format.specs.Combinators.{Codec, Bytes, dep, check, via, held, always}
 use Rattle.format.specs.Num.{uint, raw, pick, bytes-take, bytes-append, bytes-be}
 use Rattle.format.specs.List.{vec, vec-long, padded, flag, flagTest, either, opt}
 use Rattle.format.specs.Through.{boxed, boxed-good}
@@ -46,7 +46,7 @@ use Rattle.records.specs.declared.records.VoterReplacementEvidence.{VoterReplac
 use Rattle.records.specs.declared.records.VoterReplacementRecord.{VoterReplacementRecord}
 use Rattle.records.specs.declared.records.VoterSlotTable.{VoterSlotTable}
 use Rattle.layout.specs.Parts.{bindingOf, resultHeadOf, slotMemberOf, claimsRequestOf, claimsSlotOf, claimsNamesOf, claimsEndOf, timesOf, changeOf, tableHeadOf}
-use Rattle.layout.specs.Format.{require, slotId, incarnation, epoch, slotCount, choice, identity, logId, optionalLogId, sized, string, placed, spiffeId, snapshotId, binding, member, members, configuration, resultHead, result, slotMember, slot, slots, version, claimsRequest, claimsSlot, claimsNames, times, claimsEnd, claims, attestation, snapshot, threeCuts, evidence, change, replacement, magic, headTest, magicAndVersion, tableHead, table}
+use Rattle.layout.specs.Layout.{require, slotId, incarnation, epoch, slotCount, choice, identity, logId, optionalLogId, sized, string, placed, spiffeId, snapshotId, binding, member, members, configuration, resultHead, result, slotMember, slot, slots, version, claimsRequest, claimsSlot, claimsNames, times, claimsEnd, claims, attestation, snapshot, threeCuts, evidence, change, replacement, magic, headTest, magicAndVersion, tableHead, table}
 use Rattle.records.specs.RepresentableParts.{text-is, member-is, result-is, slot-is, configuration-is, attestation-is, evidence-is, replacement-is, table-is}
 use Rattle.records.specs.TestLaws.{and-both, says, cond-true, cond-false}
 use Rattle.codec.specs.FitsLaws.{text-fits, attestation-fits, configuration-count}

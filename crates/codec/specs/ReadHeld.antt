@@ -11,7 +11,7 @@ use lib.ListN.{length, take, getD, replicate, length-append, length-replicate}
 use lib.Dec.{leb}
 use borrow.Author.Tests.{leb-true}
 use Rattle.identity.specs.declared.identity.VoterSlotIdentity.{VoterSlotIdentity}
-use Rattle.format.specs.Codec.{Codec, Bytes, dep, check, via, held, always}
+use Rattle.format.specs.Combinators.{Codec, Bytes, dep, check, via, held, always}
 use Rattle.format.specs.Num.{uint, raw, pick-zero}
 use Rattle.format.specs.List.{vec, vec-long, padded, either, opt}
 use Rattle.format.specs.Through.{boxed-is}
@@ -34,7 +34,7 @@ use Rattle.records.specs.declared.records.VoterReplacementEvidence.{VoterReplac
 use Rattle.records.specs.declared.records.VoterReplacementRecord.{VoterReplacementRecord}
 use Rattle.records.specs.declared.records.VoterSlotTable.{VoterSlotTable}
 use Rattle.layout.specs.Parts.{bindingOf}
-use Rattle.layout.specs.Format.{require-is, slotId, incarnation, epoch, slotCount, choice, identity, logId, optionalLogId, sized, string, string-long, placed, spiffeId, snapshotId, binding, member, members, configuration, resultHead, result, slotMember, slot, slots, claimsRequest, claimsSlot, claimsNames, times, claimsEnd, claims, attestation, snapshot, threeCuts, evidence, change, replacement, tableHead, table}
+use Rattle.layout.specs.Layout.{require-is, slotId, incarnation, epoch, slotCount, choice, identity, logId, optionalLogId, sized, string, string-long, placed, spiffeId, snapshotId, binding, member, members, configuration, resultHead, result, slotMember, slot, slots, claimsRequest, claimsSlot, claimsNames, times, claimsEnd, claims, attestation, snapshot, threeCuts, evidence, change, replacement, tableHead, table}
 use Rattle.layout.specs.declared.parts.Binding.{Binding}
 
 -- ---- lists

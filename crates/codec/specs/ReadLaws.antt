@@ -18,7 +18,7 @@ use Rattle.identity.specs.Utf8Laws.{and-right}
 use Rattle.identity.specs.declared.answer.Answer.{Answer}
 use Rattle.identity.specs.declared.answer.Answer.the-variants.{Accepted, InvalidSlot, InvalidIncarnation}
 use Rattle.identity.specs.declared.identity.VoterSlotIdentity.{VoterSlotIdentity}
-use Rattle.format.specs.Codec.{Codec, dep, check, via, always}
+use Rattle.format.specs.Combinators.{Codec, dep, check, via, always}
 use Rattle.format.specs.Num.{pick-zero}
 use Rattle.format.specs.List.{vec, vec-long, padded, either, opt}
 use Rattle.format.specs.Through.{boxed-is}
@@ -43,7 +43,7 @@ use Rattle.records.specs.declared.records.LostVoterAttestationV1.{LostVoterAtte
 use Rattle.records.specs.declared.records.VoterReplacementEvidence.{VoterReplacementEvidence}
 use Rattle.records.specs.declared.records.VoterReplacementRecord.{VoterReplacementRecord}
 use Rattle.records.specs.declared.records.VoterSlotTable.{VoterSlotTable}
-use Rattle.layout.specs.Format.{require-is, slotId, incarnation, epoch, slotCount, choice, identity, optionalLogId, logId, sized, string, string-long, placed, spiffeId, snapshotId, member, members, configuration, resultHead, result, slotMember, slot, slots, claimsSlot, claimsNames, claimsEnd, claims, attestation, snapshot, threeCuts, evidence, change, replacement, tableHead, table}
+use Rattle.layout.specs.Layout.{require-is, slotId, incarnation, epoch, slotCount, choice, identity, optionalLogId, logId, sized, string, string-long, placed, spiffeId, snapshotId, member, members, configuration, resultHead, result, slotMember, slot, slots, claimsSlot, claimsNames, claimsEnd, claims, attestation, snapshot, threeCuts, evidence, change, replacement, tableHead, table}
 use Rattle.records.specs.RepresentableParts.{text-is, member-is, result-is, slot-is, configuration-is, attestation-is, evidence-is, replacement-is, table-is}
 use Rattle.records.specs.TestLaws.{passes}
 use Rattle.writer.specs.SizeLaws.{getD-any}

@@ -44,7 +44,7 @@ use Rattle.control.specs.Judgement.Verdict.{moves}
 use Rattle.control.specs.Judgement.Addition.{addsLearner, addsJoint, addsUniform}
 use Rattle.control.specs.Judgement.{added}
 use Rattle.control.specs.ObserveSight.{Room, answerOfObserved, routeOfObserved, verdictOfObserved}
-use Rattle.control.specs.ObserveLaws.{routed-none, routed-to}
+use Rattle.control.specs.ObserveLaws.{added-none, added-to}
 use Rattle.records.proofs.records.VoterSlotLogId as P
 use Rattle.records.proofs.records.VoterSlotLogId.Laws as P′
 use Rattle.control.proofs.observe.Observed as E
@@ -169,7 +169,7 @@ module _ {M : Type 1} (𝓤 : URA M) (H : Heap 𝓤) (A : Atoms 𝓤) (W : Given
 
   -- by the number: the verdict, and what is stored
   is-to : (r : Observed) → verdictOfObserved r ≡ verdict → (y : ℕ) → y ≡ routeOfObserved (verdictOfObserved r) → (m : Addition) → y ≡ routeOfObserved (moves m) → (routeOfObserved (moves m) ≡ 0 → ⊥) → verdict ≡ moves m
-  is-to r e y c m on some = sym e ∙ routed-to (verdictOfObserved r) m (sym c ∙ on)
+  is-to r e y c m on some = sym e ∙ added-to (verdictOfObserved r) m (sym c ∙ on)
 
   right : (r : Observed) → verdictOfObserved r ≡ verdict → (m : Addition) → verdict ≡ moves m → (w : Answer) → w ≡ answerOfObserved (verdictOfObserved r) → (n : VoterSlotTable) → n ≡ added h p m → Right w n
   unfolding carried
@@ -179,7 +179,7 @@ module _ {M : Type 1} (𝓤 : URA M) (H : Heap 𝓤) (A : Atoms 𝓤) (W : Given
       → ((((Unit {0}) × (y ≡ 1 → ⊥)) × (y ≡ 2 → ⊥)) × (y ≡ 3 → ⊥)) → (w : Answer) → w ≡ answerOfObserved (verdictOfObserved r) → Right w h
   stays-right r e y c off w a =
       ap (λ (z : Answer). pair z h) a
-      ∙ (routed-none (added h p) h (verdictOfObserved r) (λ k. off .0 .0 .1 (c ∙ k)) (λ k. off .0 .1 (c ∙ k)) (λ k. off .1 (c ∙ k))
+      ∙ (added-none (added h p) h (verdictOfObserved r) (λ k. off .0 .0 .1 (c ∙ k)) (λ k. off .0 .1 (c ∙ k)) (λ k. off .1 (c ∙ k))
       ∙ (ap (carried (added h p) h) e ∙ carries))
 
   -- Pre and Q are the judge's at what it is called at; X is what it asks besides the table, Y what it

@@ -54,7 +54,7 @@ use Rattle.control.specs.LineLaws.{Views, Went, Step, line}
 use Rattle.control.specs.Observation.{Sight, eqIds, eqSets, isRising, allRising, splitSets, representableSets, memberIds, see, withTarget, raised, keepOr, observed, observe, observeMembership}
 use Rattle.control.specs.Observation.Sight.{strange, nothingNew, newLearner, newJoint, newUniform}
 use Rattle.control.specs.Retired.{isBelowFloor, isRetiredIdentity, isRetired}
-use Rattle.control.specs.OpenLaws.{opened}
+use Rattle.control.specs.OpenLaws.{open-of-valid}
 use Rattle.control.specs.BeginCheckLaws.{starts}
 use Rattle.control.specs.SightLaws.{Fits, fits-see}
 use Rattle.control.specs.ObservationLaws.{observed-nothing}
@@ -387,7 +387,7 @@ module _ (t : VoterSlotTable) (v : ValidTable t) where
       observed-moves : (s : Sight) → Fits (t .replacement) s → Every (Moved t) (observed t s cut)
       unfolding observed
       observed-moves strange f = tt
-      observed-moves nothingNew f = subst (Every (Moved t)) (sym (observed-nothing t (opened t (v .valid) o) cut)) tt
+      observed-moves nothingNew f = subst (Every (Moved t)) (sym (observed-nothing t (open-of-valid t (v .valid) o) cut)) tt
       observed-moves newLearner f =
           let h = v .held .replacement .evidence in
           phase-moves (t .«configuration_epoch») (v .held .«configuration_epoch») learnerAdded _

@@ -40,7 +40,7 @@ use Rattle.control.specs.Observation.Sight.{strange, nothingNew, newLear
 use Rattle.control.specs.AdvanceLaws.{epoch-same, valid-at}
 use Rattle.control.specs.DecisionLaws.{branch, refuses, keeps, makes, settled, settle-cond}
 use Rattle.control.specs.Judgement.{learnerTest, jointTest, uniformTest, carried, Addition, added, phaseFits, judgeSight, judgeObservation}
-use Rattle.control.specs.OpenLaws.{Open, opened, target-of}
+use Rattle.control.specs.OpenLaws.{Open, open-of-valid, target-of}
 use Rattle.control.specs.SightLaws.{Fits, fits-see}
 use Rattle.control.specs.Judgement.Verdict.{refused, kept, moves}
 use Rattle.control.specs.Judgement.Addition.{addsLearner, addsJoint, addsUniform}
@@ -190,7 +190,7 @@ module _ (t : VoterSlotTable) (fits : representable t ≡ true) (is-open : t .«
   judged-seen : (s : Sight) (cut : VoterSlotLogId) → Fits (t .replacement) s → targetIndex t < t .count → (b : Bool) → isAccepted (validity t) ≡ b
       → settle t (observed t s cut) ≡ carried (added t cut) t (judgeSight t s cut)
   judged-seen s cut f l true v =
-      settle-seen t (opened t (valid-joined t fits (is-accepted (validity t) v)) is-open) s cut f
+      settle-seen t (open-of-valid t (valid-joined t fits (is-accepted (validity t) v)) is-open) s cut f
   judged-seen s cut f l false v = invalid-any s cut f l v
 
   settle-open : (sets : List (List ℕ)) (nodes : List ℕ) (cut : VoterSlotLogId)

@@ -264,28 +264,28 @@ confirmed-some v (moves m) h = refl
 
 -- ---- by the number of what is made
 
-pub routed-to : (v : Verdict Addition) (m : Addition) → routeOfObserved v ≡ routeOfObserved (moves m) → v ≡ moves m
-routed-to (refused answer) addsLearner h = absurd (omega arith)
-routed-to (refused answer) addsJoint h = absurd (omega arith)
-routed-to (refused answer) addsUniform h = absurd (omega arith)
-routed-to kept addsLearner h = absurd (omega arith)
-routed-to kept addsJoint h = absurd (omega arith)
-routed-to kept addsUniform h = absurd (omega arith)
-routed-to (moves addsLearner) addsLearner h = refl
-routed-to (moves addsLearner) addsJoint h = absurd (omega arith)
-routed-to (moves addsLearner) addsUniform h = absurd (omega arith)
-routed-to (moves addsJoint) addsLearner h = absurd (omega arith)
-routed-to (moves addsJoint) addsJoint h = refl
-routed-to (moves addsJoint) addsUniform h = absurd (omega arith)
-routed-to (moves addsUniform) addsLearner h = absurd (omega arith)
-routed-to (moves addsUniform) addsJoint h = absurd (omega arith)
-routed-to (moves addsUniform) addsUniform h = refl
+pub added-to : (v : Verdict Addition) (m : Addition) → routeOfObserved v ≡ routeOfObserved (moves m) → v ≡ moves m
+added-to (refused answer) addsLearner h = absurd (omega arith)
+added-to (refused answer) addsJoint h = absurd (omega arith)
+added-to (refused answer) addsUniform h = absurd (omega arith)
+added-to kept addsLearner h = absurd (omega arith)
+added-to kept addsJoint h = absurd (omega arith)
+added-to kept addsUniform h = absurd (omega arith)
+added-to (moves addsLearner) addsLearner h = refl
+added-to (moves addsLearner) addsJoint h = absurd (omega arith)
+added-to (moves addsLearner) addsUniform h = absurd (omega arith)
+added-to (moves addsJoint) addsLearner h = absurd (omega arith)
+added-to (moves addsJoint) addsJoint h = refl
+added-to (moves addsJoint) addsUniform h = absurd (omega arith)
+added-to (moves addsUniform) addsLearner h = absurd (omega arith)
+added-to (moves addsUniform) addsJoint h = absurd (omega arith)
+added-to (moves addsUniform) addsUniform h = refl
 
-pub routed-none : (make : Addition → VoterSlotTable) (t : VoterSlotTable) (v : Verdict Addition)
+pub added-none : (make : Addition → VoterSlotTable) (t : VoterSlotTable) (v : Verdict Addition)
     → (routeOfObserved v ≡ 1 → ⊥) → (routeOfObserved v ≡ 2 → ⊥) → (routeOfObserved v ≡ 3 → ⊥) → _≡_ {A = Answer × VoterSlotTable} (answerOfObserved v, t) (carried make t v)
 unfolding carried
-routed-none make t (refused answer) a b c = refl
-routed-none make t kept a b c = refl
-routed-none make t (moves addsLearner) a b c = absurd (a refl)
-routed-none make t (moves addsJoint) a b c = absurd (b refl)
-routed-none make t (moves addsUniform) a b c = absurd (c refl)
+added-none make t (refused answer) a b c = refl
+added-none make t kept a b c = refl
+added-none make t (moves addsLearner) a b c = absurd (a refl)
+added-none make t (moves addsJoint) a b c = absurd (b refl)
+added-none make t (moves addsUniform) a b c = absurd (c refl)

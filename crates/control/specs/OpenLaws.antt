@@ -46,8 +46,8 @@ target-below t h = go (ltb (targetIndex t) (t .count)) refl
         (false≢true
         (sym (ap not (allBelow-all (λ i. not (is i)) (t .count) (λ i k. ap not (first-absent is (t .count) 0 i (omega arith) (omega arith) (omega arith))))) ∙ h))
 
-pub opened : (t : VoterSlotTable) → validate t ≡ Accepted → t .«has_replacement» ≡ true → Open t
-opened t h o =
+pub open-of-valid : (t : VoterSlotTable) → validate t ≡ Accepted → t .«has_replacement» ≡ true → Open t
+open-of-valid t h o =
     let p = valid-parts t h in
     let v = open-holds t (p .1) o in
     let k = target-below t (v .target) in

@@ -55,7 +55,7 @@ use Rattle.control.specs.Observation.Sight.{strange, nothingNew, newLear
 use Rattle.control.specs.Quorum.{isJoint, currentIds, successorIds, countsIn, among, isMajority, isQuorum, IsReplaced, Shared, AllLive, SharedLive, Near, QuorumsIn, Quorums}
 use Rattle.control.specs.Retired.{isBelowFloor, isRetiredIdentity, isRetired}
 use Rattle.control.specs.RetiredLaws.{node-read, replaced-retired}
-use Rattle.control.specs.OpenLaws.{Open, opened, other-of}
+use Rattle.control.specs.OpenLaws.{Open, open-of-valid, other-of}
 use Rattle.control.specs.SetLaws.{contains-insert}
 use Rattle.control.specs.SightLaws.{Fits, fits-see}
 
@@ -296,7 +296,7 @@ module _ (t : VoterSlotTable) (v : validate t ≡ Accepted) where
 
   module _ (o : t .«has_replacement» ≡ true) where
     here : Open t
-    here = opened t v o
+    here = open-of-valid t v o
 
     in-successor : (i : ℕ) → i < t .count → slotAt t i .member ≡ memberAt (t .replacement .successor) i
     unfolding validateMember

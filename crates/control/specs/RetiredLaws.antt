@@ -31,7 +31,7 @@ use Rattle.control.specs.declared.retired.Retirement.the-variants.{NotRe
 use Rattle.control.specs.Control.{targetIndex}
 use Rattle.control.specs.Observation.{memberNode}
 use Rattle.control.specs.Retired.{isBelowFloor, isRetiredIdentity, isRetired, retiredTest, retiredNumber}
-use Rattle.control.specs.OpenLaws.{Open, opened}
+use Rattle.control.specs.OpenLaws.{Open, open-of-valid}
 
 -- ---- the whole test
 
@@ -103,7 +103,7 @@ node-read identity s i = read-made identity (valueOfNumber (nodeId identity)) (i
 
 module _ (t : VoterSlotTable) (v : validate t ≡ Accepted) (is-open : t .«has_replacement» ≡ true) where
   o : Open t
-  o = opened t v is-open
+  o = open-of-valid t v is-open
 
   -- the slot being replaced is there
   pub replaced-there : targetIndex t < t .count

@@ -31,7 +31,7 @@ use Rattle.control.specs.Control.{advanceKind, applyControl, beginCheck,
 use Rattle.control.specs.Judgement.{Move, Verdict, beginTest, carried, judgeAdvance, judgeRepeated, judgeOpen, judgeStep, judgeSnapshot, judgeCaughtUp, judgeContinuation, judgeFence, judgeFinalize, judge, judgeBegin, judgeMarker, made, snapshotTest, caughtUpTest, continuationTest, fenceTest}
 use Rattle.control.specs.Judgement.Verdict.{refused, kept, moves}
 use Rattle.control.specs.Judgement.Move.{begins, recordsSnapshot, recordsCaughtUp, continues, fences, finalizes}
-use Rattle.control.specs.OpenLaws.{opened}
+use Rattle.control.specs.OpenLaws.{open-of-valid}
 use Rattle.records.specs.RepresentableLaws.{representable-count}
 use Rattle.control.specs.declared.control.VoterAdvance.{VoterAdvance}
 use Rattle.control.specs.Verdicts.{advanceIn, advanceOutcome, answerOf, appliedOf, checkedOf, entryVerdict, judgeOf, paired, routeOf, stepMade}
@@ -138,7 +138,7 @@ module _ (t : VoterSlotTable) (id digest : List ℕ) (s : VoterReplacementStep) 
       absurd (false≢true (sym k ∙ h))
 
   pub has-target : isMove (judgeAdvance t id digest s cut) ≡ true → validate t ≡ Accepted → targetIndex t < t .count
-  has-target h valid = opened t valid (has-open-by (t .«has_replacement») refl h) .below
+  has-target h valid = open-of-valid t valid (has-open-by (t .«has_replacement») refl h) .below
 
 -- what a command makes by an Advance is what its step makes
 by-verdict : (t : VoterSlotTable) (c : VoterSlotControl) (cut : VoterSlotLogId) (v : Verdict Move) → isBegin v ≡ false

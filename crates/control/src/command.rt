@@ -11,18 +11,11 @@ ghost use Rattle.control.specs.Verdicts.{advanceIn, beginIn, verdictOf};
 use crate::begin::VoterBegin;
 use crate::begin::begin_table;
 use crate::begin::judge_begin;
-use crate::control::ADVANCE;
-use crate::control::BEGIN;
-use crate::control::VoterAdvance;
-use crate::control::VoterCommand;
+use crate::control::*;
 use crate::judge::Judged;
 use crate::judge::judge_advance;
 use crate::judge::judge_marker;
-use crate::make::catch_up_table;
-use crate::make::continue_table;
-use crate::make::fence_table;
-use crate::make::finalize_table;
-use crate::make::snapshot_table;
+use crate::make::*;
 use records::records::VoterSlotTable;
 
 // The Advance that a command holds.

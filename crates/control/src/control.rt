@@ -7,10 +7,7 @@
 use identity::identity::ConsensusConfigurationId;
 use identity::identity::ConsensusIdentity;
 use identity::identity::ConsensusRequestId;
-use records::records::LostVoterAttestationV1;
-use records::records::VoterSlotLogId;
-use records::records::VoterSlotMember;
-use records::records::VoterSnapshotEvidence;
+use records::records::*;
 
 // `VoterSlotControl`: compare and set one slot, retiring its prior incarnation permanently.
 pub const BEGIN: u8 = 0;

@@ -16,33 +16,13 @@ ghost use Rattle.control.specs.Control.{isCompleted, isReceiptOf};
 ghost use Rattle.control.specs.Judgement.Verdict.{kept, refused};
 ghost use Rattle.control.specs.Judgement.{judgeAdvance, judgeCaughtUp, judgeContinuation, judgeFence, judgeFinalize, judgeMarker, judgeOpen, judgeSnapshot, judgeStep};
 ghost use Rattle.control.specs.Verdicts.{answerOf, routeOf, verdictOf};
-use crate::control::FENCE;
-use crate::control::FINALIZE;
-use crate::control::RECORD_CAUGHT_UP;
-use crate::control::RECORD_CONTINUATION;
-use crate::control::RECORD_SNAPSHOT;
-use crate::control::VoterAdvance;
-use crate::control::VoterReplacementStep;
+use crate::control::*;
 use identity::answer::Answer;
-use records::equality::same_voter_slot_log_id;
-use records::equality::same_voter_snapshot_evidence;
-use records::equality::same16;
-use records::equality::same32;
+use records::equality::*;
 use records::evidence::is_in_order;
 use records::evidence::is_valid_snapshot_id;
 use records::evidence::log_id_follows;
-use records::records::CAUGHT_UP;
-use records::records::COMPLETED;
-use records::records::FENCED;
-use records::records::LEARNER_ADDED;
-use records::records::MAX_FIXED_VOTER_SLOTS;
-use records::records::OptionalLogId;
-use records::records::PREPARED;
-use records::records::UNIFORM;
-use records::records::VoterSlotLogId;
-use records::records::VoterSlotRecord;
-use records::records::VoterSlotTable;
-use records::records::VoterSnapshotEvidence;
+use records::records::*;
 
 // Refused; accepted and unchanged; or the change that is to be made.
 pub enum Judged {

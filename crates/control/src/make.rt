@@ -12,15 +12,7 @@ ghost use Rattle.records.specs.With.{withSnapshot};
 ghost use Rattle.control.specs.Control.{caughtUpRecorded, continued, fencedAt, finalized, full, snapshotRecorded, targetIndex};
 use crate::control::VoterAdvance;
 use records::blank::blank_voter_replacement_record;
-use records::records::CAUGHT_UP;
-use records::records::COMPLETED;
-use records::records::FENCED;
-use records::records::SNAPSHOT_INSTALLED;
-use records::records::VoterReplacementEvidence;
-use records::records::VoterReplacementRecord;
-use records::records::VoterReplacementResult;
-use records::records::VoterSlotTable;
-use records::records::VoterSnapshotEvidence;
+use records::records::*;
 use records::successor::slot_index;
 
 // The arm `RecordContinuation` of `advance`.

@@ -11,26 +11,14 @@ ghost use Rattle.records.specs.Equality.{sameVoterSnapshotEvidence};
 ghost use Rattle.records.specs.Representable.{representableSnapshot};
 ghost use Rattle.control.specs.Blank.{blankConsensusIdentity, sameConsensusIdentity};
 ghost use Rattle.control.specs.Control.{isBlankName, isBlankRequest, isBlankStep, representableControl, representableRequest, representableStep};
-use crate::control::ADVANCE;
-use crate::control::BEGIN;
-use crate::control::FINALIZE;
-use crate::control::MARKER;
-use crate::control::RECORD_CAUGHT_UP;
-use crate::control::RECORD_SNAPSHOT;
-use crate::control::VoterReplacementRequest;
-use crate::control::VoterReplacementStep;
-use crate::control::VoterSlotControl;
+use crate::control::*;
 use identity::identity::ConsensusIdentity;
 use identity::identity::is_configuration_epoch;
 use records::records::VoterSnapshotEvidence;
 use records::representable::is_representable_attestation;
 use records::representable::is_representable_member;
 use records::representable::is_representable_snapshot;
-use records::zero::is_blank_lost_voter_attestation_v1;
-use records::zero::is_blank_voter_slot_log_id;
-use records::zero::is_blank_voter_slot_member;
-use records::zero::is_blank_voter_snapshot_evidence;
-use records::zero::zeros;
+use records::zero::*;
 
 // A kind of the three; the request is a Begin's, the step an Advance's.
 pub fn is_representable_control(c: VoterSlotControl) -> bool

@@ -17,12 +17,7 @@ use records::blank::blank_voter_slot_member;
 use records::equality::same16;
 use records::equality::same32;
 use records::number::is_next;
-use records::records::MAX_FIXED_VOTER_SLOTS;
-use records::records::MIN_REPLACEMENT_SLOTS;
-use records::records::UNIFORM;
-use records::records::VoterSlotMember;
-use records::records::VoterSlotRecord;
-use records::records::VoterSlotTable;
+use records::records::*;
 use records::validation::are_valid_times;
 use records::validation::is_valid_spiffe_id;
 

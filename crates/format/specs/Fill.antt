@@ -10,7 +10,7 @@ use lib.ListN.{length, drop, replicate}
 use lib.Dec.{eqb}
 use Rattle.format.specs.Res.{andThen}
 use Rattle.format.specs.Res.Res.{ok, no}
-use Rattle.format.specs.Codec.{Codec, check, decCheck, gate}
+use Rattle.format.specs.Combinators.{Codec, check, decCheck, gate}
 use Rattle.format.specs.Copy.{zeros, drop-replicate}
 use Rattle.format.specs.Put.{put}
 

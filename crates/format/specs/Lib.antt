@@ -1,5 +1,5 @@
 pub mod Res
-pub mod Codec
+pub mod Combinators
 pub mod Num
 pub mod List
 pub mod Through

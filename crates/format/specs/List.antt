@@ -16,7 +16,7 @@ use Rattle.format.specs.Res.Res.{ok, no}
 use lib.Dec.{leb, eqb}
 use borrow.Author.Tests.{leb-true}
 use Rattle.format.specs.Num.{uint, pick}
-use Rattle.format.specs.Codec.{Codec, Laws, codecOf, lawsOf, dep, via, held, always, decSeq, decMap, check, seq-ok, seq-no-1, seq-no-2, map-ok, map-no, via-ok, via-no, tested, dep-ok, dep-no-1, dep-no-2}
+use Rattle.format.specs.Combinators.{Codec, Laws, codecOf, lawsOf, dep, via, held, always, decSeq, decMap, check, seq-ok, seq-no-1, seq-no-2, map-ok, map-no, via-ok, via-no, tested, dep-ok, dep-no-1, dep-no-2}
 
 abbrev pub snoc : {A : Type 0} → List A × A → List A
 snoc p = p .0 ++ (p .1 ∷ [])

@@ -14,7 +14,7 @@ use lib.Dec.{leb, lit<}
 use borrow.Author.Tests.{le-leb, lt-leb, leb-true}
 use Rattle.format.specs.Res.{Res, malformed, ok-value, ok-count, no-ok}
 use Rattle.format.specs.Res.Res.{ok, no}
-use Rattle.format.specs.Codec.{Codec, Bytes, via, held, decMap, map-ok, map-no}
+use Rattle.format.specs.Combinators.{Codec, Bytes, via, held, decMap, map-ok, map-no}
 
 -- the k low bytes of x, the highest first
 unfoldable pub be : ℕ → ℕ → List ℕ

@@ -10,7 +10,7 @@ use lib.Dec.{leb, eqb}
 use borrow.Author.Tests.{eq-eqb, eqb-true, le-leb}
 use Rattle.format.specs.Res.{Res, malformed, tooLarge, andThen, began, ok-value, ok-count, no-ok}
 use Rattle.format.specs.Res.Res.{ok, no}
-use Rattle.format.specs.Codec.{Codec, Bytes, dep, check, held, there-and-back, back-and-there}
+use Rattle.format.specs.Combinators.{Codec, Bytes, dep, check, held, there-and-back, back-and-there}
 use Rattle.format.specs.Num.{uint, raw, pick}
 
 module _ {A B : Type 0} (C : Codec A) (p : A → Res B) (g : B → A) (same : (a : A) (b : B) (m : ℕ) → C .Good a → p a ≡ ok b m → g b ≡ a) where

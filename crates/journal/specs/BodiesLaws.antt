@@ -15,7 +15,7 @@ use Rattle.identity.specs.Answer.{numberOf, isAccepted}
 use Rattle.identity.specs.declared.answer.Answer.{Answer}
 use Rattle.format.specs.Res.{Res, tooLarge, andThen, no-ok}
 use Rattle.format.specs.Res.Res.{ok, no}
-use Rattle.format.specs.Codec.{Codec, Bytes, check, dep, via, decSeq, decMap, map-ok, map-no, mapped, always, checked-ok, checked-no, dep-ok, dep-no-1, dep-no-2, via-ok, via-no}
+use Rattle.format.specs.Combinators.{Codec, Bytes, check, dep, via, decSeq, decMap, map-ok, map-no, mapped, always, checked-ok, checked-no, dep-ok, dep-no-1, dep-no-2, via-ok, via-no}
 use Rattle.format.specs.Copy.{zeros}
 use Rattle.format.specs.Fill.{put-zeros}
 use Rattle.format.specs.List.{either}
@@ -27,7 +27,7 @@ use Rattle.records.specs.declared.records.SnapshotId.{SnapshotId}
 use Rattle.records.specs.declared.records.VoterSlotLogId.{VoterSlotLogId}
 use Rattle.records.specs.declared.records.VoterSnapshotEvidence.{VoterSnapshotEvidence}
 use Rattle.records.specs.declared.records.LostVoterAttestationV1.{LostVoterAttestationV1}
-use Rattle.layout.specs.Format.{sized, choice, logId}
+use Rattle.layout.specs.Layout.{sized, choice, logId}
 use Rattle.layout.specs.Reading.{report, outcome}
 use Rattle.layout.specs.ReadingLaws.{told, told-not}
 use Rattle.layout.specs.declared.reading.Extent.{Extent}

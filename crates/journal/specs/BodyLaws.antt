@@ -10,12 +10,12 @@ use lib.ListN.{length, getD, take, length-append}
 use lib.Seq.{take-all, take-suc, length-take-le}
 use Rattle.identity.specs.declared.identity.ConsensusIdentity.{ConsensusIdentity}
 use Rattle.identity.specs.declared.identity.VoterSlotIdentity.{VoterSlotIdentity}
-use Rattle.format.specs.Codec.{Codec, Bytes, dep, check, via, held, always, back-and-there}
+use Rattle.format.specs.Combinators.{Codec, Bytes, dep, check, via, held, always, back-and-there}
 use Rattle.format.specs.Num.{uint, raw, uint-long, raw-same}
 use Rattle.format.specs.List.{vec, encVec, either}
 use Rattle.format.specs.Res.Res.{ok}
 use Rattle.format.specs.Through.{whole, whole-is}
-use Rattle.layout.specs.Format.{choice}
+use Rattle.layout.specs.Layout.{choice}
 use Rattle.writer.specs.SizeLaws.{logId-long, binding-long}
 use Rattle.records.specs.Blank.{blankVoterSlotLogId}
 use Rattle.records.specs.Held.{AllOf, all-at, HeldBytes, HeldVoterSlotIdentity, HeldVoterSlotLogId, HeldVoterSlotMember}

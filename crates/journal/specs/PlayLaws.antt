@@ -14,7 +14,7 @@ use borrow.Author.Tests.{eqb-true, eqb-false, leb-true, leb-false, ltb-true, ltb
 use Rattle.identity.specs.Answer.{isAccepted, numberOf}
 use Rattle.identity.specs.declared.answer.Answer.{Answer}
 use Rattle.identity.specs.declared.answer.Answer.the-variants.{Accepted, InvalidSlot, InvalidIncarnation, IncarnationExhausted, FreshInstallationRequired, TooLarge, InvalidRecord, Regression, InvalidLossEvidence, StaleIncarnation, IdempotencyConflict, ReplacementInProgress, NoSurvivingQuorum, ReplacementPastFence, ConfigurationEpochExhausted, RevisionExhausted, InvalidTransition, Unrepresentable, NotRising, BufferTooShort, BadRecord}
-use Rattle.format.specs.Codec.{Bytes, dep, held, via}
+use Rattle.format.specs.Combinators.{Bytes, dep, held, via}
 use Rattle.format.specs.Put.{Put, put, length-put, put-nothing, then}
 use Rattle.format.specs.Res.{Res, no-ok, ok-count, ok-value}
 use Rattle.format.specs.Res.Res.{ok, no}

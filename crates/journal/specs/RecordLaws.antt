@@ -11,7 +11,7 @@ use lib.Dec.{leb, ltb}
 use borrow.Author.Tests.{le-leb, lt-leb, leb-true, leb-false}
 use Rattle.format.specs.Res.{no-ok}
 use Rattle.format.specs.Res.Res.{ok, no}
-use Rattle.format.specs.Codec.{held, via, mapped, rest}
+use Rattle.format.specs.Combinators.{held, via, mapped, rest}
 use Rattle.format.specs.Num.{uint, raw, raw-is, val}
 use Rattle.records.specs.Equality.{eqList}
 use Rattle.journal.specs.declared.record.Record.{Record}

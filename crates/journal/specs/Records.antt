@@ -13,7 +13,7 @@ use lib.ListN.{length, replicate}
 use lib.Dec.{eqb}
 use Rattle.identity.specs.declared.identity.ConsensusIdentity.{ConsensusIdentity}
 use Rattle.identity.specs.declared.identity.VoterSlotIdentity.{VoterSlotIdentity}
-use Rattle.format.specs.Codec.{Codec, dep, check, via, always, tested}
+use Rattle.format.specs.Combinators.{Codec, dep, check, via, always, tested}
 use Rattle.format.specs.Num.{uint, raw, raw-long}
 use Rattle.format.specs.List.{vec, vec-long, either}
 use Rattle.records.specs.Blank.{blankVoterSlotLogId}
@@ -21,7 +21,7 @@ use Rattle.records.specs.Equality.{eqBytes}
 use Rattle.records.specs.EqualityLaws.{eqBytes-true}
 use Rattle.records.specs.declared.records.VoterSlotLogId.{VoterSlotLogId}
 use Rattle.records.specs.declared.records.VoterSlotMember.{VoterSlotMember}
-use Rattle.layout.specs.Format.{require, require-is, choice, logId, binding}
+use Rattle.layout.specs.Layout.{require, require-is, choice, logId, binding}
 use Rattle.layout.specs.Parts.{memberOf, bindingOf}
 use Rattle.control.specs.Control.{recordSnapshotKind, recordCaughtUpKind, finalizeKind}
 use Rattle.journal.specs.declared.bodies.MarkerBody.{MarkerBody}

@@ -11,14 +11,14 @@ use lib.Dec.{eqb, leb}
 use Rattle.identity.specs.Answer.{numberOf}
 use Rattle.format.specs.Res.{Res, malformed, tooLarge, andThen}
 use Rattle.format.specs.Res.Res.{ok, no}
-use Rattle.format.specs.Codec.{Codec, dep, decSeq, check, decCheck, gate, via, decMap, held, always}
+use Rattle.format.specs.Combinators.{Codec, dep, decSeq, check, decCheck, gate, via, decMap, held, always}
 use Rattle.format.specs.List.{vec, decVec, snoc, padded, flag, either, opt}
 use Rattle.format.specs.Num.{pick, raw, decRaw, uint}
 use Rattle.format.specs.Through.{whole, boxed, boxed-ok, boxed-no-1, boxed-no-2}
 use Rattle.records.specs.Blank.{blankVoterSlotMember, blankVoterReplacementResult, blankVoterSlotRecord, blankVoterSnapshotEvidence, blankVoterReplacementRecord}
 use Rattle.records.specs.Validation.{validity}
 use Rattle.records.specs.declared.records.VoterSlotTable.{VoterSlotTable}
-use Rattle.layout.specs.Format.{slotId, incarnation, epoch, slotCount, choice, identity, logId, optionalLogId, sized, string, spiffeId, snapshotId, binding, member, members, configuration, resultHead, result, slotMember, slot, slots, version, claimsRequest, claimsSlot, claimsNames, times, claimsEnd, claims, maxAttestationBytes, attestation, snapshot, threeCuts, evidence, change, replacement, magicAndVersion, tableHead, tableFront, table}
+use Rattle.layout.specs.Layout.{slotId, incarnation, epoch, slotCount, choice, identity, logId, optionalLogId, sized, string, spiffeId, snapshotId, binding, member, members, configuration, resultHead, result, slotMember, slot, slots, version, claimsRequest, claimsSlot, claimsNames, times, claimsEnd, claims, maxAttestationBytes, attestation, snapshot, threeCuts, evidence, change, replacement, magicAndVersion, tableHead, tableFront, table}
 use Rattle.codec.specs.Codec.{maxTableBytes, bounded, decodeVoterSlotTable, decodeLostVoterAttestation}
 
 -- ---- results

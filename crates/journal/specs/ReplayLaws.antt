@@ -16,12 +16,12 @@ use Rattle.identity.specs.Utf8Laws.{and-left, and-right}
 use Rattle.io.specs.Digits.{glyph, digits, Fewest}
 use Rattle.format.specs.Res.{Res, andThen, began, ok-count}
 use Rattle.format.specs.Res.Res.{ok, no}
-use Rattle.format.specs.Codec.{Codec, Bytes, dep, check, via, held, decSeq, mapped, checked, dep-ok, dep-no-1, dep-no-2, checked-ok, checked-no, checked-bad, via-ok, via-no, back-and-there}
+use Rattle.format.specs.Combinators.{Codec, Bytes, dep, check, via, held, decSeq, mapped, checked, dep-ok, dep-no-1, dep-no-2, checked-ok, checked-no, checked-bad, via-ok, via-no, back-and-there}
 use Rattle.format.specs.Num.{uint, raw, val, decUint, uint-ok, uint-no, raw-is, raw-got, raw-not, pick}
 use Rattle.format.specs.Through.{whole, whole-is, whole-there}
 use Rattle.records.specs.Equality.{eqList}
 use Rattle.records.specs.Held.{AllOf}
-use Rattle.layout.specs.Format.{require}
+use Rattle.layout.specs.Layout.{require}
 use Rattle.codec.specs.Codec.{decodeLostVoterAttestation}
 use Rattle.journal.specs.declared.replay.Mark.{Mark}
 use Rattle.journal.specs.declared.replay.Mark.the-variants.{Tb, Mk, Ad, Bg, Ob, Unknown}

@@ -6,7 +6,7 @@ use Prim.Native.Nat.{ℕ, _+_}
 use mathlib.Core.Path.{_≡_}
 use mathlib.Core.List.{List, [], _∷_, _++_}
 use lib.ListN.{length, take, drop}
-use Rattle.format.specs.Codec.{Bytes}
+use Rattle.format.specs.Combinators.{Bytes}
 use Rattle.records.specs.Held.{AllOf, HeldVoterSlotLogId, HeldVoterSlotTable}
 use Rattle.records.specs.Validation.{validate}
 use Rattle.identity.specs.declared.answer.Answer.the-variants.{Accepted}

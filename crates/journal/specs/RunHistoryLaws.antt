@@ -16,7 +16,7 @@ use Rattle.identity.specs.declared.identity.ConsensusIdentity.{ConsensusIdentit
 use Rattle.identity.specs.declared.identity.VoterSlotIdentity.{VoterSlotIdentity}
 use Rattle.format.specs.Res.{Res}
 use Rattle.format.specs.Res.Res.{ok, no}
-use Rattle.format.specs.Codec.{Codec, Bytes, bytes-drop, dep, via, held, always}
+use Rattle.format.specs.Combinators.{Codec, Bytes, bytes-drop, dep, via, held, always}
 use Rattle.format.specs.Num.{uint, raw}
 use Rattle.format.specs.List.{either}
 use Rattle.format.specs.Through.{whole, whole-is}
@@ -27,7 +27,7 @@ use Rattle.records.specs.Validation.{validate}
 use Rattle.records.specs.declared.records.VoterSlotMember.{VoterSlotMember}
 use Rattle.records.specs.declared.records.LostVoterAttestationV1.{LostVoterAttestationV1}
 use Rattle.records.specs.declared.records.VoterSlotTable.{VoterSlotTable}
-use Rattle.layout.specs.Format.{logId}
+use Rattle.layout.specs.Layout.{logId}
 use Rattle.layout.specs.Parts.{bindingOf}
 use Rattle.codec.specs.Codec.{decodeVoterSlotTable, decodeLostVoterAttestation}
 use Rattle.codec.specs.CodecLaws.{attestation-read-held, read-held, read-valid}

@@ -10,13 +10,13 @@ use mathlib.Core.List.{List, [], _∷_, _++_, append-assoc, append-nil, flatten,
 use lib.ListN.{length, take, drop, set, length-drop}
 use lib.Seq.{drop-drop, drop-set-add, length-take-le, take-add, take-set-le, take-suc-set}
 use lib.Dec.{eqb}
-use Rattle.format.specs.Codec.{dep, dep-ok, dep-no-1, dep-no-2, rest, via-ok, via-no}
+use Rattle.format.specs.Combinators.{dep, dep-ok, dep-no-1, dep-no-2, rest, via-ok, via-no}
 use Rattle.format.specs.List.{vec, vec-next, vec-refused, vec-start}
 use Rattle.format.specs.Num.{pick, uint, val}
 use Rattle.format.specs.Res.{malformed}
 use Rattle.format.specs.Res.Res.{ok, no}
 use Rattle.format.specs.Through.{whole-by-count, whole-no}
-use Rattle.layout.specs.Format.{logId}
+use Rattle.layout.specs.Layout.{logId}
 use Rattle.records.specs.declared.records.VoterSlotLogId.{VoterSlotLogId}
 use Rattle.journal.specs.declared.observation.Laid.{Laid}
 use Rattle.journal.specs.declared.observation.ObservationRead.{ObservationRead}

@@ -12,7 +12,7 @@ use Rattle.identity.specs.declared.answer.Answer.{Answer}
 use Rattle.identity.specs.declared.answer.Answer.the-variants.{Accepted, BadRecord, InvalidTransition, Unrepresentable}
 use Rattle.format.specs.Res.{Res}
 use Rattle.format.specs.Res.Res.{ok, no}
-use Rattle.layout.specs.Format.{logId}
+use Rattle.layout.specs.Layout.{logId}
 use Rattle.records.specs.Blank.{blankVoterSlotLogId}
 use Rattle.records.specs.Evidence.{validLogId}
 use Rattle.records.specs.Validation.{validate}

@@ -11,11 +11,11 @@ use lib.ListN.{drop, take}
 use Rattle.identity.specs.Answer.{isAccepted, numberOf}
 use Rattle.identity.specs.declared.answer.Answer.{Answer}
 use Rattle.identity.specs.declared.answer.Answer.the-variants.{Accepted, BadRecord, InvalidTransition, Unrepresentable}
-use Rattle.format.specs.Codec.{decSeq, dep, mapped, via}
+use Rattle.format.specs.Combinators.{decSeq, dep, mapped, via}
 use Rattle.format.specs.Res.{Res, andThen, began, ok-value}
 use Rattle.format.specs.Res.Res.{ok, no}
 use Rattle.format.specs.Through.{whole, whole-is}
-use Rattle.layout.specs.Format.{logId}
+use Rattle.layout.specs.Layout.{logId}
 use Rattle.records.specs.Equality.{eqBytes}
 use Rattle.records.specs.Evidence.{validLogId}
 use Rattle.records.specs.Representable.{representable}

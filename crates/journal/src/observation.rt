@@ -14,10 +14,7 @@ ghost use Rattle.journal.specs.SetBody.{LaidIds, LaidSet, LaidSets, notL
 use layout::get::read_u8;
 use layout::get::read_u16;
 use layout::get::read_u64;
-use layout::reading::LogIdRead;
-use layout::reading::U8Read;
-use layout::reading::U16Read;
-use layout::reading::U64Read;
+use layout::reading::*;
 use reader::reader::read_log_id;
 use records::blank::blank_voter_slot_log_id;
 use records::records::VoterSlotLogId;

@@ -1,5 +1,5 @@
 pub mod Parts
-pub mod Format
-pub mod FormatLaws
+pub mod Layout
+pub mod LayoutLaws
 pub mod Reading
 pub mod ReadingLaws

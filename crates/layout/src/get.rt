@@ -7,22 +7,10 @@ ghost use mathlib.Core.Path.{_≡_};
 ghost use Prim.Native.Nat.{_≤_};
 ghost use Rattle.format.specs.Copy.{zeros};
 ghost use Rattle.format.specs.Num.{uint, raw};
-ghost use Rattle.layout.specs.Format.{sized};
+ghost use Rattle.layout.specs.Layout.{sized};
 ghost use Rattle.layout.specs.Reading.{report, outcome, u64Read, u16Read, u8Read, sizedRead};
 use crate::put::put_bytes;
-use crate::reading::Array16Read;
-use crate::reading::Array32Read;
-use crate::reading::Array64Read;
-use crate::reading::Extent;
-use crate::reading::SizedRead;
-use crate::reading::U8Read;
-use crate::reading::U16Read;
-use crate::reading::U64Read;
-use crate::reading::refused_array16;
-use crate::reading::refused_array32;
-use crate::reading::refused_array64;
-use crate::reading::why_u16;
-use crate::reading::why_u64;
+use crate::reading::*;
 use identity::answer::Answer;
 
 // A number of so many bytes, the highest first.

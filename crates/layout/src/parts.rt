@@ -4,29 +4,9 @@ ghost use mathlib.Core.Bool.{false};
 ghost use mathlib.Core.Path.{_≡_};
 ghost use Rattle.records.specs.Blank.{blankVoterReplacementRecord};
 ghost use Rattle.layout.specs.Parts.{blankBinding, blankResultHead, blankSlotMember, blankClaimsRequest, blankClaimsSlot, blankClaimsNames, blankClaimsEnd, blankChange, blankTableHead, memberOf, resultOf, attestationOf, evidenceOf, earlyCuts, lateCuts, replacementOf, tableOf};
-use identity::identity::ConsensusClusterId;
-use identity::identity::ConsensusConfigurationEpoch;
-use identity::identity::ConsensusRequestId;
-use identity::identity::VoterIncarnation;
-use identity::identity::VoterSlotIdentity;
-use records::blank::blank_spiffe_id;
-use records::blank::blank_voter_configuration;
-use records::blank::blank_voter_slot_identity;
-use records::blank::blank_voter_slot_member;
-use records::blank::blank_voter_slot_table;
-use records::records::LostVoterAttestationV1;
-use records::records::MAX_FIXED_VOTER_SLOTS;
-use records::records::OptionalLogId;
-use records::records::SpiffeId;
-use records::records::VoterConfiguration;
-use records::records::VoterReplacementEvidence;
-use records::records::VoterReplacementRecord;
-use records::records::VoterReplacementResult;
-use records::records::VoterSlotLogId;
-use records::records::VoterSlotMember;
-use records::records::VoterSlotRecord;
-use records::records::VoterSlotTable;
-use records::records::VoterSnapshotEvidence;
+use identity::identity::*;
+use records::blank::*;
+use records::records::*;
 
 // What follows an identity in a member.
 pub struct Binding {

@@ -134,22 +134,22 @@ mixed kind r id at =
 abbrev pub marks : (id : ℕ) → VoterSlotLogId → Act
 marks id at = names markerKind id id blankVoterReplacementStep at
 
-abbrev pub stepOf : ℕ → VoterSnapshotEvidence → VoterSlotLogId → VoterReplacementStep
-stepOf kind snapshot mark = record { kind = kind; snapshot = snapshot; «caught_up» = mark }
+abbrev pub stepWith : ℕ → VoterSnapshotEvidence → VoterSlotLogId → VoterReplacementStep
+stepWith kind snapshot mark = record { kind = kind; snapshot = snapshot; «caught_up» = mark }
 
 -- a step with no part
 abbrev pub bare : ℕ → VoterReplacementStep
-bare kind = stepOf kind blankVoterSnapshotEvidence (cut 0 0)
+bare kind = stepWith kind blankVoterSnapshotEvidence (cut 0 0)
 
 abbrev pub snapshotAt : VoterSlotLogId → VoterSnapshotEvidence
 snapshotAt at = record { cut = at; «snapshot_id» = record { len = 1; bytes = 115 ∷ replicate 255 0 }; digest = key 4 }
 
 -- each step: of request id, with its part, at a cut
 abbrev pub snapshots : ℕ → (taken at : VoterSlotLogId) → Act
-snapshots id taken at = names advanceKind id id (stepOf recordSnapshotKind (snapshotAt taken) (cut 0 0)) at
+snapshots id taken at = names advanceKind id id (stepWith recordSnapshotKind (snapshotAt taken) (cut 0 0)) at
 
 abbrev pub catches : ℕ → (mark at : VoterSlotLogId) → Act
-catches id mark at = names advanceKind id id (stepOf recordCaughtUpKind blankVoterSnapshotEvidence mark) at
+catches id mark at = names advanceKind id id (stepWith recordCaughtUpKind blankVoterSnapshotEvidence mark) at
 
 abbrev pub continues : ℕ → VoterSlotLogId → Act
 continues id at = names advanceKind id id (bare recordContinuationKind) at
@@ -164,15 +164,15 @@ finalizes id at = names advanceKind id id (bare finalizeKind) at
 
 -- A call that is refused, or accepted and unchanged, gives its number and leaves the table; one
 -- that changes it is accepted and makes that table.
-pub data Turn : Type 0 where
-  gives : Act → ℕ → Turn
-  makes : Act → VoterSlotTable → Turn
+pub data Response : Type 0 where
+  gives : Act → ℕ → Response
+  makes : Act → VoterSlotTable → Response
 
 -- each call a row, on the table that the one before it leaves
-abbrev pub line : VoterSlotTable → List Turn → List Row
+abbrev pub line : VoterSlotTable → List Response → List Row
 line t [] = []
-line t (gives act number ∷ turns) = is-outcome (does act t) number t ∷ line t turns
-line t (makes act next ∷ turns) = is-outcome (does act t) 0 next ∷ line next turns
+line t (gives act number ∷ responses) = is-outcome (does act t) number t ∷ line t responses
+line t (makes act next ∷ responses) = is-outcome (does act t) 0 next ∷ line next responses
 
 -- ---- request 21: slot 2 of three, in incarnation 2; from its Begin to Finalize
 

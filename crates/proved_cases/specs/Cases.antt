@@ -8,7 +8,7 @@ use mathlib.Core.List.{List, [], _∷_, _++_, flatten}
 use lib.ListN.{replicate}
 use Rattle.identity.specs.Answer.{numberOf}
 use Rattle.format.specs.Res.{andThen}
-use Rattle.format.specs.Codec.{decSeq, decCheck, decMap, gate, dep, check, via, held, always}
+use Rattle.format.specs.Combinators.{decSeq, decCheck, decMap, gate, dep, check, via, held, always}
 use Rattle.format.specs.Num.{uint, raw, decUint, decRaw, val, be, pick}
 use Rattle.format.specs.List.{decVec, encVec, vec, padded, flag, flagTest, opt, either}
 use Rattle.format.specs.Through.{whole}
@@ -22,7 +22,7 @@ use Rattle.records.specs.Records.{voting, pending, allBelow, firstFrom}
 use Rattle.records.specs.Representable.{representableMember, representableResult, representableSlotRecord, representable, isText, representableOptionalLogId, representableConfiguration, representableAttestation, representableEvidence, representableReplacement}
 use Rattle.records.specs.Validation.{validResult, validSlot, validSlots, validity, validate, validConfiguration, validAttestation, validOperationHead, isCurrentEpoch, validOperation, retiredMember, validTarget, validateMember, validateMembers, validateOperation}
 use Rattle.records.specs.declared.records.VoterSlotTable.{VoterSlotTable}
-use Rattle.layout.specs.Format.{table, magicAndVersion, headTest, tableHead, epoch, slotCount, slots, slot, slotMember, identity, slotId, incarnation, binding, choice, result, magic, configuration, members, member, resultHead, version, claims, claimsEnd, claimsNames, claimsSlot, claimsRequest, times, attestation, spiffeId, snapshotId, string, sized, logId, optionalLogId, snapshot, evidence, threeCuts, change, replacement}
+use Rattle.layout.specs.Layout.{table, magicAndVersion, headTest, tableHead, epoch, slotCount, slots, slot, slotMember, identity, slotId, incarnation, binding, choice, result, magic, configuration, members, member, resultHead, version, claims, claimsEnd, claimsNames, claimsSlot, claimsRequest, times, attestation, spiffeId, snapshotId, string, sized, logId, optionalLogId, snapshot, evidence, threeCuts, change, replacement}
 use Rattle.codec.specs.Codec.{decodeVoterSlotTable, tableBytes, encodeVoterSlotTable, restarted, restartOutcome, bounded, decoded as answered, decodeLostVoterAttestation}
 use Rattle.records.specs.Successor.{resultSucceeds, slotSucceeds, requestSucceeds, ownReceipt, requestEnded, endedSucceeds, replacementSucceeds, headSucceeds, succession, validateSuccessorOf}
 use Rattle.control.specs.Control.{settle, representableStep, representableControl, currentConfiguration, validRequest, requestCheck, isOpenRequest, receiptIndex, knownDigest, repeated, openCheck, isExpected, isCurrent, candidateCheck, fullCheck, beginCheck, begunSlot, begunOperation, begin, recordSnapshot, recordCaughtUp, recordContinuation, fence, finalizedSlot, finalize, isCompleted, takeStep, advanceOpen, advance, marker, decide, applyControl}

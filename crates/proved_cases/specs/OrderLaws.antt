@@ -13,7 +13,7 @@ use Rattle.identity.specs.Utf8.{fits, widthIn, decodedChar, charsFrom, allChars
 use Rattle.identity.specs.declared.answer.Answer.the-variants.{Accepted}
 use Rattle.format.specs.Res.{andThen}
 use Rattle.format.specs.Res.Res.{ok, no}
-use Rattle.format.specs.Codec.{decSeq, decCheck, decMap, dep-ok, map-ok, gate, dep, check, via, held, always}
+use Rattle.format.specs.Combinators.{decSeq, decCheck, decMap, dep-ok, map-ok, gate, dep, check, via, held, always}
 use Rattle.format.specs.Num.{uint, raw, decUint, decRaw, val, pick}
 use Rattle.format.specs.List.{decVec, vec, padded, flag, flagTest, opt, opt-some, either}
 use Rattle.format.specs.Through.{whole, boxed, boxed-ok}
@@ -22,7 +22,7 @@ use Rattle.records.specs.Equality.{allTrue, eqList, sameVoterSlotIdentity, same
 use Rattle.records.specs.Evidence.{follows, validStage, stageOr, validStages, inOrder, validContinuation, validEvidence}
 use Rattle.records.specs.Records.{allBelow}
 use Rattle.records.specs.Validation.{validConfiguration, validAttestation, validResult, validSlot, validSlots, validOperationHead, isCurrentEpoch, validOperation, retiredMember, validTarget, validateMember, validateMembers, validateOperation, validity}
-use Rattle.layout.specs.Format.{maxAttestationBytes, table, magicAndVersion, headTest, tableHead, epoch, slotCount, slots, slot, slotMember, identity, slotId, incarnation, logId, optionalLogId, sized, string, spiffeId, snapshotId, binding, member, members, configuration, choice, resultHead, result, version, claimsRequest, claimsSlot, claimsNames, times, claimsEnd, claims, attestation, snapshot, threeCuts, evidence, change, replacement}
+use Rattle.layout.specs.Layout.{maxAttestationBytes, table, magicAndVersion, headTest, tableHead, epoch, slotCount, slots, slot, slotMember, identity, slotId, incarnation, logId, optionalLogId, sized, string, spiffeId, snapshotId, binding, member, members, configuration, choice, resultHead, result, version, claimsRequest, claimsSlot, claimsNames, times, claimsEnd, claims, attestation, snapshot, threeCuts, evidence, change, replacement}
 use Rattle.layout.specs.Parts.{tableOf, replacementOf, tableHeadOf, changeOf}
 use Rattle.codec.specs.Codec.{decodeVoterSlotTable, decodeLostVoterAttestation, bounded}
 use Rattle.codec.specs.EntryLaws.{decode-judged}

@@ -9,20 +9,7 @@ use crate::number::byte;
 use identity::identity::VoterSlotIdentity;
 use records::blank::blank_voter_slot_member;
 use records::blank::blank_voter_slot_record;
-use records::records::LostVoterAttestationV1;
-use records::records::MAX_FIXED_VOTER_SLOTS;
-use records::records::OptionalLogId;
-use records::records::SnapshotId;
-use records::records::SpiffeId;
-use records::records::VoterConfiguration;
-use records::records::VoterReplacementEvidence;
-use records::records::VoterReplacementRecord;
-use records::records::VoterReplacementResult;
-use records::records::VoterSlotLogId;
-use records::records::VoterSlotMember;
-use records::records::VoterSlotRecord;
-use records::records::VoterSlotTable;
-use records::records::VoterSnapshotEvidence;
+use records::records::*;
 
 // Where the parts of the table begin.
 const MANIFEST_DIGEST: usize = 32;

@@ -3,20 +3,7 @@
 // record lies within.
 ghost use Prim.Native.Nat.{_+_, _≤_};
 use crate::table::copy;
-use records::records::LostVoterAttestationV1;
-use records::records::MAX_FIXED_VOTER_SLOTS;
-use records::records::OptionalLogId;
-use records::records::SnapshotId;
-use records::records::SpiffeId;
-use records::records::VoterConfiguration;
-use records::records::VoterReplacementEvidence;
-use records::records::VoterReplacementRecord;
-use records::records::VoterReplacementResult;
-use records::records::VoterSlotLogId;
-use records::records::VoterSlotMember;
-use records::records::VoterSlotRecord;
-use records::records::VoterSlotTable;
-use records::records::VoterSnapshotEvidence;
+use records::records::*;
 
 // The offsets stand at the readers of `table`.
 pub fn put_table(raw: &mut [u8], table: VoterSlotTable) {

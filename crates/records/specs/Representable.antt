@@ -80,12 +80,12 @@ representableAttestation a =
 abbrev pub representableSnapshot : VoterSnapshotEvidence → Bool
 representableSnapshot s = representableSnapshotId (s .«snapshot_id»)
 
-abbrev pub snapshotPart : VoterReplacementEvidence → Bool
-snapshotPart e = cond (e .«has_snapshot») (representableSnapshot (e .snapshot)) (sameVoterSnapshotEvidence (e .snapshot) blankVoterSnapshotEvidence)
+abbrev pub representableOptionalSnapshot : VoterReplacementEvidence → Bool
+representableOptionalSnapshot e = cond (e .«has_snapshot») (representableSnapshot (e .snapshot)) (sameVoterSnapshotEvidence (e .snapshot) blankVoterSnapshotEvidence)
 
 unfoldable pub representableEvidence : VoterReplacementEvidence → Bool
 representableEvidence e =
-    snapshotPart e
+    representableOptionalSnapshot e
     and representableOptionalLogId (e .learner)
     and representableOptionalLogId (e .«caught_up»)
     and representableOptionalLogId (e .continuation)

@@ -26,7 +26,7 @@ use Rattle.records.specs.Equality.{allTrue, sameVoterSlotMember, sameVot
 use Rattle.records.specs.EqualityLaws.{sameVoterSlotLogId-refl, sameVoterSlotMember-refl, sameVoterSlotRecord-true}
 use Rattle.records.specs.Records.{maxFixedVoterSlots, voting, uniform, superseded, storageLost, timeBoundLoss, allBelow, slotAt, memberAt, noMember, noSlotRecord}
 use Rattle.records.specs.RecordsLaws.{allBelow-at, allBelow-all}
-use Rattle.records.specs.Representable.{isZero, isText, representableSpiffeId, representableOptionalLogId, representableMember, representableResult, representableSlotRecord, memberPlace, slotPlace, representableConfiguration, representableAttestation, snapshotPart, representableEvidence, representableReplacement, representable}
+use Rattle.records.specs.Representable.{isZero, isText, representableSpiffeId, representableOptionalLogId, representableMember, representableResult, representableSlotRecord, memberPlace, slotPlace, representableConfiguration, representableAttestation, representableOptionalSnapshot, representableEvidence, representableReplacement, representable}
 use Rattle.records.specs.RepresentableLaws.{representable-count}
 use Rattle.records.specs.TestLaws.{MadeOf, says, passes, cond-true, cond-false}
 
@@ -87,7 +87,7 @@ attestation-is a = record { is = refl }
 
 -- the evidence: snapshot, six cuts
 pub evidence-is : (e : VoterReplacementEvidence) → MadeOf (
-    snapshotPart e
+    representableOptionalSnapshot e
     ∷ representableOptionalLogId (e .learner)
     ∷ representableOptionalLogId (e .«caught_up»)
     ∷ representableOptionalLogId (e .continuation)

@@ -2,20 +2,7 @@
 // Written by scripts/records.py.
 ghost use mathlib.Core.Path.{_≡_};
 ghost use Rattle.records.specs.Blank.{blankVoterSlotIdentity, blankSpiffeId, blankSnapshotId, blankVoterSlotLogId, blankOptionalLogId, blankVoterSlotMember, blankVoterReplacementResult, blankVoterSlotRecord, blankVoterSnapshotEvidence, blankVoterConfiguration, blankLostVoterAttestationV1, blankVoterReplacementEvidence, blankVoterReplacementRecord, blankVoterSlotTable};
-use crate::records::LostVoterAttestationV1;
-use crate::records::MAX_FIXED_VOTER_SLOTS;
-use crate::records::OptionalLogId;
-use crate::records::SnapshotId;
-use crate::records::SpiffeId;
-use crate::records::VoterConfiguration;
-use crate::records::VoterReplacementEvidence;
-use crate::records::VoterReplacementRecord;
-use crate::records::VoterReplacementResult;
-use crate::records::VoterSlotLogId;
-use crate::records::VoterSlotMember;
-use crate::records::VoterSlotRecord;
-use crate::records::VoterSlotTable;
-use crate::records::VoterSnapshotEvidence;
+use crate::records::*;
 use identity::identity::VoterSlotIdentity;
 
 pub fn blank_voter_slot_identity() -> VoterSlotIdentity

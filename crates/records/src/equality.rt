@@ -7,20 +7,7 @@
 // byte by byte.
 ghost use mathlib.Core.Path.{_≡_};
 ghost use Rattle.records.specs.Equality.{eqBytes, eqList, sameVoterSlotIdentity, sameSpiffeId, sameSnapshotId, sameVoterSlotLogId, sameOptionalLogId, sameVoterSlotMember, sameVoterReplacementResult, sameVoterSlotRecord, sameVoterSnapshotEvidence, sameVoterConfiguration, sameLostVoterAttestationV1, sameVoterReplacementEvidence, sameVoterReplacementRecord, sameVoterSlotTable};
-use crate::records::LostVoterAttestationV1;
-use crate::records::MAX_FIXED_VOTER_SLOTS;
-use crate::records::OptionalLogId;
-use crate::records::SnapshotId;
-use crate::records::SpiffeId;
-use crate::records::VoterConfiguration;
-use crate::records::VoterReplacementEvidence;
-use crate::records::VoterReplacementRecord;
-use crate::records::VoterReplacementResult;
-use crate::records::VoterSlotLogId;
-use crate::records::VoterSlotMember;
-use crate::records::VoterSlotRecord;
-use crate::records::VoterSlotTable;
-use crate::records::VoterSnapshotEvidence;
+use crate::records::*;
 use identity::identity::VoterSlotIdentity;
 
 // Whether two slices hold the same bytes.

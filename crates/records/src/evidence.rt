@@ -9,16 +9,7 @@ ghost use mathlib.Core.Path.{_≡_};
 ghost use Rattle.records.specs.Evidence.{validLogId, follows, validStage, stageOr, snapshotCut, validStages, inOrder, validContinuation, validSnapshotId, validEvidence, retainsCut, retainsMarker, retainsCuts, retains, laterOf, latest};
 use crate::equality::same_voter_slot_log_id;
 use crate::equality::same_voter_snapshot_evidence;
-use crate::records::CAUGHT_UP;
-use crate::records::FENCED;
-use crate::records::JOINT;
-use crate::records::LEARNER_ADDED;
-use crate::records::OptionalLogId;
-use crate::records::SNAPSHOT_INSTALLED;
-use crate::records::SnapshotId;
-use crate::records::UNIFORM;
-use crate::records::VoterReplacementEvidence;
-use crate::records::VoterSlotLogId;
+use crate::records::*;
 use identity::text::MAX_VOTER_SNAPSHOT_ID_BYTES;
 use identity::text::is_snapshot_id;
 

@@ -4,12 +4,7 @@
 // 717de332e7, Apache-2.0 (see NOTICE). Changed: a `Vec` is nine places and a count, a `String` is
 // bytes and a length, an `Option` is a yes or no next to the record; what is after a count or a
 // length and what is absent is zero; enums that a table holds are numbers with names.
-use identity::identity::ConsensusClusterId;
-use identity::identity::ConsensusConfigurationEpoch;
-use identity::identity::ConsensusRequestId;
-use identity::identity::SlotId;
-use identity::identity::VoterIncarnation;
-use identity::identity::VoterSlotIdentity;
+use identity::identity::*;
 use identity::text::MAX_VOTER_SNAPSHOT_ID_BYTES;
 use identity::text::MAX_VOTER_SPIFFE_ID_BYTES;
 

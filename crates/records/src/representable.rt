@@ -9,32 +9,9 @@ ghost use lib.Dec.{leb};
 ghost use Rattle.identity.specs.Identity.{isVoterIncarnation};
 ghost use Rattle.identity.specs.Text.{every, isUtf8};
 ghost use Rattle.records.specs.Records.{allBelow, slotAt, memberAt};
-ghost use Rattle.records.specs.Representable.{isZero, representableSpiffeId, representableSnapshotId, representableOptionalLogId, representableMember, representableResult, memberPlace, slotPlace, representableSnapshot, snapshotPart, representableSlotRecord, representableConfiguration, representableAttestation, representableEvidence, representableReplacement, representable};
-use crate::records::LostVoterAttestationV1;
-use crate::records::MAX_FIXED_VOTER_SLOTS;
-use crate::records::OptionalLogId;
-use crate::records::STORAGE_LOST;
-use crate::records::SUPERSEDED;
-use crate::records::SnapshotId;
-use crate::records::SpiffeId;
-use crate::records::TIME_BOUND_LOSS;
-use crate::records::UNIFORM;
-use crate::records::VOTING;
-use crate::records::VoterConfiguration;
-use crate::records::VoterReplacementEvidence;
-use crate::records::VoterReplacementRecord;
-use crate::records::VoterReplacementResult;
-use crate::records::VoterSlotMember;
-use crate::records::VoterSlotRecord;
-use crate::records::VoterSlotTable;
-use crate::records::VoterSnapshotEvidence;
-use crate::zero::is_blank_voter_replacement_record;
-use crate::zero::is_blank_voter_replacement_result;
-use crate::zero::is_blank_voter_slot_log_id;
-use crate::zero::is_blank_voter_slot_member;
-use crate::zero::is_blank_voter_slot_record;
-use crate::zero::is_blank_voter_snapshot_evidence;
-use crate::zero::zeros;
+ghost use Rattle.records.specs.Representable.{isZero, representableSpiffeId, representableSnapshotId, representableOptionalLogId, representableMember, representableResult, memberPlace, slotPlace, representableSnapshot, representableOptionalSnapshot, representableSlotRecord, representableConfiguration, representableAttestation, representableEvidence, representableReplacement, representable};
+use crate::records::*;
+use crate::zero::*;
 use identity::identity::MAX_VOTER_INCARNATION;
 use identity::text::MAX_VOTER_SNAPSHOT_ID_BYTES;
 use identity::text::MAX_VOTER_SPIFFE_ID_BYTES;
@@ -229,7 +206,7 @@ fn is_member_place(past: bool, member: VoterSlotMember) -> bool
 pub fn is_representable_evidence(evidence: VoterReplacementEvidence) -> bool
     ensures { λ r. ⌜ r ≡ representableEvidence evidence ⌝ }
 {
-    let snapshot = is_snapshot_part(evidence);
+    let snapshot = is_representable_optional_snapshot(evidence);
     let learner = evidence.learner;
     let learner_held = is_representable_optional_log_id(learner);
     let caught_up = evidence.caught_up;
@@ -247,8 +224,8 @@ pub fn is_representable_evidence(evidence: VoterReplacementEvidence) -> bool
             & (caught_up_held & (continuation_held & (fence_held & (joint_held & uniform_held)))))
 }
 
-fn is_snapshot_part(evidence: VoterReplacementEvidence) -> bool
-    ensures { λ r. ⌜ r ≡ snapshotPart evidence ⌝ }
+fn is_representable_optional_snapshot(evidence: VoterReplacementEvidence) -> bool
+    ensures { λ r. ⌜ r ≡ representableOptionalSnapshot evidence ⌝ }
 {
     let snapshot = evidence.snapshot;
     if evidence.has_snapshot {

@@ -7,19 +7,7 @@ ghost use Rattle.identity.specs.Text.{every};
 ghost use Rattle.records.specs.Blank.{blankVoterSlotIdentity, blankSpiffeId, blankSnapshotId, blankVoterSlotLogId, blankOptionalLogId, blankVoterSlotMember, blankVoterReplacementResult, blankVoterSlotRecord, blankVoterSnapshotEvidence, blankVoterConfiguration, blankLostVoterAttestationV1, blankVoterReplacementEvidence, blankVoterReplacementRecord};
 ghost use Rattle.records.specs.Equality.{eqList, sameVoterSlotIdentity, sameSpiffeId, sameSnapshotId, sameVoterSlotLogId, sameOptionalLogId, sameVoterSlotMember, sameVoterReplacementResult, sameVoterSlotRecord, sameVoterSnapshotEvidence, sameVoterConfiguration, sameLostVoterAttestationV1, sameVoterReplacementEvidence, sameVoterReplacementRecord};
 ghost use Rattle.records.specs.Representable.{isZero};
-use crate::records::LostVoterAttestationV1;
-use crate::records::MAX_FIXED_VOTER_SLOTS;
-use crate::records::OptionalLogId;
-use crate::records::SnapshotId;
-use crate::records::SpiffeId;
-use crate::records::VoterConfiguration;
-use crate::records::VoterReplacementEvidence;
-use crate::records::VoterReplacementRecord;
-use crate::records::VoterReplacementResult;
-use crate::records::VoterSlotLogId;
-use crate::records::VoterSlotMember;
-use crate::records::VoterSlotRecord;
-use crate::records::VoterSnapshotEvidence;
+use crate::records::*;
 use identity::identity::VoterSlotIdentity;
 
 // Whether every byte is zero.

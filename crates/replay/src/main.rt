@@ -8,10 +8,7 @@ ghost use Prim.Native.Nat.{_+_, _-_, _≤_};
 ghost use mathlib.Core.Path.{_≡_};
 ghost use lib.ListN.{length, take, drop};
 ghost use Rattle.journal.specs.Play.{playOf};
-use journal::play::Journal;
-use journal::play::Played;
-use journal::play::new_journal;
-use journal::play::play;
+use journal::play::*;
 
 // The bytes that are read and not played yet lie from `start` to `held`; `last`: no more will come;
 // `failed`: a read failed, so that what is cut short by it is not played.

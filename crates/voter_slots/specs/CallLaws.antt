@@ -12,7 +12,7 @@ use Rattle.identity.specs.Answer.{isAccepted, numberOf}
 use Rattle.identity.specs.AnswerLaws.{number-injective}
 use Rattle.identity.specs.declared.answer.Answer.{Answer}
 use Rattle.identity.specs.declared.answer.Answer.the-variants.{BadRecord}
-use Rattle.format.specs.Codec.{Bytes}
+use Rattle.format.specs.Combinators.{Bytes}
 use Rattle.format.specs.Res.{Res}
 use Rattle.format.specs.Res.Res.{ok, no}
 use Rattle.format.specs.Through.{whole}

@@ -12,7 +12,7 @@ use borrow.Author.Tests.{eqb-true}
 use Rattle.identity.specs.Answer.{isAccepted, numberOf}
 use Rattle.identity.specs.declared.answer.Answer.{Answer}
 use Rattle.identity.specs.declared.answer.Answer.the-variants.{Accepted}
-use Rattle.format.specs.Codec.{Bytes}
+use Rattle.format.specs.Combinators.{Bytes}
 use Rattle.format.specs.Put.{Put}
 use Rattle.format.specs.Res.{Res}
 use Rattle.format.specs.Res.Res.{ok, no}
@@ -21,7 +21,7 @@ use Rattle.records.specs.TestLaws.{cond-true, cond-false}
 use Rattle.records.specs.Validation.{validate}
 use Rattle.records.specs.ValidParts.{valid-parts}
 use Rattle.records.specs.declared.records.VoterSlotTable.{VoterSlotTable}
-use Rattle.layout.specs.Format.{table}
+use Rattle.layout.specs.Layout.{table}
 use Rattle.layout.specs.Parts.{TableFits}
 use Rattle.codec.specs.Codec.{decoded, decodeVoterSlotTable, encodeVoterSlotTable, tableBytes}
 use Rattle.codec.specs.CodecLaws.{encoded-is, read-encoded, read-valid, read-written}

@@ -8,25 +8,13 @@ ghost use Rattle.journal.specs.Replay.{asking};
 ghost use Rattle.journal.specs.Step.{Judges, Makes, answerOfCalled, madeBy};
 ghost use Rattle.voter_slots.specs.Calls.{commandOf, isFormed, settled};
 ghost use Rattle.voter_slots.specs.Export.{ReadAs};
-use crate::result::VoterSlotsResult;
-use crate::result::refused;
-use crate::result::write_again;
-use crate::result::write_table;
+use crate::result::*;
 use control::judge::Judged;
 use identity::answer::Answer;
 use identity::answer::accepted;
-use journal::bodies::Asks;
-use journal::bodies::read_advance;
-use journal::bodies::read_begin;
-use journal::bodies::read_marker;
+use journal::bodies::*;
 use journal::replay::Mark;
-use journal::step::Called;
-use journal::step::answer_of_called;
-use journal::step::is_change;
-use journal::step::judge_advance_body;
-use journal::step::judge_begin_body;
-use journal::step::judge_marker_body;
-use journal::step::make_record;
+use journal::step::*;
 use records::records::VoterSlotTable;
 
 // Most bytes of a body: its size has 16 bits.

@@ -6,16 +6,8 @@
 ghost use mathlib.Core.Path.{_≡_};
 ghost use Rattle.voter_slots.specs.Calls.{applyOf, observeOf};
 ghost use Rattle.voter_slots.specs.Export.{readOf, retiredOf, writeOf};
-use crate::call::MOST_BODY;
-use crate::call::command_of;
-use crate::call::finish;
-use crate::call::is_formed;
-use crate::call::judge_command;
-use crate::call::later;
-use crate::result::VoterSlotsResult;
-use crate::result::refused;
-use crate::result::result_of;
-use crate::result::write_again;
+use crate::call::*;
+use crate::result::*;
 use codec::codec::decode_voter_slot_table;
 use control::retired::is_retired_in;
 use identity::answer::Answer;

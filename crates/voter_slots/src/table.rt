@@ -3,11 +3,7 @@
 // `lent`: it copies the table out, and where it may change it, stores the table afterwards.
 ghost use mathlib.Core.Path.{_≡_};
 ghost use Rattle.voter_slots.specs.Lent.{tableApplyOf, tableObserveOf, tableReadOf, tableRetiredOf, tableWriteOf};
-use crate::lent::apply_to;
-use crate::lent::observe_at;
-use crate::lent::read_over;
-use crate::lent::retired_in;
-use crate::lent::write_lent;
+use crate::lent::*;
 use crate::result::VoterSlotsResult;
 use records::records::VoterSlotTable;
 

@@ -10,14 +10,14 @@ use mathlib.Core.Bool.{Bool, true, false}
 use mathlib.Core.List.{List, [], _++_, append-nil}
 use lib.ListN.{length, take, getD, length-append}
 use lib.Seq.{take-take, getD-take}
-use Rattle.format.specs.Codec.{Codec, dep, via, check, always}
+use Rattle.format.specs.Combinators.{Codec, dep, via, check, always}
 use Rattle.format.specs.List.{vec, encVec, padded, flag, ofFlag, either, opt}
 use Rattle.format.specs.Num.{uint}
 use Rattle.format.specs.Put.{Put}
 use Rattle.records.specs.Blank.{blankVoterSlotMember, blankVoterSlotRecord}
 use Rattle.records.specs.declared.records.VoterSlotMember.{VoterSlotMember}
 use Rattle.records.specs.declared.records.VoterSlotRecord.{VoterSlotRecord}
-use Rattle.layout.specs.Format.{member, members, slot, slots}
+use Rattle.layout.specs.Layout.{member, members, slot, slots}
 
 -- the same bytes, said otherwise
 module _ {e f : List ℕ} where

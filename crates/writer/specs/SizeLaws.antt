@@ -10,7 +10,7 @@ use mathlib.Core.Bool.{Bool, true, false, cond}
 use mathlib.Core.List.{List, [], _∷_}
 use lib.ListN.{length, take, getD, length-append}
 use lib.Seq.{length-take-le, getD-take}
-use Rattle.format.specs.Codec.{Codec, dep, check, via, held, always}
+use Rattle.format.specs.Combinators.{Codec, dep, check, via, held, always}
 use Rattle.format.specs.Num.{uint, raw, uint-long, raw-same}
 use Rattle.format.specs.List.{vec, encVec, padded, flag, either, opt}
 use Rattle.format.specs.Through.{boxed, boxed-bytes}
@@ -32,7 +32,7 @@ use Rattle.records.specs.declared.records.VoterReplacementEvidence.{VoterReplac
 use Rattle.records.specs.declared.records.VoterReplacementRecord.{VoterReplacementRecord}
 use Rattle.records.specs.declared.records.VoterSlotTable.{VoterSlotTable}
 use Rattle.layout.specs.Parts.{bindingOf, resultHeadOf, slotMemberOf, claimsRequestOf, claimsSlotOf, claimsNamesOf, claimsEndOf, earlyCuts, lateCuts, tableHeadOf, ReplacementFits, TableFits}
-use Rattle.layout.specs.Format.{slotId, incarnation, epoch, slotCount, choice, identity, logId, optionalLogId, sized, string, spiffeId, snapshotId, binding, member, members, configuration, resultHead, result, slotMember, slot, slots, version, claimsRequest, claimsSlot, claimsNames, times, claimsEnd, claims, attestation, snapshot, threeCuts, evidence, change, replacement, magicAndVersion, tableHead, table}
+use Rattle.layout.specs.Layout.{slotId, incarnation, epoch, slotCount, choice, identity, logId, optionalLogId, sized, string, spiffeId, snapshotId, binding, member, members, configuration, resultHead, result, slotMember, slot, slots, version, claimsRequest, claimsSlot, claimsNames, times, claimsEnd, claims, attestation, snapshot, threeCuts, evidence, change, replacement, magicAndVersion, tableHead, table}
 use Rattle.writer.specs.Size.{slotSize, slotsSize, cutSize, threeCutsSize, configurationSize, attestationSize, evidenceSize, replacementSize, tableSize}
 use Rattle.layout.specs.declared.parts.ThreeCuts.{ThreeCuts}
 

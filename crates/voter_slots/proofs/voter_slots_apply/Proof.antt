@@ -6,7 +6,7 @@ use lib.ListN.{length}
 use Rattle.identity.specs.Answer.{numberOf}
 use Rattle.identity.specs.declared.answer.Answer.{Answer}
 use Rattle.identity.specs.declared.answer.Answer.the-variants.{BadRecord}
-use Rattle.format.specs.Codec.{Bytes}
+use Rattle.format.specs.Combinators.{Bytes}
 use Rattle.records.specs.ValidationLaws.{failed, held}
 use Rattle.journal.specs.declared.replay.Mark.{Mark}
 use Rattle.journal.specs.declared.replay.Mark.the-variants.{Ob}

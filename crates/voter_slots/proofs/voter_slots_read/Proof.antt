@@ -1,7 +1,7 @@
 -- `voter_slots::voter_slots_read` meets its contract. Assumes nothing.
 use mathlib.Core.Path.{_∙_}
 use native.Mathlib.Omega.{arith}
-use Rattle.format.specs.Codec.{Bytes}
+use Rattle.format.specs.Combinators.{Bytes}
 use Rattle.records.specs.ValidationLaws.{failed, held}
 use Rattle.voter_slots.specs.Export.{ReadAs}
 use Rattle.voter_slots.specs.ExportLaws.{is-read, is-refused, read-fits, read-no, read-ok}

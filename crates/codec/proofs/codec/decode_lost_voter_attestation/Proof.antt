@@ -5,7 +5,7 @@ use Rattle.format.specs.Res.Res.{no}
 use Rattle.identity.specs.Answer.{numberOf}
 use Rattle.records.specs.Blank.{blankLostVoterAttestationV1}
 use Rattle.codec.specs.Codec.{decoded, decodeLostVoterAttestation}
-use Rattle.layout.specs.Format.{maxAttestationBytes}
+use Rattle.layout.specs.Layout.{maxAttestationBytes}
 use Rattle.codec.specs.EntryLaws.{bounded-in, bounded-out, decoded-no, decoded-ok}
 use Rattle.layout.specs.Reading.{whyOf}
 use Rattle.layout.specs.ReadingLaws.{told, told-not}

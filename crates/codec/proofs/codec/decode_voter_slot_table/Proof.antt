@@ -4,7 +4,7 @@ use native.Mathlib.Omega.{arith}
 use borrow.Author.Tests.{eq-eqb, ne-eqb, eqb-true}
 use lib.ListN.{length}
 use Rattle.format.specs.Res.Res.{ok, no}
-use Rattle.format.specs.Codec.{Bytes, gate}
+use Rattle.format.specs.Combinators.{Bytes, gate}
 use Rattle.format.specs.Fill.{gate-refused}
 use Rattle.identity.specs.Answer.{numberOf, isAccepted}
 use Rattle.records.specs.Blank.{blankVoterSlotTable}
@@ -13,7 +13,7 @@ use Rattle.records.specs.ValidationLaws.{failed, held}
 use Rattle.codec.specs.Codec.{decoded, decodeVoterSlotTable, maxTableBytes}
 use Rattle.codec.specs.EntryLaws.{bounded-out, decoded-no, decoded-ok, decode-no, decode-left, decode-judged}
 use Rattle.codec.specs.FitsLaws.{table-fits}
-use Rattle.layout.specs.Format.{table}
+use Rattle.layout.specs.Layout.{table}
 use Rattle.codec.specs.ReadLaws.{table-tests}
 use Rattle.layout.specs.Reading.{whyOf}
 use Rattle.layout.specs.ReadingLaws.{told, told-not}

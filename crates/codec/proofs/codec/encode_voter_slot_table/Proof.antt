@@ -13,7 +13,7 @@ use Rattle.codec.specs.Codec.{tableBytes}
 use Rattle.codec.specs.CodecLaws.{encoded-is}
 use Rattle.codec.specs.EntryLaws.{put-start, encode-refused, encode-short}
 use Rattle.codec.specs.FitsLaws.{table-fits}
-use Rattle.layout.specs.Format.{table}
+use Rattle.layout.specs.Layout.{table}
 use Rattle.layout.specs.Parts.{TableFits}
 use Rattle.layout.specs.Reading.{outcome}
 use Rattle.layout.specs.ReadingLaws.{outcome-ok}

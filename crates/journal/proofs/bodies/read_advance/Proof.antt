@@ -3,7 +3,7 @@ use mathlib.Core.Path.{_≡_, sym, ap, _∙_}
 use mathlib.Core.Bool.{cond}
 use borrow.Author.Needs.{needs}
 use Rattle.format.specs.Res.Res.{ok}
-use Rattle.format.specs.Codec.{decMap, rest}
+use Rattle.format.specs.Combinators.{decMap, rest}
 use Rattle.layout.specs.Reading.{outcome}
 use Rattle.layout.specs.ReadingLaws.{told, told-not}
 use Rattle.control.specs.Blank.{blankVoterReplacementStep}

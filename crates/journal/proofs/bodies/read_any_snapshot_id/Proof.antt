@@ -8,12 +8,12 @@ use lib.Seq.{length-take-le}
 use borrow.Author.Needs.{needs}
 use Rattle.identity.specs.Answer.{numberOf}
 use Rattle.format.specs.Res.Res.{ok, no}
-use Rattle.format.specs.Codec.{Bytes, map-ok, map-no}
+use Rattle.format.specs.Combinators.{Bytes, map-ok, map-no}
 use Rattle.format.specs.Copy.{length-zeros}
 use Rattle.format.specs.Put.{put}
 use Rattle.records.specs.Blank.{blankSnapshotId}
-use Rattle.layout.specs.Format.{sized}
-use Rattle.layout.specs.FormatLaws.{part-is}
+use Rattle.layout.specs.Layout.{sized}
+use Rattle.layout.specs.LayoutLaws.{part-is}
 use Rattle.layout.specs.Reading.{outcome, sizedRead, whySized}
 use Rattle.layout.specs.ReadingLaws.{got, outcome-ok, outcome-no}
 use Rattle.journal.specs.BodiesLaws.{any-ok, any-no, id-placed, at-most}

@@ -3,7 +3,7 @@ use native.Mathlib.Omega.{arith}
 use mathlib.Core.Path.{ap, _∙_}
 use lib.ListN.{drop, length-drop}
 use borrow.Author.Needs.{needs}
-use Rattle.format.specs.Codec.{rest}
+use Rattle.format.specs.Combinators.{rest}
 use Rattle.format.specs.Copy.{zeros}
 use Rattle.format.specs.Num.{raw}
 use Rattle.records.specs.ValidationLaws.{failed, held}

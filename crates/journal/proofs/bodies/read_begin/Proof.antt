@@ -7,9 +7,9 @@ use lib.ListN.{length, take, drop, length-drop}
 use lib.Seq.{drop-drop}
 use borrow.Author.Needs.{needs}
 use Rattle.format.specs.Res.Res.{ok}
-use Rattle.format.specs.Codec.{Bytes, bytes-drop, rest}
-use Rattle.layout.specs.Format.{sized}
-use Rattle.layout.specs.FormatLaws.{part-is}
+use Rattle.format.specs.Combinators.{Bytes, bytes-drop, rest}
+use Rattle.layout.specs.Layout.{sized}
+use Rattle.layout.specs.LayoutLaws.{part-is}
 use Rattle.layout.specs.Reading.{sizedRead}
 use Rattle.layout.specs.ReadingLaws.{told, told-not, got}
 use Rattle.journal.specs.Bodies.{blankBeginHead, suppliedBody, attestedAsking, beginAskingBy}

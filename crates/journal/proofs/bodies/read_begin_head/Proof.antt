@@ -4,12 +4,12 @@ use mathlib.Core.Path.{_≡_, ap, _∙_}
 use native.Mathlib.Nat.{lt-of-le-of-lt}
 use borrow.Author.Needs.{needs}
 use Rattle.format.specs.Res.Res.{ok, no}
-use Rattle.format.specs.Codec.{Codec, dep, dep-ok, dep-no-1, dep-no-2, via-ok, via-no, rest}
+use Rattle.format.specs.Combinators.{Codec, dep, dep-ok, dep-no-1, dep-no-2, via-ok, via-no, rest}
 use Rattle.records.specs.Blank.{blankVoterSlotMember}
 use Rattle.control.specs.Blank.{blankConsensusIdentity}
 use Rattle.journal.specs.Bodies.{blankBeginHead}
 use Rattle.format.specs.Num.{uint}
-use Rattle.layout.specs.Format.{logId}
+use Rattle.layout.specs.Layout.{logId}
 use Rattle.layout.specs.Reading.{outcome, logIdRead, u64Read, whyLogId, whyOf, whyU64}
 use Rattle.layout.specs.ReadingLaws.{told, told-not, got, outcome-ok, outcome-no}
 use Rattle.identity.specs.Answer.{numberOf}

@@ -6,11 +6,11 @@ use lib.ListN.{drop}
 use borrow.Author.Needs.{needs}
 use Rattle.identity.specs.Answer.{numberOf}
 use Rattle.format.specs.Res.Res.{ok, no}
-use Rattle.format.specs.Codec.{decMap, rest}
+use Rattle.format.specs.Combinators.{decMap, rest}
 use Rattle.format.specs.Copy.{zeros}
 use Rattle.format.specs.Num.{raw}
 use Rattle.records.specs.Blank.{blankSnapshotId, blankVoterSnapshotEvidence}
-use Rattle.layout.specs.Format.{logId}
+use Rattle.layout.specs.Layout.{logId}
 use Rattle.layout.specs.Reading.{outcome, logIdRead, whyOf, whyLogId}
 use Rattle.layout.specs.ReadingLaws.{told, told-not, got, outcome-ok, outcome-no}
 use Rattle.journal.specs.BodiesLaws.{map-within, part-ok, part-no-1, part-no-2, part-no-3, part-two}

@@ -5,9 +5,9 @@ use mathlib.Core.Path.{_≡_, sym, ap, _∙_}
 use borrow.Author.Needs.{needs}
 use Rattle.identity.specs.Answer.{numberOf}
 use Rattle.format.specs.Res.Res.{ok, no}
-use Rattle.format.specs.Codec.{decMap, rest}
+use Rattle.format.specs.Combinators.{decMap, rest}
 use Rattle.records.specs.Blank.{blankVoterSnapshotEvidence, blankVoterSlotLogId}
-use Rattle.layout.specs.Format.{choice}
+use Rattle.layout.specs.Layout.{choice}
 use Rattle.layout.specs.Reading.{outcome, whyOf}
 use Rattle.layout.specs.ReadingLaws.{told, told-not, outcome-ok, outcome-no}
 use Rattle.control.specs.Blank.{blankVoterReplacementStep}

@@ -3,7 +3,7 @@ use mathlib.Core.Path.{_≡_, sym, ap, _∙_}
 use borrow.Author.Needs.{needs}
 use Rattle.identity.specs.Answer.{numberOf}
 use Rattle.format.specs.Res.Res.{ok, no}
-use Rattle.layout.specs.Format.{choice}
+use Rattle.layout.specs.Layout.{choice}
 use Rattle.layout.specs.Reading.{outcome, u8Read, whyU8}
 use Rattle.layout.specs.ReadingLaws.{got, outcome-ok, outcome-no}
 use Rattle.control.specs.Blank.{blankVoterReplacementStep}

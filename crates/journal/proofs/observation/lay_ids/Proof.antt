@@ -4,7 +4,7 @@ use Prim.Native.Nat.{_+_, _*_, _-_, _≤_}
 use native.Mathlib.Omega.{arith}
 use mathlib.Core.Path.{_≡_, refl, ap, _∙_}
 use lib.ListN.{drop, length, length-drop, length-set, length-take}
-use Rattle.format.specs.Codec.{rest}
+use Rattle.format.specs.Combinators.{rest}
 use Rattle.format.specs.Num.{uint}
 use Rattle.journal.specs.SetBody.{LaidIds}
 use Rattle.journal.specs.SetBodyLaws.{ids-more, ids-start}

@@ -4,10 +4,10 @@ use native.Mathlib.Omega.{arith}
 use mathlib.Core.Path.{_≡_, refl, ap, _∙_}
 use mathlib.Core.List.{List}
 use lib.ListN.{drop, length, length-drop, length-take}
-use Rattle.format.specs.Codec.{rest}
+use Rattle.format.specs.Combinators.{rest}
 use Rattle.format.specs.Num.{uint}
 use Rattle.format.specs.Res.Res.{ok}
-use Rattle.layout.specs.Format.{logId}
+use Rattle.layout.specs.Layout.{logId}
 use Rattle.layout.specs.Reading.{logIdRead, u8Read}
 use Rattle.layout.specs.ReadingLaws.{got}
 use Rattle.records.specs.ValidationLaws.{failed, held}

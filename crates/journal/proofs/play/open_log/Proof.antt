@@ -5,7 +5,7 @@ use mathlib.Core.Bool.{Bool, false, false≢true}
 use mathlib.Core.Logic.{⊎-elim}
 use lib.ListN.{length}
 use borrow.Author.Needs.{needs}
-use Rattle.format.specs.Codec.{Bytes}
+use Rattle.format.specs.Combinators.{Bytes}
 use Rattle.identity.specs.Answer.{numberOf}
 use Rattle.journal.specs.Replay.{Standing}
 use Rattle.journal.specs.declared.record.Record.{Record}

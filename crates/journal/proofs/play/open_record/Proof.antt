@@ -2,7 +2,7 @@
 use native.Mathlib.Omega.{arith}
 use mathlib.Core.Path.{refl}
 use borrow.Author.Needs.{needs}
-use Rattle.format.specs.Codec.{Bytes}
+use Rattle.format.specs.Combinators.{Bytes}
 use Rattle.journal.specs.declared.replay.Mark.the-variants.{Mk, Ad, Bg, Ob, Unknown}
 use Rattle.journal.specs.PlayLaws.{opening-bad, opening-table}
 use Rattle.journal.proofs.play.open_record.Statement.{statement}

@@ -12,7 +12,7 @@ use mathlib.Core.List.{List}
 use Rattle.journal.specs.declared.play.Opened.{Opened}
 use Rattle.journal.specs.declared.play.Place.{Place}
 use Rattle.journal.specs.Play.{Goes, Safe, openedAt, playedTo, startAnswer, startOf, startPlace}
-use Rattle.format.specs.Codec.{Bytes}
+use Rattle.format.specs.Combinators.{Bytes}
 use Rattle.records.specs.Held.{HeldVoterSlotTable}
 use Rattle.records.proofs.Held.{held-voter-slot-table}
 use Rattle.journal.specs.RunHistoryLaws.{ready-bytes, played as run-line}

@@ -7,7 +7,7 @@ use mathlib.Core.List.{List}
 use mathlib.Core.Logic.{⊎-elim}
 use lib.ListN.{length, length-take, length-drop}
 use borrow.Author.Needs.{needs}
-use Rattle.format.specs.Codec.{Bytes}
+use Rattle.format.specs.Combinators.{Bytes}
 use Rattle.identity.specs.declared.answer.Answer.the-variants.{Accepted}
 use Rattle.records.specs.Validation.{validate}
 use Rattle.records.specs.declared.records.VoterSlotTable.{VoterSlotTable}

@@ -5,7 +5,7 @@ use mathlib.Core.Path.{_≡_, ap, _∙_}
 use mathlib.Core.Bool.{true}
 use mathlib.Core.List.{List}
 use lib.ListN.{drop}
-use Rattle.format.specs.Codec.{rest}
+use Rattle.format.specs.Combinators.{rest}
 use Rattle.format.specs.Num.{uint}
 use Rattle.format.specs.Res.Res.{ok}
 use Rattle.layout.specs.Reading.{u16Read}

@@ -11,7 +11,7 @@ use lib.Arith.{digits-lt}
 use lib.Dec.{lit<}
 use Rattle.format.specs.Res.Res.{ok}
 use Rattle.format.specs.Num.{val, val-snoc, uint, raw, decUint, uint-ok, uint-no}
-use Rattle.format.specs.Codec.{held, via}
+use Rattle.format.specs.Combinators.{held, via}
 use Rattle.layout.proofs.get.read_be.Statement.{statement}
 use Rattle.layout.proofs.get.read_be.Tie as tie
 

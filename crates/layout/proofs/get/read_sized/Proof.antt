@@ -4,10 +4,10 @@ use native.Mathlib.Omega.{arith}
 use borrow.Author.Tests.{le-leb, lt-leb}
 use lib.ListN.{drop, length-drop}
 use Rattle.format.specs.Res.Res.{ok, no}
-use Rattle.format.specs.Codec.{checked-ok, checked-no, checked-bad, dep-ok, dep-no-1, dep-no-2}
+use Rattle.format.specs.Combinators.{checked-ok, checked-no, checked-bad, dep-ok, dep-no-1, dep-no-2}
 use Rattle.format.specs.Num.{uint, raw-got, raw-not, pick}
 use Rattle.identity.specs.Answer.{numberOf}
-use Rattle.layout.specs.Format.{sized}
+use Rattle.layout.specs.Layout.{sized}
 use Rattle.layout.specs.Reading.{u16Read, whyU16}
 use Rattle.layout.specs.ReadingLaws.{got}
 use borrow.Author.Needs.{needs}

@@ -3,7 +3,7 @@ use Prim.Native.Nat.{_<_, _^_}
 use mathlib.Core.Path.{_≡_, sym, ap, _∙_}
 use native.Mathlib.Omega.{arith}
 use Rattle.format.specs.Res.Res.{ok, no}
-use Rattle.format.specs.Codec.{Bytes, held}
+use Rattle.format.specs.Combinators.{Bytes, held}
 use Rattle.format.specs.Num.{uint}
 use Rattle.identity.specs.Answer.{numberOf}
 use Rattle.layout.specs.Reading.{u64Read, whyU64}

@@ -7,7 +7,7 @@ use native.Mathlib.Nat.{add-zero}
 use lib.ListN.{length, take, drop, length-set}
 use lib.Seq.{take-set-le}
 use Rattle.format.specs.Num.{be, length-be, uint, uint-long, raw}
-use Rattle.format.specs.Codec.{held, via}
+use Rattle.format.specs.Combinators.{held, via}
 use Rattle.format.specs.Put.{be-turn, be-put}
 use Rattle.layout.proofs.put.put_be.Statement.{statement}
 use Rattle.layout.proofs.put.put_be.Tie as tie

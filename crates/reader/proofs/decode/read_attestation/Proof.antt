@@ -4,10 +4,10 @@ use mathlib.Core.Path.{_≡_, sym, ap, _∙_}
 use native.Mathlib.Nat.{lt-of-le-of-lt}
 use borrow.Author.Needs.{needs}
 use Rattle.format.specs.Res.Res.{ok, no}
-use Rattle.format.specs.Codec.{Codec, dep, dep-ok, dep-no-1, dep-no-2, via-ok, via-no, rest}
+use Rattle.format.specs.Combinators.{Codec, dep, dep-ok, dep-no-1, dep-no-2, via-ok, via-no, rest}
 use Rattle.records.specs.Blank.{blankLostVoterAttestationV1}
 use Rattle.layout.specs.Parts.{blankClaimsEnd, blankClaimsNames, blankClaimsRequest, blankClaimsSlot}
-use Rattle.layout.specs.Format.{claimsRequest, claimsSlot, claimsNames, claimsEnd, claims}
+use Rattle.layout.specs.Layout.{claimsRequest, claimsSlot, claimsNames, claimsEnd, claims}
 use Rattle.layout.specs.Reading.{outcome, whyOf}
 use Rattle.layout.specs.ReadingLaws.{told, told-not, outcome-ok, outcome-no}
 use Rattle.identity.specs.Answer.{numberOf}

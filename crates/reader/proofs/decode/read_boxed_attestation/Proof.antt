@@ -8,8 +8,8 @@ use Rattle.format.specs.Res.Res.{ok, no}
 use Rattle.format.specs.Through.{whole, boxed-ok, boxed-no-1, boxed-no-2}
 use Rattle.identity.specs.Answer.{numberOf}
 use Rattle.records.specs.Blank.{blankLostVoterAttestationV1}
-use Rattle.layout.specs.Format.{sized, attestation}
-use Rattle.layout.specs.FormatLaws.{part-is}
+use Rattle.layout.specs.Layout.{sized, attestation}
+use Rattle.layout.specs.LayoutLaws.{part-is}
 use Rattle.layout.specs.Reading.{outcome, sizedRead, whySized}
 use Rattle.layout.specs.ReadingLaws.{got, told, told-not, outcome-ok, outcome-no}
 use borrow.Author.Needs.{needs}

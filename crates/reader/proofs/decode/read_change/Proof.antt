@@ -4,10 +4,10 @@ use mathlib.Core.Path.{_≡_, ap, _∙_}
 use native.Mathlib.Nat.{lt-of-le-of-lt}
 use borrow.Author.Needs.{needs}
 use Rattle.format.specs.Res.Res.{ok, no}
-use Rattle.format.specs.Codec.{Codec, dep, dep-ok, dep-no-1, dep-no-2, via-ok, via-no, rest}
+use Rattle.format.specs.Combinators.{Codec, dep, dep-ok, dep-no-1, dep-no-2, via-ok, via-no, rest}
 use Rattle.records.specs.Blank.{blankVoterConfiguration}
 use Rattle.layout.specs.Parts.{blankChange}
-use Rattle.layout.specs.Format.{choice, configuration, change}
+use Rattle.layout.specs.Layout.{choice, configuration, change}
 use Rattle.layout.specs.Reading.{outcome, u8Read, whyOf, whyU8}
 use Rattle.layout.specs.ReadingLaws.{told, told-not, got, outcome-ok, outcome-no}
 use Rattle.identity.specs.Answer.{numberOf}

@@ -5,11 +5,11 @@ use mathlib.Core.Path.{_≡_, ap, _∙_}
 use native.Mathlib.Nat.{lt-of-le-of-lt}
 use borrow.Author.Needs.{needs}
 use Rattle.format.specs.Res.Res.{ok, no}
-use Rattle.format.specs.Codec.{Codec, dep, dep-ok, dep-no-1, dep-no-2, via-ok, via-no, rest}
+use Rattle.format.specs.Combinators.{Codec, dep, dep-ok, dep-no-1, dep-no-2, via-ok, via-no, rest}
 use Rattle.layout.specs.Parts.{blankClaimsEnd}
 use Rattle.format.specs.Copy.{zeros}
 use Rattle.format.specs.Num.{raw}
-use Rattle.layout.specs.Format.{choice, times, claimsEnd}
+use Rattle.layout.specs.Layout.{choice, times, claimsEnd}
 use Rattle.layout.specs.Reading.{outcome, timesRead, u8Read, whyOf, whyTimes, whyU8}
 use Rattle.layout.specs.ReadingLaws.{told, told-not, got, outcome-ok, outcome-no}
 use Rattle.identity.specs.Answer.{numberOf}

@@ -6,11 +6,11 @@ use native.Mathlib.Nat.{lt-of-le-of-lt}
 use borrow.Author.Needs.{needs}
 use lib.ListN.{drop}
 use Rattle.format.specs.Res.Res.{ok, no}
-use Rattle.format.specs.Codec.{Codec, dep, dep-ok, dep-no-1, dep-no-2, via-ok, via-no, rest}
+use Rattle.format.specs.Combinators.{Codec, dep, dep-ok, dep-no-1, dep-no-2, via-ok, via-no, rest}
 use Rattle.records.specs.Blank.{blankVoterConfiguration}
 use Rattle.layout.specs.Parts.{blankVoterSlotMembers}
-use Rattle.layout.specs.Format.{epoch, slotCount, members, configuration}
-use Rattle.layout.specs.FormatLaws.{count-read}
+use Rattle.layout.specs.Layout.{epoch, slotCount, members, configuration}
+use Rattle.layout.specs.LayoutLaws.{count-read}
 use Rattle.layout.specs.Reading.{outcome, u64Read, u8Read, whyOf, whyU64, whyU8}
 use Rattle.layout.specs.ReadingLaws.{told, told-not, got, outcome-ok, outcome-no}
 use Rattle.identity.specs.Answer.{numberOf}

@@ -1,11 +1,11 @@
 -- `reader::decode::read_members` meets its contract. Written by scripts/readers.py. Assumes nothing.
 use Prim.Native.Nat.{ℕ, _+_, _-_, _≤_}
-use Rattle.format.specs.Codec.{rest}
+use Rattle.format.specs.Combinators.{rest}
 use Rattle.format.specs.Copy.{filled-more, unfilled-more, drop-replicate}
 use Rattle.format.specs.List.{vec, vec-start, vec-next, vec-refused, padded-ok, padded-no}
 use Rattle.format.specs.Res.Res.{ok, no}
 use Rattle.identity.specs.Answer.{numberOf}
-use Rattle.layout.specs.Format.{member, members}
+use Rattle.layout.specs.Layout.{member, members}
 use Rattle.layout.specs.Parts.{blankVoterSlotMembers}
 use Rattle.layout.specs.Reading.{outcome, whyOf}
 use Rattle.layout.specs.ReadingLaws.{told, told-not, outcome-ok, outcome-no}

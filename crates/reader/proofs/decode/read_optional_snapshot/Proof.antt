@@ -1,10 +1,10 @@
 -- `reader::decode::read_optional_snapshot` meets its contract. Written by scripts/readers.py. Assumes nothing.
 use Prim.Native.Nat.{_+_}
-use Rattle.format.specs.Codec.{rest}
+use Rattle.format.specs.Combinators.{rest}
 use Rattle.format.specs.List.{flag, opt, opt-no, opt-none, opt-some, opt-bad}
 use Rattle.format.specs.Res.Res.{ok, no}
 use Rattle.identity.specs.Answer.{numberOf}
-use Rattle.layout.specs.Format.{snapshot}
+use Rattle.layout.specs.Layout.{snapshot}
 use Rattle.layout.specs.Parts.{absentSnapshot}
 use Rattle.layout.specs.Reading.{outcome, boolRead, whyOf, whyBool}
 use Rattle.layout.specs.ReadingLaws.{got, told, told-not, outcome-ok, outcome-no}

@@ -4,12 +4,12 @@ use mathlib.Core.Path.{_≡_, sym, ap, _∙_}
 use native.Mathlib.Nat.{lt-of-le-of-lt}
 use borrow.Author.Needs.{needs}
 use Rattle.format.specs.Res.Res.{ok, no}
-use Rattle.format.specs.Codec.{Codec, dep, dep-ok, dep-no-1, dep-no-2, via-ok, via-no, rest}
+use Rattle.format.specs.Combinators.{Codec, dep, dep-ok, dep-no-1, dep-no-2, via-ok, via-no, rest}
 use Rattle.records.specs.Blank.{blankLostVoterAttestationV1, blankVoterReplacementEvidence, blankVoterReplacementRecord}
 use Rattle.layout.specs.Parts.{blankChange}
 use Rattle.format.specs.Num.{uint}
 use Rattle.format.specs.Through.{boxed}
-use Rattle.layout.specs.Format.{attestation, evidence, change, replacement}
+use Rattle.layout.specs.Layout.{attestation, evidence, change, replacement}
 use Rattle.layout.specs.Reading.{outcome, u64Read, whyOf, whyU64}
 use Rattle.layout.specs.ReadingLaws.{told, told-not, got, outcome-ok, outcome-no}
 use Rattle.identity.specs.Answer.{numberOf}

@@ -4,10 +4,10 @@ use mathlib.Core.Path.{_≡_, sym, ap, _∙_}
 use native.Mathlib.Nat.{lt-of-le-of-lt}
 use borrow.Author.Needs.{needs}
 use Rattle.format.specs.Res.Res.{ok, no}
-use Rattle.format.specs.Codec.{Codec, dep, dep-ok, dep-no-1, dep-no-2, via-ok, via-no, rest}
+use Rattle.format.specs.Combinators.{Codec, dep, dep-ok, dep-no-1, dep-no-2, via-ok, via-no, rest}
 use Rattle.records.specs.Blank.{blankVoterReplacementResult}
 use Rattle.layout.specs.Parts.{blankResultHead}
-use Rattle.layout.specs.Format.{epoch, choice, logId, resultHead, result}
+use Rattle.layout.specs.Layout.{epoch, choice, logId, resultHead, result}
 use Rattle.layout.specs.Reading.{outcome, logIdRead, u64Read, u8Read, whyLogId, whyOf, whyU64, whyU8}
 use Rattle.layout.specs.ReadingLaws.{told, told-not, got, outcome-ok, outcome-no}
 use Rattle.identity.specs.Answer.{numberOf}

@@ -5,11 +5,11 @@ use mathlib.Core.Path.{_≡_, ap, _∙_}
 use native.Mathlib.Nat.{lt-of-le-of-lt}
 use borrow.Author.Needs.{needs}
 use Rattle.format.specs.Res.Res.{ok, no}
-use Rattle.format.specs.Codec.{Codec, dep, dep-ok, dep-no-1, dep-no-2, via-ok, via-no, rest}
+use Rattle.format.specs.Combinators.{Codec, dep, dep-ok, dep-no-1, dep-no-2, via-ok, via-no, rest}
 use Rattle.records.specs.Blank.{blankSnapshotId, blankVoterSnapshotEvidence}
 use Rattle.format.specs.Copy.{zeros}
 use Rattle.format.specs.Num.{raw}
-use Rattle.layout.specs.Format.{logId, snapshotId, snapshot}
+use Rattle.layout.specs.Layout.{logId, snapshotId, snapshot}
 use Rattle.layout.specs.Reading.{outcome, logIdRead, whyLogId, whyOf}
 use Rattle.layout.specs.ReadingLaws.{told, told-not, got, outcome-ok, outcome-no}
 use Rattle.identity.specs.Answer.{numberOf}

@@ -10,12 +10,12 @@ use borrow.Author.Tests.{not-true, not-false}
 use lib.ListN.{drop}
 use lib.Seq.{drop-drop}
 use Rattle.format.specs.Res.Res.{ok, no}
-use Rattle.format.specs.Codec.{dep, dep-ok, dep-no-1, dep-no-2, via-ok, via-no, rest}
+use Rattle.format.specs.Combinators.{dep, dep-ok, dep-no-1, dep-no-2, via-ok, via-no, rest}
 use Rattle.format.specs.List.{flag, opt-no, opt-none, opt-some, opt-bad}
 use Rattle.records.specs.Blank.{blankVoterReplacementRecord, blankVoterSlotTable}
 use Rattle.records.specs.declared.records.VoterReplacementRecord.{VoterReplacementRecord}
 use Rattle.layout.specs.Parts.{tableOf, TableFront, blankTableFront}
-use Rattle.layout.specs.Format.{replacement, tableFront, table}
+use Rattle.layout.specs.Layout.{replacement, tableFront, table}
 use Rattle.layout.specs.Reading.{outcome, boolRead, whyOf, whyBool}
 use Rattle.layout.specs.ReadingLaws.{told, told-not, got, outcome-ok, outcome-no}
 use Rattle.identity.specs.Answer.{numberOf}
@@ -42,9 +42,9 @@ request c = told blankVoterReplacementRecord _ (c .before .before .before .befor
 
 -- after a yes the table is that of the open request, and its refusal the table's
 module _ (bs : List ℕ) {f : TableFront} {k m : ℕ} (p : tableFront .dec bs ≡ ok f k) (y : flag .dec (drop k bs) ≡ ok true m) where
-  opened : {r : VoterReplacementRecord} {j : ℕ} → replacement .dec (drop (k + m) bs) ≡ ok r j → table .dec bs ≡ ok (tableOf (f .0 .0 .1) (f .0 .1) (f .1) true r) ((k + m) + j)
+  with-request : {r : VoterReplacementRecord} {j : ℕ} → replacement .dec (drop (k + m) bs) ≡ ok r j → table .dec bs ≡ ok (tableOf (f .0 .0 .1) (f .0 .1) (f .1) true r) ((k + m) + j)
   unfolding table
-  opened {r} {j} e =
+  with-request {r} {j} e =
       let sum : k + (m + j) ≡ (k + m) + j = omega arith in
       via-ok _ _ _ _ _ (dep-ok _ _ _ p (opt-some _ _ _ y (ap (replacement .dec) (drop-drop m k bs) ∙ e))) ∙ ap (ok (tableOf (f .0 .0 .1) (f .0 .1) (f .1) true r)) sum
 
@@ -53,7 +53,7 @@ module _ (bs : List ℕ) {f : TableFront} {k m : ℕ} (p : tableFront .dec bs �
   refused e = via-no _ _ _ _ _ (dep-no-2 _ _ _ p (opt-bad _ _ _ y (ap (replacement .dec) (drop-drop m k bs) ∙ e)))
 
 whole : (c : tie.After-replacement) → table .dec (c .before .before .before .before .before .before .before .before .before .before .before .before .before .before .before .before .before .before .before .args .bytes .now) ≡ ok (tableOf (c .before .before .before .before .before .before .before .before .before .before .before .before .before .before .before .before .before .read-table-front .result .head) (c .before .before .before .before .before .before .before .before .before .before .before .before .before .before .before .before .before .read-table-front .result .count) (c .before .before .before .before .before .before .before .before .before .before .before .before .before .before .before .before .before .read-table-front .result .slots) true (c .before .before .before .before .read-replacement .result .value)) (c .before .before .before .before .before .before .before .before .before .before .before .before .before .before .before .front-to .given .0 .0 + c .before .before .before .before .before .before .before .before .flag .given .0 .1 .0 + c .before .before .replacement-to .given .0 .0)
-whole c = opened _ (front (c .before .before .before .before .before .before .before .before .before .before .before .before)) (flagged-yes (c .before .before .before .before .before .before)) (request c)
+whole c = with-request _ (front (c .before .before .before .before .before .before .before .before .before .before .before .before)) (flagged-yes (c .before .before .before .before .before .before)) (request c)
 
 read-table-front-requires : tie.Need-read-table-front-requires
 read-table-front-requires c κs = search needs

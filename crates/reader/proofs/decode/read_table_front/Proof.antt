@@ -6,10 +6,10 @@ use native.Mathlib.Nat.{lt-of-le-of-lt}
 use borrow.Author.Needs.{needs}
 use lib.ListN.{drop}
 use Rattle.format.specs.Res.Res.{ok, no}
-use Rattle.format.specs.Codec.{Codec, dep, dep-ok, dep-no-1, dep-no-2, rest}
+use Rattle.format.specs.Combinators.{Codec, dep, dep-ok, dep-no-1, dep-no-2, rest}
 use Rattle.layout.specs.Parts.{blankTableFront, blankTableHead, blankVoterSlotRecords}
-use Rattle.layout.specs.Format.{slotCount, magicAndVersion, slots, tableHead}
-use Rattle.layout.specs.FormatLaws.{count-read}
+use Rattle.layout.specs.Layout.{slotCount, magicAndVersion, slots, tableHead}
+use Rattle.layout.specs.LayoutLaws.{count-read}
 use Rattle.layout.specs.Reading.{report, outcome, u8Read, whyOf, whyU8}
 use Rattle.layout.specs.ReadingLaws.{told, told-not, got, outcome-ok, outcome-no}
 use Rattle.identity.specs.Answer.{numberOf}

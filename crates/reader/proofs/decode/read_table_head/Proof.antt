@@ -5,11 +5,11 @@ use mathlib.Core.Path.{_≡_, ap, _∙_}
 use native.Mathlib.Nat.{lt-of-le-of-lt}
 use borrow.Author.Needs.{needs}
 use Rattle.format.specs.Res.Res.{ok, no}
-use Rattle.format.specs.Codec.{Codec, dep, dep-ok, dep-no-1, dep-no-2, via-ok, via-no, rest}
+use Rattle.format.specs.Combinators.{Codec, dep, dep-ok, dep-no-1, dep-no-2, via-ok, via-no, rest}
 use Rattle.layout.specs.Parts.{blankTableHead}
 use Rattle.format.specs.Copy.{zeros}
 use Rattle.format.specs.Num.{uint, raw}
-use Rattle.layout.specs.Format.{epoch, tableHead}
+use Rattle.layout.specs.Layout.{epoch, tableHead}
 use Rattle.layout.specs.Reading.{outcome, u64Read, whyOf, whyU64}
 use Rattle.layout.specs.ReadingLaws.{told, told-not, got, outcome-ok, outcome-no}
 use Rattle.identity.specs.Answer.{numberOf}

@@ -5,12 +5,12 @@ use lib.Dec.{eqb}
 use lib.ListN.{length}
 use borrow.Author.Tests.{not-true, not-false}
 use Rattle.format.specs.Res.Res.{ok, no}
-use Rattle.format.specs.Codec.{checked-no}
+use Rattle.format.specs.Combinators.{checked-no}
 use Rattle.format.specs.Num.{pick}
 use Rattle.format.specs.Through.{whole-no}
 use Rattle.records.specs.Blank.{blankLostVoterAttestationV1}
-use Rattle.layout.specs.Format.{claims, attestation}
-use Rattle.layout.specs.FormatLaws.{attestation-by}
+use Rattle.layout.specs.Layout.{claims, attestation}
+use Rattle.layout.specs.LayoutLaws.{attestation-by}
 use Rattle.layout.specs.Reading.{outcome}
 use Rattle.layout.specs.ReadingLaws.{told, told-not, outcome-no}
 use borrow.Author.Needs.{needs}

@@ -4,9 +4,9 @@ use lib.Dec.{leb}
 use mathlib.Core.Path.{_≡_, sym, ap, _∙_}
 use borrow.Author.Tests.{not-true, not-false}
 use Rattle.format.specs.Res.Res.{ok}
-use Rattle.format.specs.Codec.{checked-ok, checked-no, checked-bad}
+use Rattle.format.specs.Combinators.{checked-ok, checked-no, checked-bad}
 use Rattle.format.specs.Num.{uint, pick}
-use Rattle.layout.specs.Format.{require, choice}
+use Rattle.layout.specs.Layout.{require, choice}
 use Rattle.layout.specs.Reading.{u8Read}
 use Rattle.layout.specs.ReadingLaws.{got}
 use borrow.Author.Needs.{needs}

@@ -1,10 +1,10 @@
 -- `reader::reader::read_count` meets its contract. Assumes nothing.
 use mathlib.Core.Path.{_≡_, sym, ap, _∙_}
 use Rattle.format.specs.Res.Res.{ok}
-use Rattle.format.specs.Codec.{checked-ok, checked-no, checked-bad}
+use Rattle.format.specs.Combinators.{checked-ok, checked-no, checked-bad}
 use Rattle.format.specs.Num.{uint, pick}
 use Rattle.records.specs.ValidationLaws.{failed, held}
-use Rattle.layout.specs.Format.{require, slotCount}
+use Rattle.layout.specs.Layout.{require, slotCount}
 use Rattle.layout.specs.Reading.{u8Read}
 use Rattle.layout.specs.ReadingLaws.{got}
 use borrow.Author.Needs.{needs}

@@ -3,7 +3,7 @@ use mathlib.Core.Path.{_≡_, sym, ap, _∙_}
 use native.Mathlib.Omega.{arith}
 use borrow.Author.Tests.{le-leb, lt-leb}
 use Rattle.format.specs.Res.Res.{ok, no}
-use Rattle.format.specs.Codec.{checked-ok, checked-no, checked-bad, via-ok, via-no}
+use Rattle.format.specs.Combinators.{checked-ok, checked-no, checked-bad, via-ok, via-no}
 use Rattle.format.specs.List.{flag, flagTest}
 use Rattle.format.specs.Num.{uint, pick}
 use Rattle.identity.specs.Answer.{numberOf}

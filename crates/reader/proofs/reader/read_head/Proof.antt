@@ -6,11 +6,11 @@ use native.Mathlib.Omega.{arith}
 use borrow.Author.Tests.{not-true, not-false, eq-eqb, ne-eqb}
 use lib.ListN.{take}
 use Rattle.format.specs.Res.Res.{ok, no}
-use Rattle.format.specs.Codec.{dep, dep-ok, dep-no-1, dep-no-2, checked-ok, checked-no, checked-bad, via-ok, via-no, rest}
+use Rattle.format.specs.Combinators.{dep, dep-ok, dep-no-1, dep-no-2, checked-ok, checked-no, checked-bad, via-ok, via-no, rest}
 use Rattle.format.specs.Num.{uint, raw, raw-got, raw-not, pick}
 use Rattle.identity.specs.Answer.{numberOf}
-use Rattle.layout.specs.Format.{magicAndVersion, headTest}
-use Rattle.layout.specs.FormatLaws.{magic-bytes}
+use Rattle.layout.specs.Layout.{magicAndVersion, headTest}
+use Rattle.layout.specs.LayoutLaws.{magic-bytes}
 use Rattle.layout.specs.Reading.{u16Read, whyU16}
 use Rattle.layout.specs.ReadingLaws.{got}
 use borrow.Author.Needs.{needs}

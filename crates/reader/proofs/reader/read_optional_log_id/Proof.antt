@@ -5,11 +5,11 @@ use mathlib.Core.Bool.{true}
 use native.Mathlib.Nat.{lt-of-le-of-lt}
 use borrow.Author.Tests.{not-true, not-false}
 use Rattle.format.specs.Res.Res.{ok, no}
-use Rattle.format.specs.Codec.{via-ok, via-no, rest}
+use Rattle.format.specs.Combinators.{via-ok, via-no, rest}
 use Rattle.format.specs.List.{flag, opt, opt-no, opt-none, opt-some, opt-bad}
 use Rattle.identity.specs.Answer.{numberOf}
 use Rattle.records.specs.Blank.{blankVoterSlotLogId}
-use Rattle.layout.specs.Format.{logId, optionalLogId}
+use Rattle.layout.specs.Layout.{logId, optionalLogId}
 use Rattle.layout.specs.Reading.{boolRead, logIdRead, whyBool, whyLogId}
 use Rattle.layout.specs.ReadingLaws.{got}
 use borrow.Author.Needs.{needs}

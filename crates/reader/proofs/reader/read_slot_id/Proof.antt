@@ -2,12 +2,12 @@
 use mathlib.Core.Path.{_≡_, sym, ap, _∙_}
 use borrow.Author.Tests.{eqb-true}
 use Rattle.format.specs.Res.Res.{ok, no}
-use Rattle.format.specs.Codec.{checked-ok, checked-no}
+use Rattle.format.specs.Combinators.{checked-ok, checked-no}
 use Rattle.format.specs.Num.{uint}
 use Rattle.format.specs.Fill.{checked-refused}
 use Rattle.identity.specs.Answer.{numberOf, isAccepted}
 use Rattle.records.specs.ValidationLaws.{failed, held}
-use Rattle.layout.specs.Format.{slotId}
+use Rattle.layout.specs.Layout.{slotId}
 use Rattle.layout.specs.Reading.{u16Read}
 use Rattle.layout.specs.ReadingLaws.{got}
 use borrow.Author.Needs.{needs}

@@ -1,6 +1,6 @@
 -- `reader::reader::read_spiffe_id` meets its contract. Written by scripts/readers.py. Assumes nothing.
 use Prim.Native.Nat.{_+_, _-_, _≤_}
-use Rattle.format.specs.Codec.{checked-ok, checked-no, checked-bad, via-ok, via-no}
+use Rattle.format.specs.Combinators.{checked-ok, checked-no, checked-bad, via-ok, via-no}
 use Rattle.format.specs.Copy.{length-zeros}
 use Rattle.format.specs.Fill.{put-zeros}
 use Rattle.format.specs.Num.{pick}
@@ -8,8 +8,8 @@ use Rattle.format.specs.Put.{put}
 use Rattle.format.specs.Res.Res.{ok, no}
 use Rattle.identity.specs.Answer.{numberOf}
 use Rattle.identity.specs.Text.{isUtf8}
-use Rattle.layout.specs.Format.{require, sized, string, spiffeId}
-use Rattle.layout.specs.FormatLaws.{sized-small, part-is}
+use Rattle.layout.specs.Layout.{require, sized, string, spiffeId}
+use Rattle.layout.specs.LayoutLaws.{sized-small, part-is}
 use Rattle.layout.specs.Reading.{outcome, sizedRead, whySized}
 use Rattle.layout.specs.ReadingLaws.{got, outcome-ok, outcome-no}
 use Rattle.records.specs.Blank.{blankSpiffeId}

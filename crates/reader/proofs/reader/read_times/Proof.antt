@@ -4,9 +4,9 @@ use mathlib.Core.Path.{_≡_, sym, ap, _∙_}
 use native.Mathlib.Nat.{lt-of-le-of-lt}
 use borrow.Author.Needs.{needs}
 use Rattle.format.specs.Res.Res.{ok, no}
-use Rattle.format.specs.Codec.{Codec, dep, dep-ok, dep-no-1, dep-no-2, via-ok, via-no, rest}
+use Rattle.format.specs.Combinators.{Codec, dep, dep-ok, dep-no-1, dep-no-2, via-ok, via-no, rest}
 use Rattle.format.specs.Num.{uint}
-use Rattle.layout.specs.Format.{times}
+use Rattle.layout.specs.Layout.{times}
 use Rattle.layout.specs.Reading.{u64Read, whyU64}
 use Rattle.layout.specs.ReadingLaws.{got}
 use Rattle.identity.specs.Answer.{numberOf}

@@ -2,10 +2,10 @@
 use mathlib.Core.Path.{_≡_, sym, ap, _∙_}
 use borrow.Author.Tests.{eq-eqb, ne-eqb}
 use Rattle.format.specs.Res.Res.{ok, no}
-use Rattle.format.specs.Codec.{checked-ok, checked-no, checked-bad, via-ok, via-no}
+use Rattle.format.specs.Combinators.{checked-ok, checked-no, checked-bad, via-ok, via-no}
 use Rattle.format.specs.Num.{uint, pick}
 use Rattle.identity.specs.Answer.{numberOf}
-use Rattle.layout.specs.Format.{require, version}
+use Rattle.layout.specs.Layout.{require, version}
 use Rattle.layout.specs.Reading.{u16Read, whyU16}
 use Rattle.layout.specs.ReadingLaws.{got}
 use borrow.Author.Needs.{needs}

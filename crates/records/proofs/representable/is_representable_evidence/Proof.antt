@@ -4,8 +4,8 @@ use Rattle.records.specs.Representable.{representableEvidence}
 use Rattle.records.proofs.representable.is_representable_evidence.Statement.{statement}
 use Rattle.records.proofs.representable.is_representable_evidence.Tie as tie
 
-is-snapshot-part-requires : tie.Need-is-snapshot-part-requires
-is-snapshot-part-requires c κs = search needs
+is-representable-optional-snapshot-requires : tie.Need-is-representable-optional-snapshot-requires
+is-representable-optional-snapshot-requires c κs = search needs
 
 is-representable-optional-log-id-requires : tie.Need-is-representable-optional-log-id-requires
 is-representable-optional-log-id-requires c κs = search needs
@@ -34,7 +34,7 @@ returns c =
     let c2 = c3 .before .before in
     let c1 = c2 .before .before in
     simp (
-      c1 .before .before .is-snapshot-part .ensures,
+      c1 .before .before .is-representable-optional-snapshot .ensures,
       c1 .is-representable-optional-log-id .ensures,
       c2 .is-representable-optional-log-id2 .ensures,
       c3 .is-representable-optional-log-id3 .ensures,
@@ -47,7 +47,7 @@ pub is-representable-evidence-spec : {M : Type 1} → statement M
 is-representable-evidence-spec =
     tie.close
     (tie.spec
-    is-snapshot-part-requires
+    is-representable-optional-snapshot-requires
     is-representable-optional-log-id-requires
     is-representable-optional-log-id-requires-2
     is-representable-optional-log-id-requires-3

@@ -22,8 +22,8 @@ slots-held c = held (c .before .are-valid-slots .ensures) (c .if1 .left)
 idle : (c : tie.Then2) → c .before .before .before .before .args .table .«has_replacement» ≡ false
 idle c = not-true _ (c .if2 .taken)
 
-opened : (c : tie.Else2) → c .before .before .before .before .args .table .«has_replacement» ≡ true
-opened c = not-false _ (c .if2 .left)
+has-open-request : (c : tie.Else2) → c .before .before .before .before .args .table .«has_replacement» ≡ true
+has-open-request c = not-false _ (c .if2 .left)
 
 all-voting-requires : tie.Need-all-voting-requires
 all-voting-requires c κs = search needs
@@ -45,7 +45,7 @@ unfolding validity
 returns-3 c =
     let d = c .before .before .before in
     let t = d .before .before .before .before .args .table in
-    sym (candidate-fails t (failed (c .before .is-valid-spiffe-id .ensures) (c .if3 .taken))) ∙ rw (slots-held (d .before .before), opened d)
+    sym (candidate-fails t (failed (c .before .is-valid-spiffe-id .ensures) (c .if3 .taken))) ∙ rw (slots-held (d .before .before), has-open-request d)
 
 is-valid-spiffe-id-requires-2 : tie.Need-is-valid-spiffe-id-requires-2
 is-valid-spiffe-id-requires-2 c κs = search needs
@@ -55,7 +55,7 @@ unfolding validity
 returns-4 c =
     let d = c .before .before .before .before .before .before in
     let t = d .before .before .before .before .args .table in
-    sym (controller-fails t (failed (c .before .is-valid-spiffe-id2 .ensures) (c .if4 .taken))) ∙ rw (slots-held (d .before .before), opened d)
+    sym (controller-fails t (failed (c .before .is-valid-spiffe-id2 .ensures) (c .if4 .taken))) ∙ rw (slots-held (d .before .before), has-open-request d)
 
 validate-operation-requires : tie.Need-validate-operation-requires
 validate-operation-requires c κs =
@@ -66,7 +66,7 @@ returns-5 : tie.Need-returns-5
 unfolding validity
 returns-5 c =
     let d = c .before .before .before .before .before .before .before in
-    c .validate-operation .ensures ∙ rw (slots-held (d .before .before), opened d)
+    c .validate-operation .ensures ∙ rw (slots-held (d .before .before), has-open-request d)
 
 pub validate-representable-spec : {M : Type 1} → statement M
 validate-representable-spec =

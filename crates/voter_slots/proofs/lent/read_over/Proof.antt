@@ -1,7 +1,7 @@
 -- `voter_slots::lent::read_over` meets its contract. Assumes nothing.
 use mathlib.Core.Path.{ap, _∙_}
 use native.Mathlib.Omega.{arith}
-use Rattle.format.specs.Codec.{Bytes}
+use Rattle.format.specs.Combinators.{Bytes}
 use Rattle.records.specs.ValidationLaws.{failed, held}
 use Rattle.voter_slots.specs.declared.result.VoterSlotsResult.{VoterSlotsResult}
 use Rattle.voter_slots.specs.Export.{ReadAs}

@@ -1,7 +1,7 @@
 -- `voter_slots::result::write_again` meets its contract. Assumes nothing.
 use mathlib.Core.Path.{ap, _∙_}
 use native.Mathlib.Omega.{arith}
-use Rattle.format.specs.Codec.{Bytes}
+use Rattle.format.specs.Combinators.{Bytes}
 use Rattle.voter_slots.specs.declared.result.VoterSlotsResult.{VoterSlotsResult}
 use Rattle.voter_slots.specs.ExportLaws.{again-ok, again-short, read-fits}
 use borrow.Author.Needs.{needs}

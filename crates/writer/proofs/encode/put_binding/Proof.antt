@@ -3,10 +3,10 @@ use Prim.Native.Nat.{ℕ, _+_, _≤_}
 use mathlib.Core.Path.{ap, _∙_}
 use mathlib.Core.List.{List, _++_}
 use lib.ListN.{length}
-use Rattle.format.specs.Codec.{dep, via}
+use Rattle.format.specs.Combinators.{dep, via}
 use Rattle.format.specs.Num.{uint, raw}
 use Rattle.format.specs.Put.{Put, then, room, room-left, length-put}
-use Rattle.layout.specs.Format.{binding}
+use Rattle.layout.specs.Layout.{binding}
 use Rattle.records.specs.declared.records.VoterSlotMember.{VoterSlotMember}
 use Rattle.writer.proofs.encode.put_binding.Statement.{statement}
 use Rattle.writer.proofs.encode.put_binding.Tie as tie

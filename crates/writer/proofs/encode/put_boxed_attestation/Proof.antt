@@ -4,11 +4,11 @@ use mathlib.Core.Path.{sym, ap, _∙_}
 use mathlib.Core.List.{List, _++_}
 use borrow.Author.Needs.{needs}
 use lib.ListN.{length}
-use Rattle.format.specs.Codec.{check}
+use Rattle.format.specs.Combinators.{check}
 use Rattle.format.specs.Num.{uint}
 use Rattle.format.specs.Through.{boxed-bytes}
 use Rattle.format.specs.Put.{Put, then, room, room-left, length-put}
-use Rattle.layout.specs.Format.{claims, attestation}
+use Rattle.layout.specs.Layout.{claims, attestation}
 use Rattle.writer.specs.PutLaws.{put-is, room-is}
 use Rattle.records.specs.declared.records.LostVoterAttestationV1.{LostVoterAttestationV1}
 use Rattle.writer.proofs.encode.put_boxed_attestation.Statement.{statement}

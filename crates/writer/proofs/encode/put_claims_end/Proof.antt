@@ -4,11 +4,11 @@ use mathlib.Core.Path.{ap, _∙_}
 use mathlib.Core.List.{List, _++_}
 use borrow.Author.Needs.{needs}
 use lib.ListN.{length}
-use Rattle.format.specs.Codec.{dep, via, check}
+use Rattle.format.specs.Combinators.{dep, via, check}
 use Rattle.format.specs.Num.{uint, raw}
 use Rattle.format.specs.Put.{Put, then, room, room-left, length-put}
 use Rattle.layout.specs.Parts.{timesOf}
-use Rattle.layout.specs.Format.{choice, times, claimsEnd}
+use Rattle.layout.specs.Layout.{choice, times, claimsEnd}
 use Rattle.records.specs.declared.records.LostVoterAttestationV1.{LostVoterAttestationV1}
 use Rattle.writer.proofs.encode.put_claims_end.Statement.{statement}
 use Rattle.writer.proofs.encode.put_claims_end.Tie as tie

@@ -4,12 +4,12 @@ use mathlib.Core.Path.{sym, ap, _∙_}
 use mathlib.Core.List.{List, _++_}
 use borrow.Author.Needs.{needs}
 use lib.ListN.{length}
-use Rattle.format.specs.Codec.{dep, via}
+use Rattle.format.specs.Combinators.{dep, via}
 use Rattle.format.specs.List.{opt}
 use Rattle.format.specs.Put.{Put, then, room, room-left, length-put}
 use Rattle.records.specs.Blank.{blankVoterSnapshotEvidence}
 use Rattle.layout.specs.Parts.{earlyCuts, lateCuts}
-use Rattle.layout.specs.Format.{logId, snapshot, threeCuts, evidence}
+use Rattle.layout.specs.Layout.{logId, snapshot, threeCuts, evidence}
 use Rattle.writer.specs.PutLaws.{put-is, room-is}
 use Rattle.records.specs.declared.records.VoterReplacementEvidence.{VoterReplacementEvidence}
 use Rattle.writer.proofs.encode.put_evidence.Statement.{statement}

@@ -4,10 +4,10 @@ use mathlib.Core.Path.{ap, _∙_}
 use mathlib.Core.List.{List, _++_}
 use borrow.Author.Needs.{needs}
 use lib.ListN.{length}
-use Rattle.format.specs.Codec.{dep, via, check}
+use Rattle.format.specs.Combinators.{dep, via, check}
 use Rattle.format.specs.Num.{uint, raw}
 use Rattle.format.specs.Put.{Put, then, room, room-left, length-put}
-use Rattle.layout.specs.Format.{magic, magicAndVersion}
+use Rattle.layout.specs.Layout.{magic, magicAndVersion}
 use Rattle.writer.proofs.encode.put_head.Statement.{statement}
 use Rattle.writer.proofs.encode.put_head.Tie as tie
 

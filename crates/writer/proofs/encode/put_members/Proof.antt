@@ -8,7 +8,7 @@ use lib.ListN.{length, getD}
 use Rattle.format.specs.Put.{Put, then, room, length-put, put-nothing}
 use Rattle.records.specs.Blank.{blankVoterSlotMember}
 use Rattle.records.specs.Records.{noMember}
-use Rattle.layout.specs.Format.{member}
+use Rattle.layout.specs.Layout.{member}
 use Rattle.writer.specs.SizeLaws.{getD-any}
 use Rattle.writer.specs.PutLaws.{put-is, firsts, firsts-none, firsts-more, firsts-within, members-firsts}
 use Rattle.records.specs.declared.records.VoterSlotMember.{VoterSlotMember}

@@ -3,11 +3,11 @@ use Prim.Native.Nat.{_+_, _≤_}
 use mathlib.Core.Path.{sym, ap, _∙_}
 use mathlib.Core.List.{_++_}
 use lib.ListN.{length}
-use Rattle.format.specs.Codec.{always}
+use Rattle.format.specs.Combinators.{always}
 use Rattle.format.specs.List.{flag, either}
 use Rattle.format.specs.Put.{Put, then, room, room-left, length-put}
 use Rattle.records.specs.Blank.{blankVoterSnapshotEvidence}
-use Rattle.layout.specs.Format.{snapshot}
+use Rattle.layout.specs.Layout.{snapshot}
 use Rattle.writer.specs.PutLaws.{put-is, room-is, opt-flag, opt-some, opt-none}
 use Rattle.writer.proofs.encode.put_optional_snapshot.Statement.{statement}
 use Rattle.writer.proofs.encode.put_optional_snapshot.Tie as tie

@@ -3,12 +3,12 @@ use Prim.Native.Nat.{ℕ, _+_, _≤_}
 use mathlib.Core.Path.{ap, _∙_}
 use mathlib.Core.List.{List, _++_}
 use lib.ListN.{length}
-use Rattle.format.specs.Codec.{dep, via}
+use Rattle.format.specs.Combinators.{dep, via}
 use Rattle.format.specs.Num.{uint}
 use Rattle.format.specs.Through.{boxed}
 use Rattle.format.specs.Put.{Put, then, room, room-left, length-put}
 use Rattle.layout.specs.Parts.{changeOf}
-use Rattle.layout.specs.Format.{attestation, evidence, change, replacement}
+use Rattle.layout.specs.Layout.{attestation, evidence, change, replacement}
 use Rattle.records.specs.declared.records.VoterReplacementRecord.{VoterReplacementRecord}
 use Rattle.writer.proofs.encode.put_replacement.Statement.{statement}
 use Rattle.writer.proofs.encode.put_replacement.Tie as tie

@@ -4,11 +4,11 @@ use mathlib.Core.Path.{ap, _∙_}
 use mathlib.Core.List.{List, _++_}
 use borrow.Author.Needs.{needs}
 use lib.ListN.{length}
-use Rattle.format.specs.Codec.{dep, via, check}
+use Rattle.format.specs.Combinators.{dep, via, check}
 use Rattle.format.specs.Num.{uint}
 use Rattle.format.specs.Put.{Put, then, room, room-left, length-put}
 use Rattle.layout.specs.Parts.{resultHeadOf}
-use Rattle.layout.specs.Format.{epoch, choice, logId, resultHead, result}
+use Rattle.layout.specs.Layout.{epoch, choice, logId, resultHead, result}
 use Rattle.records.specs.declared.records.VoterReplacementResult.{VoterReplacementResult}
 use Rattle.writer.proofs.encode.put_result.Statement.{statement}
 use Rattle.writer.proofs.encode.put_result.Tie as tie

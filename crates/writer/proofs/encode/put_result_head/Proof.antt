@@ -3,10 +3,10 @@ use Prim.Native.Nat.{ℕ, _+_, _≤_}
 use mathlib.Core.Path.{ap, _∙_}
 use mathlib.Core.List.{List, _++_}
 use lib.ListN.{length}
-use Rattle.format.specs.Codec.{dep, via, check}
+use Rattle.format.specs.Combinators.{dep, via, check}
 use Rattle.format.specs.Num.{uint, raw}
 use Rattle.format.specs.Put.{Put, then, room, room-left, length-put}
-use Rattle.layout.specs.Format.{incarnation, resultHead}
+use Rattle.layout.specs.Layout.{incarnation, resultHead}
 use Rattle.records.specs.declared.records.VoterReplacementResult.{VoterReplacementResult}
 use Rattle.writer.proofs.encode.put_result_head.Statement.{statement}
 use Rattle.writer.proofs.encode.put_result_head.Tie as tie

@@ -4,13 +4,13 @@ use mathlib.Core.Path.{ap, _∙_}
 use mathlib.Core.List.{List, _++_}
 use borrow.Author.Needs.{needs}
 use lib.ListN.{length}
-use Rattle.format.specs.Codec.{dep, via, check}
+use Rattle.format.specs.Combinators.{dep, via, check}
 use Rattle.format.specs.Num.{uint}
 use Rattle.format.specs.List.{opt}
 use Rattle.format.specs.Put.{Put, then, room, room-left, length-put}
 use Rattle.records.specs.Blank.{blankVoterReplacementResult}
 use Rattle.layout.specs.Parts.{slotMemberOf}
-use Rattle.layout.specs.Format.{choice, result, slotMember, slot}
+use Rattle.layout.specs.Layout.{choice, result, slotMember, slot}
 use Rattle.records.specs.declared.records.VoterSlotRecord.{VoterSlotRecord}
 use Rattle.writer.proofs.encode.put_slot.Statement.{statement}
 use Rattle.writer.proofs.encode.put_slot.Tie as tie

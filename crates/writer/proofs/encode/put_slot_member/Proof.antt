@@ -3,11 +3,11 @@ use Prim.Native.Nat.{ℕ, _+_, _≤_}
 use mathlib.Core.Path.{ap, _∙_}
 use mathlib.Core.List.{List, _++_}
 use lib.ListN.{length}
-use Rattle.format.specs.Codec.{dep, via}
+use Rattle.format.specs.Combinators.{dep, via}
 use Rattle.format.specs.Num.{uint}
 use Rattle.format.specs.Put.{Put, then, room, room-left, length-put}
 use Rattle.layout.specs.Parts.{bindingOf}
-use Rattle.layout.specs.Format.{identity, binding, slotMember}
+use Rattle.layout.specs.Layout.{identity, binding, slotMember}
 use Rattle.records.specs.declared.records.VoterSlotRecord.{VoterSlotRecord}
 use Rattle.writer.proofs.encode.put_slot_member.Statement.{statement}
 use Rattle.writer.proofs.encode.put_slot_member.Tie as tie

@@ -8,7 +8,7 @@ use lib.ListN.{length, getD}
 use Rattle.format.specs.Put.{Put, then, room, length-put, put-nothing}
 use Rattle.records.specs.Blank.{blankVoterSlotRecord}
 use Rattle.records.specs.Records.{noSlotRecord}
-use Rattle.layout.specs.Format.{slot}
+use Rattle.layout.specs.Layout.{slot}
 use Rattle.writer.specs.SizeLaws.{getD-any}
 use Rattle.writer.specs.PutLaws.{put-is, firsts, firsts-none, firsts-more, firsts-within, slots-firsts}
 use Rattle.records.specs.declared.records.VoterSlotRecord.{VoterSlotRecord}

@@ -6,10 +6,10 @@ use mathlib.Core.List.{List, _++_}
 use borrow.Author.Needs.{needs}
 use lib.ListN.{length, take}
 use lib.Seq.{length-take-le}
-use Rattle.format.specs.Codec.{dep, via, check}
+use Rattle.format.specs.Combinators.{dep, via, check}
 use Rattle.format.specs.Num.{uint, raw}
 use Rattle.format.specs.Put.{Put, then, room, room-left, length-put}
-use Rattle.layout.specs.Format.{sized, string, spiffeId}
+use Rattle.layout.specs.Layout.{sized, string, spiffeId}
 use Rattle.records.specs.declared.records.SpiffeId.{SpiffeId}
 use Rattle.writer.proofs.encode.put_spiffe_id.Statement.{statement}
 use Rattle.writer.proofs.encode.put_spiffe_id.Tie as tie

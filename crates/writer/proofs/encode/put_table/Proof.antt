@@ -3,13 +3,13 @@ use Prim.Native.Nat.{ℕ, _+_, _≤_}
 use mathlib.Core.Path.{ap, _∙_}
 use mathlib.Core.List.{List, _++_}
 use lib.ListN.{length}
-use Rattle.format.specs.Codec.{dep, via, check}
+use Rattle.format.specs.Combinators.{dep, via, check}
 use Rattle.format.specs.Num.{uint}
 use Rattle.format.specs.List.{opt}
 use Rattle.format.specs.Put.{Put, then, room, room-left, length-put}
 use Rattle.records.specs.Blank.{blankVoterReplacementRecord}
 use Rattle.layout.specs.Parts.{tableHeadOf}
-use Rattle.layout.specs.Format.{slotCount, slots, replacement, magicAndVersion, tableHead, table}
+use Rattle.layout.specs.Layout.{slotCount, slots, replacement, magicAndVersion, tableHead, table}
 use Rattle.records.specs.declared.records.VoterSlotTable.{VoterSlotTable}
 use Rattle.writer.proofs.encode.put_table.Statement.{statement}
 use Rattle.writer.proofs.encode.put_table.Tie as tie

@@ -3,9 +3,9 @@ use Prim.Native.Nat.{ℕ, _+_, _≤_}
 use mathlib.Core.Path.{ap, _∙_}
 use mathlib.Core.List.{List, _++_}
 use lib.ListN.{length}
-use Rattle.format.specs.Codec.{dep, via}
+use Rattle.format.specs.Combinators.{dep, via}
 use Rattle.format.specs.Put.{Put, then, room, room-left, length-put}
-use Rattle.layout.specs.Format.{optionalLogId, threeCuts}
+use Rattle.layout.specs.Layout.{optionalLogId, threeCuts}
 use Rattle.layout.specs.declared.parts.ThreeCuts.{ThreeCuts}
 use Rattle.writer.proofs.encode.put_three_cuts.Statement.{statement}
 use Rattle.writer.proofs.encode.put_three_cuts.Tie as tie

@@ -50,21 +50,21 @@ module _ {A B : Type 0} (c : List ℕ → Res A) (d : A → List ℕ → Res B) 
 
   -- what a whole reading is made of
   record Both (bs : List ℕ) (p : A × B) (r : ℕ) : Type 0 where
-    a : A
-    b : B
-    n : ℕ
-    m : ℕ
-    first : c bs ≡ ok a n
-    second : d a (drop n bs) ≡ ok b m
-    value : (a, b) ≡ p
-    count : n + m ≡ r
+    former : A
+    latter : B
+    former-count : ℕ
+    latter-count : ℕ
+    first : c bs ≡ ok former former-count
+    second : d former (drop former-count bs) ≡ ok latter latter-count
+    value : (former, latter) ≡ p
+    count : former-count + latter-count ≡ r
 
   both : (bs : List ℕ) {p : A × B} {r : ℕ} → decSeq bs ≡ ok p r → Both bs p r
   unfolding decSeq
   both bs {p} {r} e =
       let (a, n, e₁, e₂) = began (c bs) (λ a n. andThen (d a (drop n bs)) (λ b m. ok (a, b) (n + m))) e in
       let (b, m, e₃, e₄) = began (d a (drop n bs)) (λ b m. ok (a, b) (n + m)) e₂ in
-      record { a = a; b = b; n = n; m = m; first = e₁; second = e₃; value = ok-value e₄; count = ok-count e₄ }
+      record { former = a; latter = b; former-count = n; latter-count = m; first = e₁; second = e₃; value = ok-value e₄; count = ok-count e₄ }
 
 module _ {A B : Type 0} (C : Codec A) (D : A → Codec B) where
   abbrev encSeq : A × B → List ℕ
@@ -85,20 +85,20 @@ module _ {A B : Type 0} (C : Codec A) (D : A → Codec B) where
   pub seq-within : (bs : List ℕ) {p : A × B} {r : ℕ} → decs bs ≡ ok p r → r ≤ length bs
   seq-within bs {p} {r} e =
       let h = both (C .dec) (λ a. D a .dec) bs e in
-      omega (arith, C .within bs (h .first), simp length-drop at (D (h .a) .within (drop (h .n) bs) (h .second)), h .count)
+      omega (arith, C .within bs (h .first), simp length-drop at (D (h .former) .within (drop (h .former-count) bs) (h .second)), h .count)
 
   pub seq-bytes : (bs : List ℕ) {p : A × B} {r : ℕ} → Bytes bs → decs bs ≡ ok p r → take r bs ≡ encSeq p
   seq-bytes bs {p} {r} z e =
       let h = both (C .dec) (λ a. D a .dec) bs e in
       ap (λ k. take k bs) (sym (h .count))
-      ∙ take-add (h .n) (h .m) bs
-      ∙ ap₂ _++_ (C .bytes bs z (h .first)) (D (h .a) .bytes (drop (h .n) bs) (bytes-drop (h .n) bs z) (h .second))
+      ∙ take-add (h .former-count) (h .latter-count) bs
+      ∙ ap₂ _++_ (C .bytes bs z (h .first)) (D (h .former) .bytes (drop (h .former-count) bs) (bytes-drop (h .former-count) bs z) (h .second))
       ∙ ap encSeq (h .value)
 
   pub seq-good : (bs : List ℕ) {p : A × B} {r : ℕ} → Bytes bs → decs bs ≡ ok p r → Goods p
   seq-good bs {p} {r} z e =
       let h = both (C .dec) (λ a. D a .dec) bs e in
-      rw (← h .value) (C .good bs z (h .first), D (h .a) .good (drop (h .n) bs) (bytes-drop (h .n) bs z) (h .second))
+      rw (← h .value) (C .good bs z (h .first), D (h .former) .good (drop (h .former-count) bs) (bytes-drop (h .former-count) bs z) (h .second))
 
   unfoldable pub dep : Codec (A × B)
   dep = record { Good = Goods; enc = encSeq; dec = decs; back = seq-back; within = seq-within; bytes = seq-bytes; good = seq-good }

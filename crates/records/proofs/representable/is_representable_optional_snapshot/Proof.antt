@@ -1,7 +1,7 @@
--- `records::representable::is_snapshot_part` meets its contract: absent, the snapshot is blank. Assumes nothing.
+-- `records::representable::is_representable_optional_snapshot` meets its contract: absent, the snapshot is blank. Assumes nothing.
 use borrow.Author.Needs.{needs}
-use Rattle.records.proofs.representable.is_snapshot_part.Statement.{statement}
-use Rattle.records.proofs.representable.is_snapshot_part.Tie as tie
+use Rattle.records.proofs.representable.is_representable_optional_snapshot.Statement.{statement}
+use Rattle.records.proofs.representable.is_representable_optional_snapshot.Tie as tie
 
 is-representable-snapshot-requires : tie.Need-is-representable-snapshot-requires
 is-representable-snapshot-requires c κs = search needs
@@ -15,8 +15,8 @@ is-blank-voter-snapshot-evidence-requires c κs = search needs
 returns-2 : tie.Need-returns-2
 returns-2 c = rw (c .before .if1 .left) (c .is-blank-voter-snapshot-evidence .ensures)
 
-pub is-snapshot-part-spec : {M : Type 1} → statement M
-is-snapshot-part-spec =
+pub is-representable-optional-snapshot-spec : {M : Type 1} → statement M
+is-representable-optional-snapshot-spec =
     tie.close
     (tie.spec
     is-representable-snapshot-requires

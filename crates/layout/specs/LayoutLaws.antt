@@ -11,14 +11,14 @@ use lib.Dec.{eqb, leb}
 use borrow.Author.Tests.{leb-true}
 use Rattle.format.specs.Res.{malformed, tooLarge, andThen, began, ok-value}
 use Rattle.format.specs.Res.Res.{ok, no}
-use Rattle.format.specs.Codec.{Codec, dep, decSeq, check, checked-is, checked-ok, checked-bad}
+use Rattle.format.specs.Combinators.{Codec, dep, decSeq, check, checked-is, checked-ok, checked-bad}
 use Rattle.format.specs.Num.{uint, raw, pick, pick-zero}
 use Rattle.records.specs.Equality.{eqList, eqBytes}
 use Rattle.format.specs.Through.{whole, whole-no, whole-by-count}
 use Rattle.records.specs.Validation.{validCount, validAttestation}
 use Rattle.records.specs.ValidationLaws.{count-small}
 use Rattle.records.specs.declared.records.LostVoterAttestationV1.{LostVoterAttestationV1}
-use Rattle.layout.specs.Format.{require, require-is, slotCount, sized, magic, claims, attestation}
+use Rattle.layout.specs.Layout.{require, require-is, slotCount, sized, magic, claims, attestation}
 
 -- of two forms that were read the first was
 dep-first : {A B : Type 0} (C : Codec A) (D : A → Codec B) (bs : List ℕ) {p : A × B} {r : ℕ} → dep C D .dec bs ≡ ok p r → (n : ℕ) × (C .dec bs ≡ ok (p .0) n)

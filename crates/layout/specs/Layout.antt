@@ -19,7 +19,7 @@ use Rattle.identity.specs.Identity.{isConfigurationEpoch, validateSlotId, valid
 use Rattle.identity.specs.Text.{isUtf8, maxSpiffeIdBytes, maxSnapshotIdBytes}
 use Rattle.identity.specs.declared.identity.VoterSlotIdentity.{VoterSlotIdentity}
 use Rattle.format.specs.Res.{malformed, tooLarge}
-use Rattle.format.specs.Codec.{Codec, dep, check, via, tested}
+use Rattle.format.specs.Combinators.{Codec, dep, check, via, tested}
 use Rattle.format.specs.Num.{uint, raw, raw-long, pick, pick-zero}
 use Rattle.format.specs.List.{vec, vec-long, padded, opt}
 use Rattle.format.specs.Through.{boxed}
