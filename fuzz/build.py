@@ -22,7 +22,7 @@ CLANG_WORDS = ('-Xclang -fsanitize-coverage-type=3 -Xclang -fsanitize-coverage-i
                '-Xclang -fsanitize-coverage-pc-table -Xclang -fsanitize-coverage-trace-cmp')
 RUST_WORDS = ('-C passes=sancov-module -C llvm-args=-sanitizer-coverage-level=3 -C llvm-args=-sanitizer-coverage-inline-8bit-counters '
               '-C llvm-args=-sanitizer-coverage-pc-table -C llvm-args=-sanitizer-coverage-trace-compares -C codegen-units=1')
-EXPORTS = ['voter_slots_' + name for name in ('read', 'write', 'apply', 'observe', 'retired')]
+EXPORTS = ['voter_slots_' + kind + name for kind in ('', 'table_') for name in ('read', 'write', 'apply', 'observe', 'retired')]
 CONSTRUCTOR = 'sancov.module_ctor_8bit_counters'
 # In place of the kit's linker: the object file itself is wanted.
 KEEP_OBJECT = '''

@@ -1,6 +1,7 @@
 //! The service's library against the original, record by record. A TB brings a table, be it refused or
 //! not, and every other record is a call on the table that stands. Compared are the whole result and
-//! every byte of the buffer that is lent, the bytes around it included.
+//! every byte of the buffer that is lent, the bytes around it included. The same records go through a
+//! table value too (`values.rs`).
 
 use std::cell::RefCell;
 
@@ -13,8 +14,9 @@ use crate::format::Mark;
 use crate::generate::random::Random;
 use crate::port::{Library, Outcome, LIBRARIES};
 use crate::record::Body;
+use crate::values::Values;
 
-const LONGEST_TABLE: usize = 8072;
+pub const LONGEST_TABLE: usize = 8072;
 const LONGEST_BODY: usize = 65_535;
 /// Records of a log that are played here; the replay program plays them all.
 const MOST_RECORDS: usize = 300;
@@ -22,14 +24,15 @@ const NO_PHASE: u32 = 255;
 const NOT_RETIRED: u32 = 100;
 const RETIRED: u32 = 101;
 /// What a lent buffer holds, and so many bytes before it.
-const PAINT: u8 = 0xA5;
-const BEFORE: usize = 32;
+pub const PAINT: u8 = 0xA5;
+pub const BEFORE: usize = 32;
 
 /// Where the bytes lie that the library is given.
 struct Rooms {
     table: Fenced,
     body: Fenced,
     out: Fenced,
+    values: Values,
 }
 
 thread_local! {
@@ -37,17 +40,18 @@ thread_local! {
         table: Fenced::new(LONGEST_BODY),
         body: Fenced::new(LONGEST_BODY),
         out: Fenced::new(LONGEST_TABLE + LONGEST_BODY),
+        values: Values::new(),
     });
 }
 
 /// Bytes of a table, and what the original reads in them: a table, or its number.
-struct Given {
-    bytes: Vec<u8>,
-    table: Result<VoterSlotTable, u8>,
+pub struct Given {
+    pub bytes: Vec<u8>,
+    pub table: Result<VoterSlotTable, u8>,
 }
 
 impl Given {
-    fn read(bytes: &[u8]) -> Self {
+    pub fn read(bytes: &[u8]) -> Self {
         Self {
             bytes: bytes.to_vec(),
             table: decode_voter_slot_table(bytes).map_err(answer::of_slot_error),
@@ -68,7 +72,9 @@ pub fn compare(log: &[u8]) {
     ROOMS.with(|rooms| {
         let rooms = &mut rooms.borrow_mut();
         let mut given = Given::read(&[]);
+        rooms.values.start();
         for (mark, body) in records(log).take(MOST_RECORDS) {
+            compare_values(rooms, &mut random, mark, body);
             if mark == *b"TB" {
                 given = Given::read(body);
             } else if let Some(after) = compare_call(rooms, &mut random, &given, mark, body) {
@@ -79,6 +85,12 @@ pub fn compare(log: &[u8]) {
             compare_table(rooms, &mut random, &given);
         }
     });
+}
+
+/// The record, of a table too, with a table value.
+fn compare_values(rooms: &mut Rooms, random: &mut Random, mark: Mark, body: &[u8]) {
+    let body = rooms.body.copy(body);
+    rooms.values.compare(random, mark, body, &mut rooms.out);
 }
 
 /// A number from a log, the same in every run.
@@ -151,20 +163,20 @@ fn compare_table(rooms: &mut Rooms, random: &mut Random, given: &Given) {
         Ok(written) => another_room(random, written.bytes.len()),
         Err(_) => LONGEST_TABLE,
     };
-    let nodes = nodes(random, given);
+    let nodes = nodes(random, &given.table);
     for library in &LIBRARIES {
         held("read", library, outcome(&read), library.read(bytes));
         let write = |out: &mut [u8]| library.write(bytes, out);
         compare_written(library, &read, room, &mut rooms.out, write);
         for &node in &nodes {
-            let expected = retired(given, node);
+            let expected = retired(&given.table, node);
             held("retired", library, expected, library.retired(bytes, node));
         }
     }
 }
 
 /// A call that writes a table, with so many bytes lent.
-fn compare_written(
+pub fn compare_written(
     library: &Library,
     after: &Result<Given, u8>,
     room: usize,
@@ -193,7 +205,7 @@ fn compare_written(
 }
 
 /// Exactly enough bytes, one too few, one more, none, or any number.
-fn another_room(random: &mut Random, enough: usize) -> usize {
+pub fn another_room(random: &mut Random, enough: usize) -> usize {
     match random.below(5) {
         0 => enough,
         1 => enough - 1,
@@ -212,11 +224,15 @@ fn outcome(after: &Result<Given, u8>) -> Outcome {
 
 fn outcome_of(given: &Given) -> Outcome {
     let table = given.table.as_ref().expect("a table that is written");
+    accepted(table, given.bytes.len())
+}
+
+pub fn accepted(table: &VoterSlotTable, count: usize) -> Outcome {
     let open = table.replacement.as_ref();
     Outcome {
         answer: 0,
         slots: table.slots.len() as u32,
-        count: given.bytes.len() as u64,
+        count: count as u64,
         revision: table.revision,
         epoch: table.configuration_epoch.get(),
         open_slot: open.map_or(0, |open| u32::from(open.attestation.slot.get())),
@@ -224,7 +240,7 @@ fn outcome_of(given: &Given) -> Outcome {
     }
 }
 
-fn refused(number: u8) -> Outcome {
+pub fn refused(number: u8) -> Outcome {
     Outcome {
         answer: u32::from(number),
         slots: 0,
@@ -237,8 +253,8 @@ fn refused(number: u8) -> Outcome {
 }
 
 /// The retired test's answer. A number that the original's type cannot hold is no node's.
-fn retired(given: &Given, node: u64) -> u32 {
-    match &given.table {
+pub fn retired(table: &Result<VoterSlotTable, u8>, node: u64) -> u32 {
+    match table {
         Ok(table) if call::held_node(node).is_some_and(|node| table.is_retired(node)) => RETIRED,
         Ok(_) => NOT_RETIRED,
         Err(number) => u32::from(*number),
@@ -246,7 +262,7 @@ fn retired(given: &Given, node: u64) -> u32 {
 }
 
 /// The node of a slot, in its incarnation and the ones next to it, and a number near a limit.
-fn nodes(random: &mut Random, given: &Given) -> Vec<u64> {
+pub fn nodes(random: &mut Random, table: &Result<VoterSlotTable, u8>) -> Vec<u64> {
     let limits = [
         0,
         1,
@@ -257,8 +273,9 @@ fn nodes(random: &mut Random, given: &Given) -> Vec<u64> {
         random.next(),
     ];
     let mut nodes = vec![random.pick(&limits)];
-    if let Ok(table) = &given.table {
-        let slot = &table.slots[random.below(table.slots.len())];
+    let slots = table.as_ref().map_or(&[][..], |table| &table.slots);
+    if !slots.is_empty() {
+        let slot = &slots[random.below(slots.len())];
         let node = slot.member.identity.node_id().get();
         nodes.extend([node, node.wrapping_sub(65_536), node.wrapping_add(65_536)]);
     }
@@ -266,7 +283,7 @@ fn nodes(random: &mut Random, given: &Given) -> Vec<u64> {
 }
 
 /// Ends the process where the two are not equal.
-fn held<T: PartialEq + std::fmt::Debug>(what: &str, library: &Library, expected: T, given: T) {
+pub fn held<T: PartialEq + std::fmt::Debug>(what: &str, library: &Library, expected: T, given: T) {
     assert!(
         expected == given,
         "DIFFERENCE: {what}, {}\n  original: {expected:?}\n  port:     {given:?}",

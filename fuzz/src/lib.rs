@@ -19,6 +19,9 @@ mod format;
 #[path = "../../oracle/oracle/src/layout.rs"]
 mod layout;
 #[allow(dead_code)]
+#[path = "../../oracle/oracle/src/raw.rs"]
+mod raw;
+#[allow(dead_code)]
 #[path = "../../oracle/oracle/src/record.rs"]
 mod record;
 #[allow(dead_code)]
@@ -38,6 +41,7 @@ mod generate;
 mod mutate;
 mod port;
 mod program;
+mod values;
 
 use std::slice;
 

@@ -21,6 +21,14 @@ type Apply =
     unsafe extern "C" fn(*const u8, usize, u32, *const u8, usize, *mut u8, usize) -> Outcome;
 type Observe = unsafe extern "C" fn(*const u8, usize, *const u8, usize, *mut u8, usize) -> Outcome;
 type Retired = unsafe extern "C" fn(*const u8, usize, u64) -> u32;
+type TableRead = unsafe extern "C" fn(*mut u8, *const u8, usize) -> Outcome;
+type TableWrite = unsafe extern "C" fn(*const u8, *mut u8, usize) -> Outcome;
+type TableApply = unsafe extern "C" fn(*mut u8, u32, *const u8, usize) -> Outcome;
+type TableObserve = unsafe extern "C" fn(*mut u8, *const u8, usize) -> Outcome;
+type TableRetired = unsafe extern "C" fn(*const u8, u64) -> u32;
+
+/// Bytes of a table value; see `voter_slots_table` in `bindings/c/voter_slots.h`.
+pub const VALUE: usize = 8 * 1057;
 
 /// One build of the library.
 pub struct Library {
@@ -30,10 +38,19 @@ pub struct Library {
     apply: Apply,
     observe: Observe,
     retired: Retired,
+    table_read: TableRead,
+    table_write: TableWrite,
+    table_apply: TableApply,
+    table_observe: TableObserve,
+    table_retired: TableRetired,
 }
 
 macro_rules! library {
-    ($name:literal, $read:ident, $write:ident, $apply:ident, $observe:ident, $retired:ident) => {{
+    (
+        $name:literal, $read:ident, $write:ident, $apply:ident, $observe:ident, $retired:ident,
+        $table_read:ident, $table_write:ident, $table_apply:ident, $table_observe:ident,
+        $table_retired:ident
+    ) => {{
         extern "C" {
             fn $read(table: *const u8, len: usize) -> Outcome;
             fn $write(table: *const u8, len: usize, out: *mut u8, room: usize) -> Outcome;
@@ -55,6 +72,11 @@ macro_rules! library {
                 room: usize,
             ) -> Outcome;
             fn $retired(table: *const u8, len: usize, node: u64) -> u32;
+            fn $table_read(value: *mut u8, bytes: *const u8, len: usize) -> Outcome;
+            fn $table_write(value: *const u8, out: *mut u8, room: usize) -> Outcome;
+            fn $table_apply(value: *mut u8, mark: u32, body: *const u8, size: usize) -> Outcome;
+            fn $table_observe(value: *mut u8, body: *const u8, size: usize) -> Outcome;
+            fn $table_retired(value: *const u8, node: u64) -> u32;
         }
         Library {
             name: $name,
@@ -63,6 +85,11 @@ macro_rules! library {
             apply: $apply,
             observe: $observe,
             retired: $retired,
+            table_read: $table_read,
+            table_write: $table_write,
+            table_apply: $table_apply,
+            table_observe: $table_observe,
+            table_retired: $table_retired,
         }
     }};
 }
@@ -74,7 +101,12 @@ pub const LIBRARIES: [Library; 2] = [
         voter_slots_write,
         voter_slots_apply,
         voter_slots_observe,
-        voter_slots_retired
+        voter_slots_retired,
+        voter_slots_table_read,
+        voter_slots_table_write,
+        voter_slots_table_apply,
+        voter_slots_table_observe,
+        voter_slots_table_retired
     ),
     library!(
         "the library with counters",
@@ -82,12 +114,18 @@ pub const LIBRARIES: [Library; 2] = [
         guided_voter_slots_write,
         guided_voter_slots_apply,
         guided_voter_slots_observe,
-        guided_voter_slots_retired
+        guided_voter_slots_retired,
+        guided_voter_slots_table_read,
+        guided_voter_slots_table_write,
+        guided_voter_slots_table_apply,
+        guided_voter_slots_table_observe,
+        guided_voter_slots_table_retired
     ),
 ];
 
 // SAFETY, of each call: every pointer and length is that of a slice that lives throughout it, and the
-// slice that is written is borrowed `&mut`, so that it overlaps no other.
+// slice that is written is borrowed `&mut`, so that it overlaps no other. A value has its size, is
+// aligned, and its flags are 0 or 1 (`values.rs`).
 impl Library {
     pub fn read(&self, table: &[u8]) -> Outcome {
         unsafe { (self.read)(table.as_ptr(), table.len()) }
@@ -110,6 +148,35 @@ impl Library {
     pub fn retired(&self, table: &[u8], node: u64) -> u32 {
         unsafe { (self.retired)(table.as_ptr(), table.len(), node) }
     }
+
+    pub fn table_read(&self, value: &mut [u8], bytes: &[u8]) -> Outcome {
+        is_value(value);
+        unsafe { (self.table_read)(value.as_mut_ptr(), bytes.as_ptr(), bytes.len()) }
+    }
+
+    pub fn table_write(&self, value: &[u8], out: &mut [u8]) -> Outcome {
+        is_value(value);
+        unsafe { (self.table_write)(value.as_ptr(), out.as_mut_ptr(), out.len()) }
+    }
+
+    /// A command, or with the mark OB an observation.
+    pub fn table_call(&self, value: &mut [u8], mark: u32, body: &[u8]) -> Outcome {
+        is_value(value);
+        let (value, size, body) = (value.as_mut_ptr(), body.len(), body.as_ptr());
+        if mark == OBSERVATION {
+            return unsafe { (self.table_observe)(value, body, size) };
+        }
+        unsafe { (self.table_apply)(value, mark, body, size) }
+    }
+
+    pub fn table_retired(&self, value: &[u8], node: u64) -> u32 {
+        is_value(value);
+        unsafe { (self.table_retired)(value.as_ptr(), node) }
+    }
+}
+
+fn is_value(value: &[u8]) {
+    assert!(value.len() == VALUE && value.as_ptr().addr() % 8 == 0);
 }
 
 /// The mark of an observation, as a number.
