@@ -1,4 +1,4 @@
-//! Times the rules on text beside Rust's standard library, on the same inputs in the same run. `bin/bench` builds and runs it.
+//! Times the rules on text next to Rust's standard library, on the same inputs in the same run. `bin/bench` builds and runs it.
 //! The original checks a name by `str::from_utf8`, then by `chars` (control characters and white space).
 
 use std::hint::black_box;

@@ -174,7 +174,7 @@ fn change_bytes(random: &mut Random, bytes: &mut Vec<u8>) {
     *bytes = by_libfuzzer(bytes, (bytes.len() + room).min(LONGEST_BODY));
 }
 
-/// A character or a sequence that is none, laid over a part of a name or of a snapshot id.
+/// An invalid character or sequence, laid over a part of a name or of a snapshot id.
 fn change_text(random: &mut Random, part: &mut Part) {
     let (mark, bytes) = part;
     let names = bytes.windows(SCHEME.len()).enumerate();

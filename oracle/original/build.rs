@@ -1,4 +1,4 @@
-//! Finds the original files, compares their SHA-256 with SHA256SUMS and lays them beside our stubs
+//! Finds the original files, compares their SHA-256 with SHA256SUMS and lays them next to our stubs
 //! in the build folder, where src/lib.rs includes them. Nothing of them is kept in the repository.
 
 use std::path::{Path, PathBuf};
@@ -31,7 +31,7 @@ fn prepare() -> Result<(), String> {
 }
 
 /// The folder that OPC_SRC names (from the repository's root, where it is relative), else the
-/// folder beside the repository.
+/// folder next to the repository.
 fn source_folder(package: &Path) -> PathBuf {
     let root = package.join("../..");
     match env::var_os("OPC_SRC") {

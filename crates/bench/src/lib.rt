@@ -6,6 +6,7 @@ use codec::codec::encode_voter_slot_table;
 use identity::answer::Answer;
 use identity::answer::number;
 use layout::reading::Extent;
+use raw::offsets::TABLE_SIZE;
 use raw::table::table_of;
 use records::records::VoterSlotTable;
 use records::representable::is_representable;
@@ -162,14 +163,14 @@ fn successor_of(new: VoterSlotTable, old: VoterSlotTable) -> u64 {
 }
 
 fn table_of_bytes(bytes: &[u8]) -> VoterSlotTable {
-    let mut raw = [0u8; 8062];
+    let mut raw = [0u8; TABLE_SIZE];
     copy(&mut raw, bytes);
     table_of(&raw)
 }
 
-fn copy(raw: &mut [u8; 8062], bytes: &[u8]) {
+fn copy(raw: &mut [u8; TABLE_SIZE], bytes: &[u8]) {
     let mut i = 0;
-    while i < 8062 && i < bytes.len() {
+    while i < TABLE_SIZE && i < bytes.len() {
         raw[i] = bytes[i];
         i += 1;
     }

@@ -28,11 +28,11 @@ pub extern "C" fn bench_decode(bytes: &[u8], turns: u64) -> u64 {
 // The least that a reading of this form does, so many times: a table is returned with an answer, the
 // blank one with a refusal, and kept where it is accepted. Nothing is read.
 #[no_mangle]
-pub extern "C" fn bench_handed_back(turns: u64) -> u64 {
+pub extern "C" fn bench_returned(turns: u64) -> u64 {
     let mut kept = blank_voter_slot_table();
     let mut i = 0;
     while i < turns {
-        let given = handed_back(i);
+        let given = returned(i);
         let answer = given.answer;
         if accepted(answer) {
             let table = given.table;
@@ -44,7 +44,7 @@ pub extern "C" fn bench_handed_back(turns: u64) -> u64 {
     third(kept.slots[place].phase)
 }
 
-fn handed_back(revision: u64) -> DecodedTable {
+fn returned(revision: u64) -> DecodedTable {
     let mut table = blank_voter_slot_table();
     if revision == u64::MAX {
         return DecodedTable {

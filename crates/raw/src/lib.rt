@@ -2,6 +2,7 @@
 // and time the port.
 pub mod crc;
 pub mod number;
+pub mod offsets;
 pub mod record;
 pub mod table;
 pub mod write;

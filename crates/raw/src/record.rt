@@ -5,27 +5,45 @@ ghost use Prim.Native.Nat.{_+_, _*_, _-_, _<_, _≤_};
 use crate::number::be16;
 use crate::number::be64;
 use crate::number::byte;
+use crate::offsets::LOG_ID_SIZE;
+use crate::offsets::MEMBER_SIZE;
 use crate::table::*;
 use control::control::*;
 use identity::identity::ConsensusIdentity;
+use identity::text::MAX_VOTER_SNAPSHOT_ID_BYTES;
 use records::blank::*;
 use records::records::*;
 
-// Where the parts of a command begin: each has the cut, 16 bytes, first.
-const REQUEST_ID: usize = 16;
+// Where the parts of a command's body begin, after the cut: of one that names its request,
+const REQUEST_ID: usize = LOG_ID_SIZE;
 
 const REQUEST_DIGEST: usize = REQUEST_ID + 16;
 
 const STEP: usize = REQUEST_DIGEST + 32;
 
-// After the kind of the step.
+// after the kind of the step,
 const STEP_CUT: usize = STEP + 1;
 
-// After the cut and a size of 2.
-const SNAPSHOT_ID: usize = STEP_CUT + 16 + 2;
+// after the cut and a size of 2,
+const SNAPSHOT_ID: usize = STEP_CUT + LOG_ID_SIZE + 2;
 
-// After cut 16, expected_revision 8, expected_configuration 72, candidate 82 and a size of 2.
-pub const ATTESTATION: usize = 16 + 8 + 72 + 82 + 2;
+// and of a Begin; the attestation has a size of 2 before it.
+const EXPECTED_REVISION: usize = LOG_ID_SIZE;
+
+const CLUSTER_ID: usize = EXPECTED_REVISION + 8;
+
+const CONFIGURATION_ID: usize = CLUSTER_ID + 32;
+
+const CONFIGURATION_EPOCH: usize = CONFIGURATION_ID + 32;
+
+const CANDIDATE: usize = CONFIGURATION_EPOCH + 8;
+
+pub const ATTESTATION: usize = CANDIDATE + MEMBER_SIZE + 2;
+
+// Of an observation: how many sets, and the first of them.
+const SET_COUNT: usize = LOG_ID_SIZE;
+
+const SETS: usize = SET_COUNT + 1;
 
 // The longest body of a question.
 const LONGEST: usize = 70000;
@@ -70,7 +88,7 @@ pub fn is_advance(body: &[u8]) -> bool {
         return size == SNAPSHOT_ID + snapshot_id_size(body) + 32;
     }
     if kind == RECORD_CAUGHT_UP {
-        return size == STEP_CUT + 16;
+        return size == STEP_CUT + LOG_ID_SIZE;
     }
     (kind <= FINALIZE) & (size == STEP_CUT)
 }
@@ -114,7 +132,7 @@ fn snapshot_of(body: &[u8]) -> VoterSnapshotEvidence {
 
 // The id may be longer than its field: then the value has its length, and gets 30.
 fn snapshot_id_of(body: &[u8], size: usize) -> SnapshotId {
-    let mut bytes = [0u8; 256];
+    let mut bytes = [0u8; MAX_VOTER_SNAPSHOT_ID_BYTES];
     copy(&mut bytes, 0, size, body, SNAPSHOT_ID);
     SnapshotId { len: size, bytes }
 }
@@ -150,11 +168,11 @@ pub fn begin_of(body: &[u8], attestation: LostVoterAttestationV1) -> VoterSlotCo
 fn request_of(body: &[u8], attestation: LostVoterAttestationV1) -> VoterReplacementRequest {
     let end = attestation_end(body);
     let expected_configuration = configuration_of(body);
-    let candidate = member_at(body, 96);
+    let candidate = member_at(body, CANDIDATE);
     let supplied_request_digest = bytes32_at(body, end);
     let supplied_configuration_id = bytes32_at(body, end + 32);
     VoterReplacementRequest {
-        expected_revision: be64(body, 16),
+        expected_revision: be64(body, EXPECTED_REVISION),
         expected_configuration,
         candidate,
         attestation,
@@ -164,12 +182,12 @@ fn request_of(body: &[u8], attestation: LostVoterAttestationV1) -> VoterReplacem
 }
 
 fn configuration_of(body: &[u8]) -> ConsensusIdentity {
-    let cluster_id = bytes32_at(body, 24);
-    let configuration_id = bytes32_at(body, 56);
+    let cluster_id = bytes32_at(body, CLUSTER_ID);
+    let configuration_id = bytes32_at(body, CONFIGURATION_ID);
     ConsensusIdentity {
         cluster_id,
         configuration_id,
-        configuration_epoch: be64(body, 88),
+        configuration_epoch: be64(body, CONFIGURATION_EPOCH),
     }
 }
 
@@ -217,8 +235,8 @@ pub struct Laid {
 pub fn lay_sets(sets: &mut [u64], counts: &mut [usize], body: &[u8]) -> Laid {
     let count = set_count(body);
     let mut laid = Laid {
-        whole: 17 <= body.len(),
-        at: 17,
+        whole: SETS <= body.len(),
+        at: SETS,
         ids: 0,
     };
     let mut i = 0;
@@ -235,7 +253,7 @@ pub fn lay_sets(sets: &mut [u64], counts: &mut [usize], body: &[u8]) -> Laid {
 pub fn set_count(body: &[u8]) -> usize
     ensures { λ r. ⌜ r < 256 ⌝ }
 {
-    byte(body, 16) as usize
+    byte(body, SET_COUNT) as usize
 }
 
 fn put_count(counts: &mut [usize], at: usize, count: usize) {

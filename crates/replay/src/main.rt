@@ -127,9 +127,9 @@ fn read_more(input: &mut [u8], held: usize) -> Got
 }
 
 // The bytes from start to end, at the front: how many.
-fn shift(input: &mut [u8; 131072], start: usize, end: usize) -> usize
-    requires { ⌜ (start ≤ end) × (end ≤ 131072) ⌝ }
-    ensures { λ r. ⌜ r ≤ 131072 ⌝ }
+fn shift(input: &mut [u8], start: usize, end: usize) -> usize
+    requires { ⌜ (start ≤ end) × (end ≤ length (now input)) ⌝ }
+    ensures { λ r. ⌜ (r ≡ end - start) × (take r (now (input .exit)) ≡ take r (drop start (now (input .entry)))) ⌝ }
 {
     let mut from = start;
     let mut to = 0;

@@ -34,7 +34,7 @@ struct Task {
 
 enum Work {
     Validity,
-    /// The test for 30, which the original's types spare it.
+    /// The representability check (30), which the original's types spare it.
     Representable,
     /// The check of the task's table against this older one.
     Successor(Box<VoterSlotTable>),
@@ -46,8 +46,8 @@ enum Work {
     Zeros,
     /// As many bytes are cleared and handed on.
     Made,
-    /// The port's table is handed back beside an answer and kept, with nothing read.
-    HandedBack,
+    /// The port's table is returned with an answer and kept, with nothing read.
+    Returned,
 }
 
 /// The bytes of the port's table, as a value.
@@ -133,7 +133,7 @@ fn value_tasks() -> [Task; 3] {
     [
         task("value read", Work::Zeros),
         task("value made", Work::Made),
-        task("value handed back", Work::HandedBack),
+        task("value returned", Work::Returned),
     ]
 }
 
@@ -179,7 +179,7 @@ fn tasks(count: u16) -> Vec<Task> {
         ("open, CaughtUp", open(count, CaughtUp)),
     ] {
         add("validity", state, table.clone(), Work::Validity);
-        add("test for 30", state, table.clone(), Work::Representable);
+        add("representability check", state, table.clone(), Work::Representable);
         add("decode", state, table.clone(), Work::Decode);
         add("encode", state, table.clone(), Work::Encode);
         add("retired test", state, table, Work::Retired(node));
@@ -291,7 +291,7 @@ impl Subject for Original {
     fn batch(&self, task: &Task) -> Option<u128> {
         let time = match &task.work {
             Work::Validity => timed(|| black_box(&task.table).check_validity()),
-            Work::Representable | Work::HandedBack => return None,
+            Work::Representable | Work::Returned => return None,
             Work::Successor(older) => {
                 timed(|| black_box(&task.table).validate_successor_of(black_box(older)))
             }
@@ -364,7 +364,7 @@ mod port {
             old_len: usize,
             turns: u64,
         ) -> u64;
-        fn bench_handed_back(turns: u64) -> u64;
+        fn bench_returned(turns: u64) -> u64;
         fn bench_zeros(bytes: *const u8, len: usize, turns: u64) -> u64;
         fn bench_decode(bytes: *const u8, len: usize, turns: u64) -> u64;
         fn bench_encode(
@@ -413,7 +413,7 @@ mod port {
                     }))
                 }
                 Work::Encode => Some(encoded(task, &table, turns)),
-                Work::HandedBack => Some(timed(|| unsafe { bench_handed_back(turns) })),
+                Work::Returned => Some(timed(|| unsafe { bench_returned(turns) })),
                 Work::Zeros => {
                     let value = vec![0_u8; VALUE];
                     Some(timed(|| unsafe {
@@ -447,7 +447,7 @@ mod port {
     }
 }
 
-/// `CALLS` calls of the same work. What they hand back is dropped within the time, as a caller
+/// `CALLS` calls of the same work. What they return is dropped within the time, as a caller
 /// would drop it.
 fn timed<T>(work: impl Fn() -> T) -> u128 {
     let start = Instant::now();

@@ -278,7 +278,7 @@ fn median(times: &mut [u128]) -> f64 {
     times[times.len() / 2] as f64 / CALLS as f64
 }
 
-/// The raw form of the table that the original hands back.
+/// The raw form of the table that the original returns.
 fn expected(task: &Task) -> Vec<u8> {
     let mut table = task.table.clone();
     if let Work::Record(body) = &task.work {

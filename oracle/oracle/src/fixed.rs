@@ -29,7 +29,7 @@ impl List {
         put_question(&mut self.0, mark, body.as_ref());
     }
 
-    /// The bytes alone, behind a good beginning, and before a good end: as UTF-8, in a name, in a
+    /// The bytes alone, after a good beginning, and before a good end: as UTF-8, in a name, in a
     /// snapshot id.
     fn ask_in_text(&mut self, bytes: &[u8]) {
         self.ask(*b"U8", bytes);
@@ -313,25 +313,25 @@ impl List {
     /// Every byte, in the domain and in a segment: first, in the middle, last.
     fn every_byte_in_a_strict_name(&mut self) {
         for byte in 0..=255 {
-            for (before, behind) in [("", ""), ("a", "b"), ("a", ""), ("", "b")] {
+            for (before, after) in [("", ""), ("a", "b"), ("a", ""), ("", "b")] {
                 self.ask(
                     *b"SN",
                     [SCHEME, before]
                         .concat()
                         .bytes()
                         .chain([byte])
-                        .chain(behind.bytes())
+                        .chain(after.bytes())
                         .collect::<Vec<_>>(),
                 );
             }
-            for (before, behind) in [("a/", ""), ("a/s", "t"), ("a/s", "/t"), ("a/", "/t")] {
+            for (before, after) in [("a/", ""), ("a/s", "t"), ("a/s", "/t"), ("a/", "/t")] {
                 self.ask(
                     *b"SN",
                     [SCHEME, before]
                         .concat()
                         .bytes()
                         .chain([byte])
-                        .chain(behind.bytes())
+                        .chain(after.bytes())
                         .collect::<Vec<_>>(),
                 );
             }

@@ -1,5 +1,5 @@
-//! The port's value in Rust, looked at by reference: the test for 30, and validity behind it. What the
-//! port can gain at the most is timed beside it. This may do all that the port may not: no record is
+//! The port's value in Rust, looked at by reference: the representability check (30), and validity after it. What the
+//! port can gain at the most is timed next to it. This may do all that the port may not: no record is
 //! copied, whatever is to be zero is looked at as one run of bytes, sixteen at a time from aligned
 //! places, and a name that is printable ASCII is looked at once for both tests.
 
@@ -312,7 +312,7 @@ fn is_plain(text: &[u8]) -> bool {
     }
 }
 
-// ---- The test for 30.
+// ---- The representability check (30).
 
 /// Whether every text was plain, so that no character of it needs to be looked at again; none where
 /// the Rust types cannot hold the table.
@@ -321,8 +321,8 @@ pub fn representable(table: &Table) -> Option<bool> {
     if table.epoch < 1 || table.count > PLACES {
         return None;
     }
-    let (slots, behind) = table.slots.split_at(table.count);
-    if !slots.iter().all(slot_is_held) || !are_zero(bytes_of(behind)) {
+    let (slots, after) = table.slots.split_at(table.count);
+    if !slots.iter().all(slot_is_held) || !are_zero(bytes_of(after)) {
         return None;
     }
     if !table.has_replacement {
@@ -392,11 +392,11 @@ fn configuration_is_held(configuration: &Configuration) -> bool {
     if configuration.epoch < 1 || configuration.count > PLACES {
         return false;
     }
-    let (members, behind) = configuration.members.split_at(configuration.count);
-    members.iter().all(member_is_held) && are_zero(bytes_of(behind))
+    let (members, after) = configuration.members.split_at(configuration.count);
+    members.iter().all(member_is_held) && are_zero(bytes_of(after))
 }
 
-/// Whether the text is plain; none where it is not UTF-8 or not zero behind its length.
+/// Whether the text is plain; none where it is not UTF-8 or not zero after its length.
 #[inline(always)]
 fn text_is_held<const SIZE: usize>(text: &Text<SIZE>) -> Option<bool> {
     let (used, filler) = text.bytes.split_at_checked(text.len)?;
@@ -571,7 +571,7 @@ fn stage_is_valid(stage: &OptionalCut, due: bool, last: &mut Cut, allow_equal: b
 #[inline(always)]
 fn continuation_is_valid(evidence: &Evidence, snapshot: &OptionalCut) -> bool {
     let cut = evidence.continuation.cut;
-    let beside = |other: &OptionalCut, is_snapshot| {
+    let agrees = |other: &OptionalCut, is_snapshot| {
         !other.is_some
             || if cut.index >= other.cut.index {
                 follows(cut, other.cut, is_snapshot)
@@ -582,9 +582,9 @@ fn continuation_is_valid(evidence: &Evidence, snapshot: &OptionalCut) -> bool {
     cut_is_valid(cut)
         && follows(cut, evidence.prepare, false)
         && (!evidence.fence.is_some || follows(evidence.fence.cut, cut, false))
-        && beside(snapshot, true)
-        && beside(&evidence.learner, false)
-        && beside(&evidence.caught_up, false)
+        && agrees(snapshot, true)
+        && agrees(&evidence.learner, false)
+        && agrees(&evidence.caught_up, false)
 }
 
 #[inline(always)]

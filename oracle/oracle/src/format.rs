@@ -35,7 +35,7 @@ pub fn mark_text(mark: Mark) -> &'static str {
 pub enum Item<'a> {
     /// A mark, known or not, and its whole body.
     Whole(Mark, &'a [u8]),
-    /// A head or body cut short, with the mark as far as it was read. Nothing comes behind it.
+    /// A head or body cut short, with the mark as far as it was read. Nothing comes after it.
     CutShort(Option<Mark>),
 }
 
@@ -64,7 +64,7 @@ fn whole_item(bytes: &[u8]) -> Option<(Item<'_>, &[u8])> {
     Some((Item::Whole(*mark, body), rest))
 }
 
-/// Puts one question behind the others.
+/// Puts one question after the others.
 pub fn put_question(out: &mut Vec<u8>, mark: Mark, body: &[u8]) {
     out.extend_from_slice(&mark);
     out.extend_from_slice(&(body.len() as u32).to_be_bytes());
@@ -109,7 +109,7 @@ impl<'a> Fields<'a> {
         self.take(usize::from(size))
     }
 
-    /// Nothing may be left behind the last field.
+    /// Nothing may be left after the last field.
     pub fn end(&self) -> Option<()> {
         self.0.is_empty().then_some(())
     }

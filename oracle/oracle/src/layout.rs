@@ -10,7 +10,7 @@ pub enum Nature {
     Count,
     /// How many bytes of text follow.
     Length,
-    /// Is the part behind it present?
+    /// Is the part after it present?
     Flag,
     /// An id, digest or signature.
     Digest,
@@ -23,7 +23,7 @@ pub struct Field {
     pub at: usize,
     pub size: usize,
     pub nature: Nature,
-    /// False in an absent part and behind a count.
+    /// False in an absent part and after a count.
     pub used: bool,
 }
 
@@ -89,7 +89,7 @@ impl Layout {
         self.absent = outer;
     }
 
-    /// Puts another layout behind this one.
+    /// Puts another layout after this one.
     pub fn append(&mut self, other: Layout) {
         let start = self.bytes.len();
         self.bytes.extend(other.bytes);

@@ -192,7 +192,7 @@ fn put_attestation(out: &mut Layout, claims: Option<&LostVoterAttestationV1>) {
     out.digest(&claims.map_or([0; 64], |claims| claims.signature));
 }
 
-/// Text with its length, zero behind it.
+/// Text with its length, zero after it.
 fn put_text(out: &mut Layout, text: &str, size: usize) {
     out.text(text);
     out.part(false, |out| {
@@ -286,7 +286,7 @@ fn places<T>(
         .collect()
 }
 
-/// A flag and the part behind it: read where it is present, zero where it is absent.
+/// A flag and the part after it: read where it is present, zero where it is absent.
 fn optional<T>(
     fields: &mut Fields,
     size: usize,
@@ -319,7 +319,7 @@ fn cut(fields: &mut Fields) -> Option<VoterSlotLogId> {
     })
 }
 
-/// Text of at most `size` bytes, which must be UTF-8, zero behind it.
+/// Text of at most `size` bytes, which must be UTF-8, zero after it.
 fn text(fields: &mut Fields, size: usize) -> Option<String> {
     let length = usize::from(fields.u16()?);
     let (text, filler) = fields.take(size)?.split_at_checked(length)?;

@@ -581,7 +581,7 @@ fn a_refused_field_ends_the_reading() {
     let read =
         |bytes: &[u8]| decode_voter_slot_table(bytes).map_or_else(answer::of_slot_error, |_| 0);
     let bytes = wire::table(&idle(3)).bytes;
-    // The first slot's number stands right behind the count.
+    // The first slot's number stands right after the count.
     let first_slot = 4 + 2 + 64 + 16 + 1;
     let mut slot_zero = bytes[..first_slot + 2].to_vec();
     slot_zero[first_slot..].copy_from_slice(&[0, 0]);
@@ -599,7 +599,7 @@ fn a_refused_field_ends_the_reading() {
     let candidate_size = 2 + 16 + 32 + 32 + 2 + 8 + 32 + 32 + 8;
     let size = 2049u16.to_be_bytes();
     assert_eq!(attest(&[&bytes[..candidate_size], &size[..]].concat()), 5);
-    // The rule for names runs behind all fields.
+    // The rule for names runs after all fields.
     let controller_size = candidate_size + 2 + claims.candidate_spiffe_id.len();
     let mut bad_names = [&bytes[..controller_size], &size[..]].concat();
     bad_names[candidate_size + 2] = b'S';
@@ -776,7 +776,7 @@ fn raw_and_written_forms_give_the_table_back() {
 fn raw_values_that_cannot_be_held() {
     let table = open(3, SnapshotInstalled);
     let layout = raw::of_table(&table);
-    // Each byte of an absent part or behind a count or length, on its own.
+    // Each byte of an absent part or after a count or length, on its own.
     for field in layout
         .fields
         .iter()

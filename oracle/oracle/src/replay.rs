@@ -15,7 +15,7 @@ pub const HEADLINE: &str = "replay 1\n";
 #[derive(Debug, Clone, Copy, PartialEq, Eq)]
 pub enum Item<'a> {
     Whole(Mark, &'a [u8]),
-    /// Unknown mark, or mark, size or body cut short. Nothing behind it is read.
+    /// Unknown mark, or mark, size or body cut short. Nothing after it is read.
     Bad(Option<Mark>),
 }
 

@@ -1,5 +1,5 @@
 //! `oracle show`: questions and records in a form for people, one a line.
-//! Long runs of bytes are shortened; `oracle compare` prints its findings in full beside it.
+//! Long runs of bytes are shortened; `oracle compare` prints its findings in full next to it.
 
 use original::VoterSlotTable;
 

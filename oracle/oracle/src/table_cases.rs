@@ -86,7 +86,7 @@ pub fn retired(fields: &mut Fields) -> Option<String> {
     ))
 }
 
-/// CM and OV: a call on a raw table, and the table handed back.
+/// CM and OV: a call on a raw table, and the table returned.
 pub fn called(fields: &mut Fields, observation: bool) -> Option<String> {
     let mark = fields.array()?;
     let body = Body::read(mark, fields.sized()?)?;
@@ -103,7 +103,7 @@ pub fn called(fields: &mut Fields, observation: bool) -> Option<String> {
     ))
 }
 
-/// The answer, and the table handed back where the given one could be held.
+/// The answer, and the table returned where the given one could be held.
 fn call_on(table: Option<VoterSlotTable>, body: &Body) -> (u8, Option<VoterSlotTable>) {
     match (call::held(body), table) {
         (Err(Refusal::Reader(number)), table) => (number, table),

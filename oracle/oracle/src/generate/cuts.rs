@@ -26,7 +26,7 @@ const PHASES: [VoterReplacementPhase; 7] = [
     Uniform,
 ];
 
-/// Puts one question behind the others: a record and the table on which it is played.
+/// Puts one question after the others: a record and the table on which it is played.
 pub fn put(random: &mut Random, out: &mut Vec<u8>) {
     let table = table(random);
     let body = body(random, &table);

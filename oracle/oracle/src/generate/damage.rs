@@ -27,7 +27,7 @@ pub fn damaged(random: &mut Random, layout: &Layout) -> Vec<u8> {
     bytes
 }
 
-/// The bytes end right behind a spoilt field.
+/// The bytes end right after a spoilt field.
 fn cut_behind_a_field(random: &mut Random, layout: &Layout, bytes: &mut Vec<u8>) {
     let field = random.pick(&layout.fields);
     if field.nature != Nature::Text {

@@ -122,7 +122,7 @@ fn has_fence_only(table: &VoterSlotTable) -> bool {
     evidence.is_some_and(|evidence| evidence.fence.is_some() && evidence.continuation.is_none())
 }
 
-/// A cut within the evidence, behind prepare; now and then of an earlier term.
+/// A cut within the evidence, after prepare; now and then of an earlier term.
 fn soon_after_prepare(random: &mut Random, table: &VoterSlotTable) -> Option<Cut> {
     let prepare = table.replacement.as_ref()?.evidence.prepare;
     Some(Cut {
@@ -257,7 +257,7 @@ pub fn depart(random: &mut Random, table: &VoterSlotTable, body: &mut Body) {
     }
 }
 
-/// The cut that a step carries, laid on the command's own or beside it; or another step.
+/// The cut that a step carries, laid on the command's own or next to it; or another step.
 fn depart_in_step(random: &mut Random, command: Cut, step: &mut Step) {
     let (term, index) = random.pick(&[
         (0, 0),
@@ -266,18 +266,18 @@ fn depart_in_step(random: &mut Random, command: Cut, step: &mut Step) {
         (1, u64::MAX),
         (u64::MAX, u64::MAX),
     ]);
-    let beside = Cut {
+    let next = Cut {
         term: command.term.wrapping_add(term),
         index: command.index.wrapping_add(index),
     };
     match step {
-        Step::Snapshot { cut, .. } | Step::CaughtUp(cut) => *cut = beside,
+        Step::Snapshot { cut, .. } | Step::CaughtUp(cut) => *cut = next,
         Step::Continuation | Step::Fence | Step::Finalize => {
             *step = random.pick(&[
                 Step::Continuation,
                 Step::Fence,
                 Step::Finalize,
-                Step::CaughtUp(beside),
+                Step::CaughtUp(next),
             ]);
         }
     }

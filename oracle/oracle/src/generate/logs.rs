@@ -61,7 +61,7 @@ fn put_next(random: &mut Random, walk: &mut Walk, out: &mut Vec<u8>) {
     walk.play(&record);
 }
 
-/// A body that is too short, too long, under another mark, or with a step that is none; a second
+/// A body that is too short, too long, under another mark, or with an invalid step; a second
 /// table.
 fn put_record_of_a_wrong_form(random: &mut Random, walk: &mut Walk, out: &mut Vec<u8>) {
     let record = walk.next(random);

@@ -86,7 +86,7 @@ impl Source {
         Some((new, old))
     }
 
-    /// Mostly one of the last few tables; now and then any, or one right behind its fence.
+    /// Mostly one of the last few tables; now and then any, or one right after its fence.
     fn earlier_table(&self, random: &mut Random) -> VoterSlotTable {
         let fenced = |table: &&VoterSlotTable| {
             let open = table.replacement.as_ref();

@@ -34,7 +34,7 @@ impl Source {
         }
     }
 
-    /// Puts a question of this mark behind the others and takes the line a record further.
+    /// Puts a question of this mark after the others and takes the line a record further.
     pub fn put(&mut self, random: &mut Random, mark: Mark, out: &mut Vec<u8>) {
         if self.asked == QUESTIONS_OF_A_LINE {
             *self = Self::new(random);
@@ -201,7 +201,7 @@ pub(super) fn attest_last_incarnation(random: &mut Random, table: &mut VoterSlot
     if let Some(operation) = &mut table.replacement {
         operation.attestation.expected_incarnation = last;
     }
-    // Now and then a fault in some slot: before the target it wins, behind it it does not.
+    // Now and then a fault in some slot: before the target it wins, after it it does not.
     if random.chance(40) {
         reshape::disorder(random, table);
     }

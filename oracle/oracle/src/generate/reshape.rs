@@ -129,7 +129,7 @@ fn lower_epoch(table: &mut VoterSlotTable, epoch: ConsensusConfigurationEpoch) {
     }
 }
 
-/// The numbers of a receipt beside those of the other table's receipt.
+/// The numbers of a receipt next to those of the other table's receipt.
 fn borrow_receipt(random: &mut Random, slot: &mut VoterSlotRecord, other: &VoterSlotRecord) {
     let (Some(receipt), Some(other)) = (&mut slot.last_result, &other.last_result) else {
         return;
@@ -139,18 +139,18 @@ fn borrow_receipt(random: &mut Random, slot: &mut VoterSlotRecord, other: &Voter
         receipt.configuration_epoch = held_epoch(earlier.max(1));
         return;
     }
-    let beside = |random: &mut Random, number: u64| {
+    let near_to = |random: &mut Random, number: u64| {
         number.wrapping_sub(1).wrapping_add(random.below(3) as u64)
     };
     if random.chance(60) {
-        receipt.revision = beside(random, other.revision);
+        receipt.revision = near_to(random, other.revision);
     }
     if random.chance(60) {
-        let near = beside(random, other.incarnation.get());
+        let near = near_to(random, other.incarnation.get());
         receipt.incarnation = held_incarnation(near.clamp(1, MAX_VOTER_INCARNATION));
     }
     if random.chance(60) {
-        let near = beside(random, other.configuration_epoch.get());
+        let near = near_to(random, other.configuration_epoch.get());
         receipt.configuration_epoch = held_epoch(near.max(1));
     }
 }
@@ -343,7 +343,7 @@ pub fn finished(random: &mut Random, table: &VoterSlotTable) -> Option<VoterSlot
     Some(later)
 }
 
-/// One cut moved by one, or laid on another or beside it; a continuation put where there was none.
+/// One cut moved by one, or laid on another or next to it; a continuation put where there was none.
 fn move_cut(random: &mut Random, table: &mut VoterSlotTable) {
     let Some(operation) = &mut table.replacement else {
         return;

@@ -7,7 +7,7 @@ use crate::fixed::{encoded, filled};
 use crate::format::{put_question, Mark, TEXT_MARKS};
 use crate::text::{MAX_DOMAIN, SCHEME};
 
-/// Puts one layer-one question behind the others.
+/// Puts one layer-one question after the others.
 pub fn put_text_question(random: &mut Random, out: &mut Vec<u8>) {
     let mark = random.pick(&TEXT_MARKS);
     let body = body_of(random, mark);
@@ -201,7 +201,7 @@ pub fn invalid_sequence(random: &mut Random) -> Vec<u8> {
         7 => vec![0xC2 + random.below(30) as u8],
         8 => vec![0xE1 + random.below(12) as u8, tail(random)],
         9 => vec![0xF1 + random.below(3) as u8, tail(random), tail(random)],
-        // A continuation that is none.
+        // An invalid continuation byte.
         _ => vec![
             0xE1 + random.below(12) as u8,
             tail(random),

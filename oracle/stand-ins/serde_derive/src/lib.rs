@@ -21,7 +21,7 @@ fn written(code: String) -> TokenStream {
     code.parse().expect("an implementation without a body")
 }
 
-/// The word behind `struct` or `enum`.
+/// The word after `struct` or `enum`.
 fn type_name(item: TokenStream) -> String {
     let mut trees = item.into_iter();
     while let Some(tree) = trees.next() {

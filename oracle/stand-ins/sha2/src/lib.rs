@@ -11,7 +11,7 @@ thread_local! {
 }
 
 /// While `work` runs on this thread, each message whose first part begins with one of the domains
-/// gets the digest beside it and is not hashed. Every other message is hashed.
+/// gets the digest that comes with it and is not hashed. Every other message is hashed.
 pub fn with_supplied<T>(values: &[Supplied], work: impl FnOnce() -> T) -> T {
     SUPPLIED.with(|supplied| *supplied.borrow_mut() = values.to_vec());
     let result = work();

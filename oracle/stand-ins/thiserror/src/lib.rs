@@ -18,7 +18,7 @@ pub fn error(item: TokenStream) -> TokenStream {
     .expect("two implementations")
 }
 
-/// The word behind `enum`.
+/// The word after `enum`.
 fn enum_name(item: TokenStream) -> String {
     let mut trees = item.into_iter();
     while let Some(tree) = trees.next() {

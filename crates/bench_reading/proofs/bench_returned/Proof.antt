@@ -1,8 +1,8 @@
--- `bench_reading::bench_handed_back` is safe and ends. Assumes nothing.
+-- `bench_reading::bench_returned` is safe and ends. Assumes nothing.
 use Prim.Native.Nat.{_<_, _-_, _^_}
 use borrow.Author.Needs.{needs}
-use Rattle.bench_reading.proofs.bench_handed_back.Statement.{statement}
-use Rattle.bench_reading.proofs.bench_handed_back.Tie as tie
+use Rattle.bench_reading.proofs.bench_returned.Statement.{statement}
+use Rattle.bench_reading.proofs.bench_returned.Tie as tie
 
 abbrev Inv-loop : tie.InvT-loop
 Inv-loop turns kept₀ i₀ kept i = turns < 2 ^ 64
@@ -16,8 +16,8 @@ blank-voter-slot-table-requires c κs = search needs
 loop-holds : tie.Need-loop-holds Inv-loop μ-loop
 loop-holds c = search needs
 
-handed-back-requires : tie.Need-handed-back-requires Inv-loop μ-loop
-handed-back-requires c κs = search needs
+returned-requires : tie.Need-returned-requires Inv-loop μ-loop
+returned-requires c κs = search needs
 
 accepted-requires : tie.Need-accepted-requires Inv-loop μ-loop
 accepted-requires c κs = search needs
@@ -43,15 +43,15 @@ third-requires c κs = search needs
 returns : tie.Need-returns Inv-loop μ-loop
 returns c = search needs
 
-pub bench-handed-back-spec : {M : Type 1} → statement M
-bench-handed-back-spec =
+pub bench-returned-spec : {M : Type 1} → statement M
+bench-returned-spec =
     tie.close
     (tie.spec
     Inv-loop
     μ-loop
     blank-voter-slot-table-requires
     loop-holds
-    handed-back-requires
+    returned-requires
     accepted-requires
     add-i
     loop-less
