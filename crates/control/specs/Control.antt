@@ -24,7 +24,7 @@ use Rattle.records.specs.declared.records.VoterSlotTable.{VoterSlotTable}
 use Rattle.records.specs.Blank.{blankVoterSlotLogId, blankVoterSnapshotEvidence, blankOptionalLogId, blankVoterReplacementRecord}
 use Rattle.records.specs.Equality.{eqBytes, sameVoterSlotLogId, sameVoterSnapshotEvidence}
 use Rattle.records.specs.Evidence.{validLogId}
-use Rattle.records.specs.Records.{pending, prepared, snapshotInstalled, learnerAdded, caughtUp, fenced, uniform, completed, superseded, allBelow, firstFrom, slotAt}
+use Rattle.records.specs.Records.{minReplacementSlots, pending, prepared, snapshotInstalled, learnerAdded, caughtUp, fenced, uniform, completed, superseded, allBelow, firstFrom, slotAt}
 use Rattle.records.specs.Representable.{representableMember, representableAttestation, representableSnapshot, representable}
 use Rattle.records.specs.Successor.{slotIndex, firstRefusal, validateSuccessorOf}
 use Rattle.records.specs.Validation.{validAttestation, validity}
@@ -220,7 +220,7 @@ staleCheck t r = cond (isCurrent t r) Accepted StaleIncarnation
 unfoldable pub candidateCheck : VoterSlotTable → VoterReplacementRequest → Answer
 candidateCheck t r =
     let old = namedSlot t r .member in
-    cond (leb 3 (t .count))
+    cond (leb minReplacementSlots (t .count))
     (cond (ltb (old .«admission_generation») (r .candidate .«admission_generation») && not (eqBytes (r .candidate .«key_digest») (old .«key_digest»)))
     Accepted InvalidLossEvidence)
     NoSurvivingQuorum

@@ -16,6 +16,10 @@ use Rattle.records.specs.declared.records.VoterSlotTable.{VoterSlotTable
 abbrev pub maxFixedVoterSlots : ℕ
 maxFixedVoterSlots = 9
 
+-- fewer slots leave no surviving quorum
+abbrev pub minReplacementSlots : ℕ
+minReplacementSlots = 3
+
 -- `VoterSlotPhase`
 abbrev pub pending : ℕ
 pending = 0

@@ -15,7 +15,7 @@ use Rattle.identity.specs.Text.{isName, maxSpiffeIdBytes}
 use Rattle.identity.specs.declared.answer.Answer.{Answer}
 use Rattle.identity.specs.declared.answer.Answer.the-variants.{Accepted, IncarnationExhausted, InvalidRecord, Unrepresentable}
 use Rattle.records.specs.Equality.{eqBytes, sameVoterSlotLogId, sameVoterSlotMember}
-use Rattle.records.specs.Records.{maxFixedVoterSlots, pending, catchingUp, voting, snapshotInstalled, fenced, uniform, completed, superseded, allBelow, slotAt, memberAt}
+use Rattle.records.specs.Records.{maxFixedVoterSlots, minReplacementSlots, pending, catchingUp, voting, snapshotInstalled, fenced, uniform, completed, superseded, allBelow, slotAt, memberAt}
 use Rattle.records.specs.Evidence.{validLogId, validEvidence}
 use Rattle.records.specs.Representable.{representable}
 use Rattle.records.specs.declared.records.SpiffeId.{SpiffeId}
@@ -119,7 +119,7 @@ validOperationHead t op =
     ltb 0 (op .«expected_revision»)
     and ltb (op .«expected_revision») (t .revision)
     and eqBytes (op .attestation .«cluster_instance») (t .«cluster_instance»)
-    and leb 3 (t .count)
+    and leb minReplacementSlots (t .count)
     and eqb (op .predecessor .count) (t .count)
     and eqb (op .successor .count) (t .count)
     and eqb (op .predecessor .epoch + 1) (op .successor .epoch)
