@@ -25,18 +25,22 @@ struct Got {
     failed: bool,
 }
 
+// Room for the longest record, of 65,539 bytes, and for as much again to be read at once.
+const INPUT_SIZE: usize = 131072;
+
+// Room for 992 lines.
+const OUTPUT_SIZE: usize = 65536;
+
 fn main() {
-    // The longest record has 65,539 bytes.
-    let mut input = [0u8; 131072];
-    // 992 lines.
-    let mut output = [0u8; 65536];
+    let mut input = [0u8; INPUT_SIZE];
+    let mut output = [0u8; OUTPUT_SIZE];
     if put(b"replay 1\n") {
         run(&mut input, &mut output);
     }
 }
 
 // Plays to the end of the input. The turns are counted down, since nothing says that the input ends.
-fn run(input: &mut [u8; 131072], output: &mut [u8; 65536]) {
+fn run(input: &mut [u8; INPUT_SIZE], output: &mut [u8; OUTPUT_SIZE]) {
     let mut journal = new_journal();
     let mut at = Input {
         start: 0,
@@ -95,9 +99,9 @@ fn put(bytes: &[u8]) -> bool {
 
 // Moves what is left to the front, and reads once. A read that is interrupted brings nothing, and is
 // tried again after a turn in which nothing is ready.
-fn refill(input: &mut [u8; 131072], at: Input) -> Input
+fn refill(input: &mut [u8; INPUT_SIZE], at: Input) -> Input
     requires { ⌜ (at .start ≤ at .held) × (at .held ≤ 131072) ⌝ }
-    ensures { λ r. ⌜ (r .start ≤ r .held) × (r .held ≤ 131072) ⌝ }
+    ensures { λ r. ⌜ ((r .start ≡ 0) × (r .held ≤ 131072)) × ((at .held - at .start ≤ r .held) × (take (at .held - at .start) (now (input .exit)) ≡ take (at .held - at .start) (drop (at .start) (now (input .entry))))) ⌝ }
 {
     let held = shift(input, at.start, at.held);
     let got = read_more(input, held);
@@ -116,7 +120,7 @@ fn refill(input: &mut [u8; 131072], at: Input) -> Input
 
 fn read_more(input: &mut [u8], held: usize) -> Got
     requires { ⌜ held ≤ length (now input) ⌝ }
-    ensures { λ r. ⌜ held + r .more ≤ length (now (input .exit)) ⌝ }
+    ensures { λ r. ⌜ (held + r .more ≤ length (now (input .exit))) × (take held (now (input .exit)) ≡ take held (now (input .entry))) ⌝ }
 {
     let got = libc::read(0, &mut input[held..]);
     let more = io::count(got, &input[held..]);

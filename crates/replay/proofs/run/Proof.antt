@@ -39,7 +39,7 @@ loop-less c = omega (arith, c .before .before .before .before .before .before .b
 
 loop-again : tie.Need-loop-again Inv-loop μ-loop
 loop-again c =
-    ⊎-elim (λ w. subst (λ a. (a .start ≤ a .held) × (a .held ≤ 131072)) (sym (w .4)) (w .2 .ensures))
+    ⊎-elim (λ w. subst (λ a. (a .start ≤ a .held) × (a .held ≤ 131072)) (sym (w .4)) (omega (arith, w .2 .ensures .0 .0), w .2 .ensures .0 .1))
     (λ w. subst (λ a. (a .start ≤ a .held) × (a .held ≤ 131072)) (sym (w .2)) (c .before .before .before .before .before .before .before .before .before .before .before .before .before .before .play-part .ensures .1 .0, c .before .before .before .before .before .before .before .before .before .before .before .before .before .before .before .before .before .before .before .loop .inv .1))
     (c .before .if3 .came)
 
