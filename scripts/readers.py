@@ -12,6 +12,8 @@ import re
 import subprocess
 import sys
 
+from fields import FIELDS, format_of
+
 ROOT = os.path.dirname(os.path.dirname(os.path.abspath(__file__)))
 
 
@@ -80,109 +82,92 @@ class Skeleton:
         print("wrote", self.name)
 
 
-# What a field is read by: call, codec, type of the value, the definition of its answer (None: it comes with a value), the refusal's
+# What a field of a kind gives that comes with its answer: the type of the value, the definition of the answer and that of its refusal (None: as of a value)
 ENUM = {
-    "u64": ("read_u64", "uint 8", "ℕ", "u64Read", "U64"),
-    "u16": ("read_u16", "uint 2", "ℕ", "u16Read", "U16"),
-    "epoch": ("read_epoch", "epoch", "ℕ", "u64Read", "U64"),
-    "incarnation": ("read_incarnation", "incarnation", "ℕ", "u64Read", "U64"),
-    "slot_id": ("read_slot_id", "slotId", "ℕ", "u16Read", "U16"),
-    "count": ("read_count", "slotCount", "ℕ", "u8Read", "U8"),
-    "kind": ("read_choice", "choice 0 1", "ℕ", "u8Read", "U8"),
-    "phase": ("read_choice", "choice 0 2", "ℕ", "u8Read", "U8"),
-    "reason": ("read_choice", "choice 1 2", "ℕ", "u8Read", "U8"),
-    "step": ("read_choice", "choice 0 6", "ℕ", "u8Read", "U8"),
-    "identity": ("read_identity", "identity", "VoterSlotIdentity", "identityRead", "Identity"),
-    "any_identity": ("read_any_identity", "anyIdentity", "VoterSlotIdentity", "identityRead", "Identity"),
-    "log_id": ("read_log_id", "logId", "VoterSlotLogId", "logIdRead", "LogId"),
-    "optional_log_id": ("read_optional_log_id", "optionalLogId", "OptionalLogId", "optionalLogIdRead", "OptionalLogId"),
-    "three_cuts": ("read_three_cuts", "threeCuts", "ThreeCuts", "threeCutsRead", "ThreeCuts"),
-    "times": ("read_times", "times", "Times", "timesRead", "Times"),
-    "version": ("read_version", "version", "Unit {0}", "report", None),
-    "head": ("read_head", "magicAndVersion", "Unit {0}", "report", None),
+    "u64": ("ℕ", "u64Read", "U64"),
+    "u16": ("ℕ", "u16Read", "U16"),
+    "epoch": ("ℕ", "u64Read", "U64"),
+    "incarnation": ("ℕ", "u64Read", "U64"),
+    "slot_id": ("ℕ", "u16Read", "U16"),
+    "count": ("ℕ", "u8Read", "U8"),
+    "kind": ("ℕ", "u8Read", "U8"),
+    "phase": ("ℕ", "u8Read", "U8"),
+    "reason": ("ℕ", "u8Read", "U8"),
+    "step": ("ℕ", "u8Read", "U8"),
+    "identity": ("VoterSlotIdentity", "identityRead", "Identity"),
+    "any_identity": ("VoterSlotIdentity", "identityRead", "Identity"),
+    "log_id": ("VoterSlotLogId", "logIdRead", "LogId"),
+    "optional_log_id": ("OptionalLogId", "optionalLogIdRead", "OptionalLogId"),
+    "three_cuts": ("ThreeCuts", "threeCutsRead", "ThreeCuts"),
+    "times": ("Times", "timesRead", "Times"),
+    "version": ("Unit {0}", "report", None),
+    "head": ("Unit {0}", "report", None),
 }
 # What is read and leaves no value
 MARKS = ("version", "head")
+# What is read into a place: the type of the value, and the blank
 STRUCT = {
-    "array16": ("read_array16", "raw 16", "List ℕ", "(zeros 16)"),
-    "array32": ("read_array32", "raw 32", "List ℕ", "(zeros 32)"),
-    "array64": ("read_array64", "raw 64", "List ℕ", "(zeros 64)"),
-    "spiffe_id": ("read_spiffe_id", "spiffeId", "SpiffeId", "blankSpiffeId"),
-    "snapshot_id": ("read_snapshot_id", "snapshotId", "SnapshotId", "blankSnapshotId"),
-    "binding": ("read_binding", "binding", "Binding", "blankBinding"),
-    "members": ("read_members", "members", "List VoterSlotMember", "blankVoterSlotMembers"),
-    "configuration": ("read_configuration", "configuration", "VoterConfiguration", "blankVoterConfiguration"),
-    "slots": ("read_slots", "slots", "List VoterSlotRecord", "blankVoterSlotRecords"),
-    "table_head": ("read_table_head", "tableHead", "TableHead", "blankTableHead"),
-    "result_head": ("read_result_head", "resultHead", "ResultHead", "blankResultHead"),
-    "optional_result": ("read_optional_result", "opt result blankVoterReplacementResult", "Bool × VoterReplacementResult", "absentResult"),
-    "slot_member": ("read_slot_member", "slotMember", "SlotMember", "blankSlotMember"),
-    "claims_request": ("read_claims_request", "claimsRequest", "ClaimsRequest", "blankClaimsRequest"),
-    "claims_slot": ("read_claims_slot", "claimsSlot", "ClaimsSlot", "blankClaimsSlot"),
-    "claims_names": ("read_claims_names", "claimsNames", "ClaimsNames", "blankClaimsNames"),
-    "claims_end": ("read_claims_end", "claimsEnd", "ClaimsEnd", "blankClaimsEnd"),
-    "boxed_attestation": ("read_boxed_attestation", "boxed attestation 8192", "LostVoterAttestationV1", "blankLostVoterAttestationV1"),
-    "optional_snapshot": ("read_optional_snapshot", "opt snapshot blankVoterSnapshotEvidence", "Bool × VoterSnapshotEvidence", "absentSnapshot"),
-    "change": ("read_change", "change", "Change", "blankChange"),
-    "evidence": ("read_evidence", "evidence", "VoterReplacementEvidence", "blankVoterReplacementEvidence"),
-    "expected": ("read_expected", "expected", "ConsensusIdentity", "blankConsensusIdentity"),
-    "candidate": ("read_candidate", "candidate", "VoterSlotMember", "blankVoterSlotMember"),
+    "array16": ("List ℕ", "(zeros 16)"),
+    "array32": ("List ℕ", "(zeros 32)"),
+    "array64": ("List ℕ", "(zeros 64)"),
+    "spiffe_id": ("SpiffeId", "blankSpiffeId"),
+    "snapshot_id": ("SnapshotId", "blankSnapshotId"),
+    "binding": ("Binding", "blankBinding"),
+    "members": ("List VoterSlotMember", "blankVoterSlotMembers"),
+    "configuration": ("VoterConfiguration", "blankVoterConfiguration"),
+    "slots": ("List VoterSlotRecord", "blankVoterSlotRecords"),
+    "table_head": ("TableHead", "blankTableHead"),
+    "result_head": ("ResultHead", "blankResultHead"),
+    "optional_result": ("Bool × VoterReplacementResult", "absentResult"),
+    "slot_member": ("SlotMember", "blankSlotMember"),
+    "claims_request": ("ClaimsRequest", "blankClaimsRequest"),
+    "claims_slot": ("ClaimsSlot", "blankClaimsSlot"),
+    "claims_names": ("ClaimsNames", "blankClaimsNames"),
+    "claims_end": ("ClaimsEnd", "blankClaimsEnd"),
+    "boxed_attestation": ("LostVoterAttestationV1", "blankLostVoterAttestationV1"),
+    "optional_snapshot": ("Bool × VoterSnapshotEvidence", "absentSnapshot"),
+    "change": ("Change", "blankChange"),
+    "evidence": ("VoterReplacementEvidence", "blankVoterReplacementEvidence"),
+    "expected": ("ConsensusIdentity", "blankConsensusIdentity"),
+    "candidate": ("VoterSlotMember", "blankVoterSlotMember"),
 }
+# Small numbers in bounds, all by one call
+CHOICES = ("kind", "phase", "reason", "step")
 
 # So many places as were counted before them
 COUNTED = ("members", "slots")
 # Groups whose codec is no record of its own, but the fields one after the other
 GROUPS = ("tableFront",)
 
-# Readers: module, name, codec, blank or (for an enum) the answer's definition, constructor that is called, fields
+# Readers: module, record, codec, blank or (for an enum) the answer's definition, constructor that is called. scripts/fields.py has the fields.
 READERS = [
-    ("reader", "read_identity", "identity", "=identityRead", None, [("slot", "slot_id"), ("incarnation", "incarnation")]),
-    ("reader", "read_log_id", "logId", "=logIdRead", None, [("term", "u64"), ("index", "u64")]),
-    ("reader", "read_three_cuts", "threeCuts", "=threeCutsRead", None, [("first", "optional_log_id"), ("second", "optional_log_id"), ("third", "optional_log_id")]),
-    ("reader", "read_times", "times", "=timesRead", None,
-     [("observation_start_ms", "u64"), ("decision_ms", "u64"), ("issued_ms", "u64"), ("expires_ms", "u64")]),
-    ("decode", "read_binding", "binding", "blankBinding", None,
-     [("key_digest", "array32"), ("descriptor_digest", "array32"), ("admission_generation", "u64")]),
-    ("decode", "read_member", "member", "blankVoterSlotMember", "member_of", [("identity", "identity"), ("binding", "binding")]),
-    ("decode", "read_configuration", "configuration", "blankVoterConfiguration", None,
-     [("epoch", "epoch"), ("count", "count"), ("members", "members")]),
-    ("decode", "read_result_head", "resultHead", "blankResultHead", None,
-     [("request_id", "array16"), ("request_digest", "array32"), ("incarnation", "incarnation"), ("revision", "u64")]),
-    ("decode", "read_result", "result", "blankVoterReplacementResult", "result_of",
-     [("head", "result_head"), ("configuration_epoch", "epoch"), ("kind", "kind"), ("terminal", "log_id")]),
-    ("decode", "read_slot_member", "slotMember", "blankSlotMember", "member_of",
-     [("identity", "identity"), ("retired_through", "u64"), ("binding", "binding")]),
-    ("decode", "read_slot", "slot", "blankVoterSlotRecord", None,
-     [("head", "slot_member"), ("phase", "phase"), ("last_result", "optional_result")]),
-    ("decode", "read_claims_request", "claimsRequest", "blankClaimsRequest", None,
-     [("version", "version"), ("request_id", "array16"), ("request_digest", "array32")]),
-    ("decode", "read_claims_slot", "claimsSlot", "blankClaimsSlot", None,
-     [("cluster_instance", "array32"), ("identity", "identity"), ("old_descriptor_digest", "array32"), ("candidate_key_digest", "array32")]),
-    ("decode", "read_claims_names", "claimsNames", "blankClaimsNames", None,
-     [("admission_generation", "u64"), ("candidate_spiffe_id", "spiffe_id"), ("controller_spiffe_id", "spiffe_id"), ("signing_key_digest", "array32")]),
-    ("decode", "read_claims_end", "claimsEnd", "blankClaimsEnd", None,
-     [("reason", "reason"), ("policy_digest", "array32"), ("times", "times"), ("signature", "array64")]),
-    ("decode", "read_attestation", "claims", "blankLostVoterAttestationV1", "attestation_of",
-     [("request", "claims_request"), ("slot", "claims_slot"), ("names", "claims_names"), ("end", "claims_end")]),
-    ("decode", "read_snapshot", "snapshot", "blankVoterSnapshotEvidence", None,
-     [("cut", "log_id"), ("snapshot_id", "snapshot_id"), ("digest", "array32")]),
-    ("decode", "read_evidence", "evidence", "blankVoterReplacementEvidence", "evidence_of",
-     [("prepare", "log_id"), ("snapshot", "optional_snapshot"), ("early", "three_cuts"), ("late", "three_cuts")]),
-    ("decode", "read_change", "change", "blankChange", None,
-     [("predecessor", "configuration"), ("successor", "configuration"), ("phase", "step")]),
-    ("decode", "read_replacement", "replacement", "blankVoterReplacementRecord", "replacement_of",
-     [("expected_revision", "u64"), ("attestation", "boxed_attestation"), ("change", "change"), ("evidence", "evidence")]),
-    ("decode", "read_table_head", "tableHead", "blankTableHead", None,
-     [("cluster_instance", "array32"), ("manifest_digest", "array32"), ("revision", "u64"), ("configuration_epoch", "epoch")]),
-    ("decode", "read_table_front", "tableFront", "blankTableFront", None,
-     [("magic", "head"), ("head", "table_head"), ("count", "count"), ("slots", "slots")]),
-    ("bodies", "read_marker_body", "markerBody", "blankMarkerBody", None, [("cut", "log_id"), ("request_id", "array16"), ("request_digest", "array32")]),
-    ("bodies", "read_any_identity", "anyIdentity", "=identityRead", None, [("slot", "u16"), ("incarnation", "u64")]),
-    ("bodies", "read_candidate", "candidate", "blankVoterSlotMember", "member_of", [("identity", "any_identity"), ("binding", "binding")]),
-    ("bodies", "read_expected", "expected", "blankConsensusIdentity", None,
-     [("cluster_id", "array32"), ("configuration_id", "array32"), ("configuration_epoch", "u64")]),
-    ("bodies", "read_begin_head", "beginHead", "blankBeginHead", None,
-     [("cut", "log_id"), ("expected_revision", "u64"), ("expected_configuration", "expected"), ("candidate", "candidate")]),
+    ("reader", "identity", "identity", "=identityRead", None),
+    ("reader", "log_id", "logId", "=logIdRead", None),
+    ("reader", "three_cuts", "threeCuts", "=threeCutsRead", None),
+    ("reader", "times", "times", "=timesRead", None),
+    ("decode", "binding", "binding", "blankBinding", None),
+    ("decode", "member", "member", "blankVoterSlotMember", "member_of"),
+    ("decode", "configuration", "configuration", "blankVoterConfiguration", None),
+    ("decode", "result_head", "resultHead", "blankResultHead", None),
+    ("decode", "result", "result", "blankVoterReplacementResult", "result_of"),
+    ("decode", "slot_member", "slotMember", "blankSlotMember", "member_of"),
+    ("decode", "slot", "slot", "blankVoterSlotRecord", None),
+    ("decode", "claims_request", "claimsRequest", "blankClaimsRequest", None),
+    ("decode", "claims_slot", "claimsSlot", "blankClaimsSlot", None),
+    ("decode", "claims_names", "claimsNames", "blankClaimsNames", None),
+    ("decode", "claims_end", "claimsEnd", "blankClaimsEnd", None),
+    ("decode", "attestation", "claims", "blankLostVoterAttestationV1", "attestation_of"),
+    ("decode", "snapshot", "snapshot", "blankVoterSnapshotEvidence", None),
+    ("decode", "evidence", "evidence", "blankVoterReplacementEvidence", "evidence_of"),
+    ("decode", "change", "change", "blankChange", None),
+    ("decode", "replacement", "replacement", "blankVoterReplacementRecord", "replacement_of"),
+    ("decode", "table_head", "tableHead", "blankTableHead", None),
+    ("decode", "table_front", "tableFront", "blankTableFront", None),
+    ("bodies", "marker_body", "markerBody", "blankMarkerBody", None),
+    ("bodies", "any_identity", "anyIdentity", "=identityRead", None),
+    ("bodies", "candidate", "candidate", "blankVoterSlotMember", "member_of"),
+    ("bodies", "expected", "expected", "blankConsensusIdentity", None),
+    ("bodies", "begin_head", "beginHead", "blankBeginHead", None),
 ]
 # Readers that pass a refusal on by the function of another
 REFUSED = {"read_candidate": "refused_member"}
@@ -231,6 +216,16 @@ def par(text):
     return f"({text})" if " " in text else text
 
 
+def nth(k):
+    """What the checker adds to the name of the place of field k, counted from 0."""
+    return "" if k == 0 else str(k + 1)
+
+
+def abbrev(name, kind, body):
+    """A name that unfolds by itself, of a place unless it is a format."""
+    return f"abbrev {name} : {kind}\n{name}{' c' if '→' in kind else ''} = {body}\n\n"
+
+
 class Names:
     """The n-th use of a name in a function: `x`, then `x2` for a field of a record, and `x`, then `x-2` for a need."""
 
@@ -243,11 +238,10 @@ class Names:
 
 
 class Reader:
-    def __init__(self, module, name, codec, blank, made, fields):
-        self.module, self.name, self.codec, self.blank, self.made, self.fields = module, name, codec, blank, made, fields
+    def __init__(self, module, record, codec, blank, made):
+        self.module, self.name, self.codec, self.blank, self.made, self.fields = module, "read_" + record, codec, blank, made, FIELDS[record]
         self.enum = blank[1:] if blank.startswith("=") else None
-        self.n = len(fields)
-        self.costs = [5 if k in ENUM else 6 for _, k in fields]
+        self.n = len(self.fields)
         calls = Names()
         self.calls = [calls.next(kebab(self.call(i))) for i in range(self.n)]
 
@@ -255,18 +249,16 @@ class Reader:
         return self.fields[i][1]
 
     def call(self, i):
-        k = self.kind(i)
-        return (ENUM[k] if k in ENUM else STRUCT[k])[0]
+        return "read_choice" if self.kind(i) in CHOICES else "read_" + self.kind(i)
 
     def codec_of(self, i, last):
         """The codec of field i; last is what the field before it gave."""
-        k = self.kind(i)
-        c = (ENUM[k] if k in ENUM else STRUCT[k])[1]
+        c = format_of(self.kind(i))
         return f"{c} ({last})" if c in COUNTED else c
 
     def type_of(self, i):
         k = self.kind(i)
-        return (ENUM[k] if k in ENUM else STRUCT[k])[2]
+        return (ENUM[k] if k in ENUM else STRUCT[k])[0]
 
     def types(self, k):
         t = self.type_of(0)
@@ -275,84 +267,100 @@ class Reader:
             t = f"{par(t) if '×' in t else t} × {par(u) if '×' in u else u}"
         return t
 
-    def dist(self, i, k):
-        """Steps from the place after field k back to that after field i."""
-        return sum(self.costs[i + 1:k + 1])
+    def field(self, i):
+        return kebab(self.fields[i][0])
 
-    def value(self, i, k, more=0):
-        f = kebab(self.fields[i][0])
-        d = self.dist(i, k) + more
-        if self.kind(i) in MARKS:
-            return "tt"
-        if self.kind(i) in ENUM:
-            return f"{back(d + 1)} .{f}-read .given .0 .0"
-        r = f"{back(d + 4)} .{self.calls[i][0]} .result"
-        if self.kind(i).startswith("optional"):
-            return f"({r} .«is_some», {r} .value)"
-        return f"{r} .value"
-
-    def count(self, i, k, more=0):
-        f = kebab(self.fields[i][0])
-        d = self.dist(i, k) + more
-        if self.kind(i) in MARKS:
-            return f"{back(d + 1)} .{f} .given .0 .0"
-        if self.kind(i) in ENUM:
-            return f"{back(d + 1)} .{f}-read .given .0 .1 .0"
-        return f"{back(d + 2)} .{f}-to .given .0 .0"
-
-    def values(self, k):
-        e = self.value(0, k)
-        for i in range(1, k + 1):
-            e = f"({e}, {self.value(i, k)})"
-        return par(e) if not e.startswith("(") else e
-
-    def counts(self, k, more=0):
-        e = self.count(0, k, more)
-        for i in range(1, k + 1):
-            e = f"({e} + {self.count(i, k, more)})"
-        return par(e) if not e.startswith("(") else e
+    def is_enum(self, i):
+        return self.kind(i) in ENUM
 
     def place(self, k):
-        f, kind = self.fields[k]
-        return f"tie.After-known-told{'' if k == 0 else k + 1}" if kind in ENUM else f"tie.After-{kebab(f)}"
+        """The place after field k."""
+        return f"tie.After-known-told{nth(k)}" if self.is_enum(k) else f"tie.After-{self.field(k)}"
 
-    def bytes(self, k, more=0):
-        return f"{back(sum(self.costs[:k + 1]) + more)} .args .bytes .now"
+    def called(self, k):
+        """The place after the call that reads field k."""
+        return f"tie.After-{self.calls[k][0]}"
 
-    def source(self, i, ensures, s, p):
-        """What the call's contract says, of the bytes as the format has them."""
+    def last(self, k, c="c"):
+        """The place after field k - 1, from that after field k."""
+        return f"after-{self.field(k - 1)} (called-{self.field(k)} {par(c)})"
+
+    def start(self, k, c="c"):
+        """Where the function began, from the place after field k."""
+        return f"start-{self.field(k)} (called-{self.field(k)} {par(c)})"
+
+    def value(self, k, c="c"):
+        """What field k gave, of the place after it."""
+        return "tt" if self.kind(k) in MARKS else f"{self.field(k)}-value {par(c)}"
+
+    def places(self):
+        """The names of the places, of each field."""
+        out = "-- the call that reads each field, from after the field and from after its refusal; the place after a field, from the call that reads the next\n"
+        for k in range(self.n):
+            f, call = self.field(k), self.called(k)
+            out += abbrev(f"called-{f}", f"{self.place(k)} → {call}", back(3 if self.is_enum(k) else 4))
+            out += abbrev(f"refused-{f}", f"tie.After-{self.refusal(k)[2]} → {call}", back(3 if self.enum else 4))
+            if k + 1 < self.n:
+                out += abbrev(f"after-{f}", f"{self.called(k + 1)} → {self.place(k)}", back(2))
+        out += "-- where the function began, from the call that reads each field\n"
+        for k in range(self.n):
+            out += abbrev(f"start-{self.field(k)}", f"{self.called(k)} → tie.Start", self.start(k - 1, f"after-{self.field(k - 1)} c") if k else back(2))
+        return out
+
+    def gave(self):
+        """The names of what was read, and of how many bytes."""
+        out = "-- the value of each field and its size; the values up to it and their size\n"
+        for k in range(self.n):
+            f, at = self.field(k), self.place(k)
+            if self.kind(k) in MARKS:
+                value, size = None, f"c .before .{f} .given .0 .0"
+            elif self.is_enum(k):
+                value, size = f"c .before .{f}-read .given .0 .0", f"c .before .{f}-read .given .0 .1 .0"
+            else:
+                value, size = f"called-{f} c .{self.calls[k][0]} .result", f"{back(2)} .{f}-to .given .0 .0"
+                value = f"({value} .«is_some», {value} .value)" if self.kind(k).startswith("optional") else f"{value} .value"
+            if value:
+                out += abbrev(f"{f}-value", f"{at} → {self.type_of(k)}", value)
+            out += abbrev(f"{f}-size", f"{at} → ℕ", size)
+            if k:
+                out += abbrev(f"values-to-{f}", f"{at} → {self.types(k + 1)}", f"({self.values(k - 1, self.last(k))}, {self.value(k)})")
+                out += abbrev(f"size-to-{f}", f"{at} → ℕ", f"{self.sizes(k - 1, self.last(k))} + {f}-size c")
+        return out
+
+    def values(self, k, c="c"):
+        """All values up to field k, of the place after it."""
+        return f"values-to-{self.field(k)} {par(c)}" if k else self.value(0, c)
+
+    def sizes(self, k, c="c"):
+        return f"size-to-{self.field(k)} {par(c)}" if k else f"{self.field(0)}-size {par(c)}"
+
+    def source(self, i, place):
+        """What the call's contract says, of the bytes as the format has them; place is that after the call."""
+        ensures = f"{place} .{self.calls[i][0]} .ensures"
         if i == 0:
-            return ensures
-        c = self.codec_of(i, p)
-        if self.kind(i) in ENUM:
-            return f"({ensures} ∙ ap ({par(c)} .dec) (rest ({s}) _))"
-        return f"({ensures} ∙ ap (λ l. outcome {self.blank_of(i)} ({par(c)} .dec l)) (rest ({s}) _))"
+            return f" ({ensures}) "
+        c = self.codec_of(i, self.value(i - 1, f"after-{self.field(i - 1)} {par(place)}"))
+        law = f"{c} .dec" if self.is_enum(i) else f"λ l. outcome {self.blank_of(i)} ({c} .dec l)"
+        return f"\n    ({ensures} ∙ ap ({law}) (rest (start-{self.field(i)} {par(place)} .args .bytes .now) _))\n    "
 
     def blank_of(self, i):
-        return STRUCT[self.kind(i)][3]
+        return STRUCT[self.kind(i)][1]
 
     def field_got(self, k):
         """What field k read, at the place after it."""
-        d = 3 if self.kind(k) in ENUM else 4
-        ens = f"{back(d)} .{self.calls[k][0]} .ensures"
-        s = self.bytes(k)
-        f = kebab(self.fields[k][0])
-        src = self.source(k, ens, s, self.value(k - 1, k) if k else "")
-        if self.kind(k) in MARKS:
-            return f"got report {par(src) if k == 0 else src} ({back(1)} .{f} .given .1)"
-        if self.kind(k) in ENUM:
-            return f"got {ENUM[self.kind(k)][3]} {par(src) if k == 0 else src} ({back(1)} .{f}-read .given .1)"
-        return f"told {self.blank_of(k)} _ {par(src) if k == 0 else src} ({back(2)} .{f}-to .given .1)"
+        f = self.field(k)
+        src = self.source(k, f"called-{f} c")
+        if self.is_enum(k):
+            read = f if self.kind(k) in MARKS else f"{f}-read"
+            return f"got {ENUM[self.kind(k)][1]}{src}(c .before .{read} .given .1)"
+        return f"told {self.blank_of(k)} _{src}({back(2)} .{f}-to .given .1)"
 
-    def field_not(self, k, steps):
-        """That field k was refused; steps from the return back to its `else`."""
-        ens = f"{back(steps + 2)} .{self.calls[k][0]} .ensures"
-        s = self.bytes(k, steps - (1 if self.kind(k) in ENUM else 2))
-        src = self.source(k, ens, s, self.value(k - 1, k, steps - (1 if self.kind(k) in ENUM else 2)) if k else "")
-        e = f"{back(steps)} .enum-told{'' if k == 0 else k + 1} .given .1"
-        if self.kind(k) in ENUM:
-            return f"got {ENUM[self.kind(k)][3]} {par(src) if k == 0 else src} ({e})"
-        return f"told-not {self.blank_of(k)} _ {par(src) if k == 0 else src} ({e})"
+    def field_not(self, k, told):
+        """That field k was refused, at the place after its refusal."""
+        src = self.source(k, f"refused-{self.field(k)} c")
+        if self.is_enum(k):
+            return f"got {ENUM[self.kind(k)][1]}{src}({told})"
+        return f"told-not {self.blank_of(k)} _{src}({told})"
 
     def whole(self, way, fields):
         """The record as its fields were read (ok) or refused (no)."""
@@ -363,73 +371,80 @@ class Reader:
 
     def why(self, k):
         kind = self.kind(k)
-        if kind in ENUM and ENUM[kind][4]:
-            w = ENUM[kind][4]
+        if kind in ENUM and ENUM[kind][2]:
+            w = ENUM[kind][2]
             return "why_" + re.sub(r"(?<!^)(?<!\d)([A-Z])", r"_\1", w).lower(), "why" + w
         return "why", "whyOf"
+
+    def refusal(self, k):
+        """How the refusal of field k is passed on: the call that takes it out, its definition, and the last call before the return."""
+        names = Names()
+        for i in range(k + 1):
+            w = names.next(kebab(self.why(i)[0]))[0]
+        return w, self.why(k)[1], w if self.enum else kebab(REFUSED.get(self.name, "refused_" + self.name[5:])) + nth(k)
 
 
 def write(r):
     s = Skeleton(r.module, r.name)
     n = r.n
-    defs = "-- after each field: what was read so far, and up to where\n"
+    defs = "-- the format up to each field\n"
     for k in range(n):
-        c = r.codec_of(0, "") if k == 0 else f"dep c{k} (λ a. {r.codec_of(k, 'a .1')})"
-        defs += f"abbrev c{k + 1} : Codec ({r.types(k + 1)})\nc{k + 1} = {c}\n\n"
+        c = r.codec_of(0, "") if k == 0 else f"dep to-{r.field(k - 1)} (λ a. {r.codec_of(k, 'a .1')})"
+        defs += abbrev(f"to-{r.field(k)}", f"Codec ({r.types(k + 1)})", c)
+    defs += r.places() + r.gave()
+    defs += "-- after each field: what was read so far, and up to where\n"
     for k in range(n):
-        defs += f"got-{k + 1} : (c : {r.place(k)}) → c{k + 1} .dec ({r.bytes(k)}) ≡ ok {r.values(k)} {r.counts(k)}\n"
+        f = r.field(k)
+        defs += f"got-{f} : (c : {r.place(k)})\n    → to-{f} .dec ({r.start(k)} .args .bytes .now) ≡ ok ({r.values(k)}) ({r.sizes(k)})\n"
         if k == 0:
-            defs += f"got-1 c = {r.field_got(0)}\n\n"
+            defs += f"got-{f} c = {r.field_got(0)}\n\n"
         else:
-            defs += f"got-{k + 1} c = dep-ok _ _ _ (got-{k} ({back(r.costs[k])})) ({r.field_got(k)})\n\n"
-    whys = Names()
+            defs += f"got-{f} c =\n    dep-ok _ _ _ (got-{r.field(k - 1)} ({r.last(k)}))\n    ({r.field_got(k)})\n\n"
     for k in range(1, n):
         # so many places are asked for as were counted
         if r.kind(k) in COUNTED:
-            at = r.bytes(k - 1)
-            defs += f"counted : (c : {r.place(k - 1)}) → slotCount .dec (drop {r.counts(k - 2, r.costs[k - 1])} ({at})) ≡ ok ({r.value(k - 1, k - 1)}) ({r.count(k - 1, k - 1)})\n"
-            defs += f"counted c = {r.field_got(k - 1)}\n\n"
+            at, f = r.place(k - 1), r.field(k - 1)
+            defs += f"counted : (c : {at})\n    → slotCount .dec (drop ({r.sizes(k - 2, r.last(k - 1))}) ({r.start(k - 1)} .args .bytes .now)) ≡ ok ({f}-value c) ({f}-size c)\n"
+            defs += f"counted c =\n    {r.field_got(k - 1)}\n\n"
             s.fill(kebab(r.call(k)) + "-requires", "count-read _ (counted (c .before))")
-    # for an enum's refusal the `else` is one step back, with `refused_x` around it two
-    steps = 1 if r.enum else 2
     for k in range(n):
-        wf, wd = r.why(k)
-        w = whys.next(kebab(wf))[0]
-        e = f"{back(steps)} .enum-told{'' if k == 0 else k + 1} .given .1"
-        t = r.field_not(k, steps)
+        f = r.field(k)
+        w, wd, passed = r.refusal(k)
+        # for an enum's refusal the `else` is one step back, with `refused_x` around it two
+        told = f"{back(1 if r.enum else 2)} .enum-told{nth(k)} .given .1"
+        t = r.field_not(k, told)
         if k > 0:
-            t = f"dep-no-2 _ _ _ (got-{k} ({back(r.costs[k] + steps - (1 if r.kind(k) in ENUM else 2))})) ({t})"
+            t = f"dep-no-2 _ _ _ (got-{r.field(k - 1)} (after-{r.field(k - 1)} (refused-{f} c)))\n    ({t})"
         for _ in range(n - 1 - k):
             t = f"dep-no-1 _ _ _ ({t})"
-        need = "returns" if k == 0 else f"returns-{k + 1}"
         if r.enum:
-            body = f"ap (λ a. no (numberOf a)) (c .{w} .ensures ∙ ap {wd} ({e})) ∙ sym (via-no _ _ _ _ _ ({t}))"
+            body = f"\n    ap (λ a. no (numberOf a)) (c .{w} .ensures ∙ ap {wd} ({told}))\n    ∙ sym (via-no _ _ _ _ _ ({t}))"
         else:
-            ref = kebab(REFUSED.get(r.name, "refused_" + r.name[5:])) + ("" if k == 0 else str(k + 1))
-            body = (f"\n    outcome-no _ (c .{ref} .ensures ∙ ap (λ a. outcome {r.blank} (no (numberOf a))) ({back(1)} .{w} .ensures ∙ ap {wd} ({e})))"
+            body = (f"\n    outcome-no _ (c .{passed} .ensures ∙ ap (λ a. outcome {r.blank} (no (numberOf a))) (c .before .{w} .ensures ∙ ap {wd} ({told})))"
                     f"\n    ({r.whole('no', t)})")
-        s.fill(need, body, r.unfolded())
+        s.fill("returns" if k == 0 else f"returns-{k + 1}", body, r.unfolded())
         if k + 1 < n:
             call = r.calls[k + 1][1]
             base = re.sub(r"-\d+$", "", call) if r.calls[k + 1][0] != r.calls[k + 1][1] else call
-            p, q = part_names(base, r, k + 1)
-            s.fill(p, f"c{k + 1} .within _ (got-{k + 1} c)")
-            s.fill(q, f"c{k + 1} .within _ (got-{k + 1} c)")
+            for need in part_names(base, r, k + 1):
+                s.fill(need, f"to-{f} .within _ (got-{f} c)")
         if 0 < k < n - 1:
-            need = "add-at" if k == 1 else f"add-at-{k}"
-            s.fill(need, f"record {{ fits = lt-of-le-of-lt (c{k + 1} .within _ (got-{k + 1} c)) ({back(sum(r.costs[:k + 1]))} .good .0 .0) }}")
+            s.fill("add-at" if k == 1 else f"add-at-{k}", fits(r, k, "c"))
+    end, m = n - 1, 1 if r.made else 0
     last = s.last_sum()
-    final = "returns-" + str(n + 1)
-    m = 1 if r.made else 0
     if last:
-        place = lasts(s, last, r)
-        s.fill(last, f"record {{ fits = lt-of-le-of-lt (c{n} .within _ (got-{n} ({back(place)}))) ({back(sum(r.costs) + place)} .good .0 .0) }}")
-    whole = r.whole("ok", f"got-{n} ({back(m + extra(r))})")
+        s.fill(last, fits(r, end, back(lasts(s, last, r))))
+    whole = r.whole("ok", f"got-{r.field(end)} {par(back(m + extra(r)))}")
     if r.made:
-        whole += f" ∙ ap (λ v. ok {made_value(r)} {r.counts(n - 1, m)}) (sym (c .{kebab(r.made)} .ensures))"
-    body = f"sym ({whole})" if r.enum else f"outcome-ok _ ({whole})"
-    s.fill(final, body, r.unfolded())
+        whole += f"\n    ∙ ap (λ v. ok {made_value(r)} ({r.sizes(end, back(m))})) (sym (c .{kebab(r.made)} .ensures))"
+    s.fill(f"returns-{n + 1}", f"sym ({whole})" if r.enum else f"outcome-ok _ ({whole})", r.unfolded())
     s.write(header(r, defs + s.text(), s.own()), defs)
+
+
+def fits(r, k, c):
+    """That the bytes up to field k are no more than a number holds; c is the place after it."""
+    f = r.field(k)
+    return f"record {{ fits = lt-of-le-of-lt (to-{f} .within _ (got-{f} {par(c)})) ({r.start(k, c)} .good .0 .0) }}"
 
 
 def part_names(base, r, k):
@@ -451,7 +466,7 @@ def extra(r):
 
 def made_value(r):
     if r.name == "read_slot_member":
-        return f"(record {{ member = v; «retired_through» = {r.value(1, r.n - 1, 1)} }})"
+        return f"(record {{ member = v; «retired_through» = {r.value(1, r.last(2, back(1)))} }})"
     return "v"
 
 
@@ -513,26 +528,37 @@ LAST_SUM = "the last sum"
 
 def optional(name, codec, absent, blank, call, make):
     """A flag, and after a yes the part."""
-    whole = f"opt {codec} {blank}"
-    s12 = f"{back(12)} .args .bytes .now"
-    src = f"({back(4)} .{call} .ensures ∙ ap (λ l. outcome {blank} ({codec} .dec l)) (rest ({s12}) _))"
-    sum_ = f"({back(8)} .flag .given .0 .1 .0 + {back(2)} .to .given .0 .0)"
-    defs = f"""-- the flag, what it says in the branch of a yes, and the whole
-flagged : (c : tie.After-flag) → flag .dec ({back(4)} .args .bytes .now) ≡ ok (c .flag .given .0 .0) (c .flag .given .0 .1 .0)
+    whole, part, refused = f"opt {codec} {blank}", f"tie.After-{call}", f"refused-optional-{name}"
+
+    def source(place):
+        return f"({place} .{call} .ensures ∙ ap (λ l. outcome {blank} ({codec} .dec l)) (rest (start (at-flag (at-yes ({place}))) .args .bytes .now) _))"
+
+    defs = "-- the start and the flag's place, from after them; the part's call, from after the part and from after its refusal\n"
+    for place in [("start", "tie.After-flag → tie.Start", 4), ("at-flag", "tie.Else1 → tie.After-flag", 2), ("at-yes", f"{part} → tie.Else1", 2),
+                  ("called", f"tie.After-value → {part}", 4), ("refused", f"tie.After-{refused}2 → {part}", 4)]:
+        defs += abbrev(place[0], place[1], back(place[2]))
+    defs += "-- how many bytes the flag has, and the whole\n"
+    defs += abbrev("flag-size", "tie.After-flag → ℕ", "c .flag .given .0 .1 .0")
+    defs += abbrev("size", "tie.After-value → ℕ", f"flag-size (at-flag (at-yes (called c))) + {back(2)} .to .given .0 .0")
+    defs += f"""-- the flag, what it says in the branch of a yes, and the whole
+flagged : (c : tie.After-flag) → flag .dec (start c .args .bytes .now) ≡ ok (c .flag .given .0 .0) (flag-size c)
 flagged c = got boolRead ({back(2)} .read-flag .ensures) (c .flag .given .1)
 
-yes-is : (c : tie.Else1) → {back(2)} .flag .given .0 .0 ≡ true
+yes-is : (c : tie.Else1) → at-flag c .flag .given .0 .0 ≡ true
 yes-is c = not-false _ (c .if1 .left)
 
-flagged-yes : (c : tie.Else1) → flag .dec ({back(6)} .args .bytes .now) ≡ ok true ({back(2)} .flag .given .0 .1 .0)
-flagged-yes c = flagged ({back(2)}) ∙ ap (λ t. ok t ({back(2)} .flag .given .0 .1 .0)) (yes-is c)
+flagged-yes : (c : tie.Else1) → flag .dec (start (at-flag c) .args .bytes .now) ≡ ok true (flag-size (at-flag c))
+flagged-yes c = flagged (at-flag c) ∙ ap (λ t. ok t (flag-size (at-flag c))) (yes-is c)
 
-both : (c : tie.After-value) → {whole} .dec ({s12}) ≡ ok (true, {back(4)} .{call} .result .value) {sum_}
-both c = opt-some _ _ _ (flagged-yes ({back(6)})) (told {blank} _ {src} ({back(2)} .to .given .1))
+both : (c : tie.After-value) → {whole} .dec (start (at-flag (at-yes (called c))) .args .bytes .now) ≡ ok (true, called c .{call} .result .value) (size c)
+both c =
+    opt-some _ _ _ (flagged-yes (at-yes (called c)))
+    (told {blank} _
+    {source("called c")}
+    ({back(2)} .to .given .1))
 
 """
     told, told2 = f"{back(2)} .enum-told .given .1", f"{back(2)} .enum-told2 .given .1"
-    refused = f"refused-optional-{name}"
 
     def passed(n, why, said):
         return f"outcome-no {absent} (c .{refused}{n} .ensures ∙ ap (λ a. outcome {absent} (no (numberOf a))) ({back(1)} .{why[0]} .ensures ∙ ap {why[1]} ({said})))"
@@ -545,32 +571,50 @@ both c = opt-some _ _ _ (flagged-yes ({back(6)})) (told {blank} _ {src} ({back(2
     ], defs, {
         "returns": f"\n    {passed('', ('why-bool', 'whyBool'), told)}\n    (opt-no _ _ _ (got boolRead ({back(4)} .read-flag .ensures) ({told})))",
         "returns-2": f"""
-    let n = {back(3)} .flag .given .0 .1 .0 in
-    let t = not-true _ ({back(1)} .if1 .taken) in
-    let p : {whole} .dec ({back(7)} .args .bytes .now) ≡ ok (false, {blank}) n = opt-none _ _ _ (flagged ({back(3)}) ∙ ap (λ b. ok b n) t) in
+    let f = {back(3)} in
+    let n = flag-size f in
+    let t = not-true _ (c .before .if1 .taken) in
+    let p : {whole} .dec (start f .args .bytes .now) ≡ ok (false, {blank}) n = opt-none _ _ _ (flagged f ∙ ap (λ b. ok b n) t) in
     outcome-ok {absent} (p ∙ (λ i. ok (sym t i, sym (c .{make} .ensures) i) n))""",
-        f"sub-{call}": f"flag .within _ (flagged ({back(2)}))",
-        f"part-{call}-start": f"flag .within _ (flagged ({back(2)}))",
-        "returns-3": f"\n    {passed('2', ('why', 'whyOf'), told2)}\n    (opt-bad _ _ _ (flagged-yes ({back(6)})) (told-not {blank} _ {src} ({told2})))",
-        LAST_SUM: f"record {{ fits = lt-of-le-of-lt (({whole}) .within _ (both c)) ({back(12)} .good .0 .0) }}",
-        "returns-4": f"\n    outcome-ok {absent}\n    (both c ∙ ap (λ b. ok (b, {back(4)} .{call} .result .value) {sum_}) (sym (yes-is ({back(6)}))))",
+        f"sub-{call}": "flag .within _ (flagged (at-flag c))",
+        f"part-{call}-start": "flag .within _ (flagged (at-flag c))",
+        "returns-3": f"""
+    {passed('2', ('why', 'whyOf'), told2)}
+    (opt-bad _ _ _ (flagged-yes (at-yes (refused c)))
+    (told-not {blank} _
+    {source("refused c")}
+    ({told2})))""",
+        LAST_SUM: f"record {{ fits = lt-of-le-of-lt (({whole}) .within _ (both c)) (start (at-flag (at-yes (called c))) .good .0 .0) }}",
+        "returns-4": f"""
+    outcome-ok {absent}
+    (both c ∙ ap (λ b. ok (b, called c .{call} .result .value) (size c)) (sym (yes-is (at-yes (called c)))))""",
     })
 
 
 def places(name, element, blanks, blank, make):
     """The first so many of nine places."""
-    call = f"read-{element}"
-    told = f"{back(2)} .enum-told .given .1"
+    call, vec, of = f"read-{element}", f"vec {element} {blank}", "Inv-loop μ-loop"
+    part, told = f"tie.After-{call} {of}", f"{back(2)} .enum-told .given .1"
+
+    def source(place, at):
+        return f"({place} .{call} .ensures ∙ ap (λ l. outcome {blank} ({element} .dec l)) (rest (start (turn ({place})) .args .bytes .now) ({at})))"
+
     defs = f"""abbrev Inv-loop : tie.InvT-loop
 Inv-loop bytes count value₀ at₀ i₀ value at i =
-    (i ≤ count) × (vec {element} {blank} i .dec bytes ≡ ok (take i value) at) × (drop i value ≡ drop i value₀) × (length value ≡ 9)
+    (i ≤ count) × ({vec} i .dec bytes ≡ ok (take i value) at) × (drop i value ≡ drop i value₀) × (length value ≡ 9)
 
 abbrev μ-loop : tie.MeasureT-loop
 μ-loop bytes count value₀ at₀ i₀ value at i = count - i
 
--- one more was read, after those before it
-one-more : (c : tie.After-to Inv-loop μ-loop) → {element} .dec (drop ({back(5)} .loop .at) ({back(8)} .args .bytes .now)) ≡ ok ({back(2)} .{call} .result .value) (c .to .given .0 .0)
-one-more c = told {blank} _ ({back(2)} .{call} .ensures ∙ ap (λ l. outcome {blank} ({element} .dec l)) (rest ({back(8)} .args .bytes .now) ({back(5)} .loop .at))) (c .to .given .1)
+-- the start, from within the loop; the turn of the loop, from the call in it; that call, from after its answer and from after its refusal
+"""
+    for place in [("start", f"tie.In-loop {of} → tie.Start {of}", 4), ("turn", f"{part} → tie.In-loop {of}", 2),
+                  ("called", f"tie.After-to {of} → {part}", 2), ("refused", f"tie.After-refused-{name} {of} → {part}", 4)]:
+        defs += abbrev(place[0], place[1], back(place[2]))
+    defs += f"""-- one more was read, after those before it
+one-more : (c : tie.After-to {of})
+    → {element} .dec (drop (turn (called c) .before .loop .at) (start (turn (called c)) .args .bytes .now)) ≡ ok (called c .{call} .result .value) (c .to .given .0 .0)
+one-more c = told {blank} _ {source("called c", "turn (called c) .before .loop .at")} (c .to .given .1)
 
 -- after those that were read there are blanks
 blanks-after : (i : ℕ) → drop i {blanks} ≡ replicate (9 - i) {blank}
@@ -589,20 +633,23 @@ blanks-after i = drop-replicate i 9 {blank}
         **{need: "search needs" for need in [f"{make}-requires", f"part-{call}-end", f"{call}-requires", "enum-known-to", "enum-told", "why-requires",
                                              f"refused-{name}-requires", "mul-value", "array-set-from-value", "add-i"]},
         "loop-holds": (f"(search needs, vec-start {element} {blank} _, refl, ap length (c .{make} .ensures))", blanks),
-        f"sub-{call}": f"vec {element} {blank} _ .within _ (c .before .loop .inv .1)",
-        f"part-{call}-start": f"vec {element} {blank} _ .within _ (c .before .loop .inv .1)",
+        f"sub-{call}": f"{vec} _ .within _ (c .before .loop .inv .1)",
+        f"part-{call}-start": f"{vec} _ .within _ (c .before .loop .inv .1)",
         "returns": (f"""
-    let l = {back(7)} .loop in
+    let l = turn (refused c) .before .loop in
     outcome-no {blanks} (c .refused-{name} .ensures ∙ ap (λ a. outcome {blanks} (no (numberOf a))) ({back(1)} .why .ensures ∙ ap whyOf ({told})))
-    (padded-no _ _ _ _ _ _ (vec-refused _ _ _ _ _ ({back(6)} .loop-test .taken) (l .inv .1)
-    (told-not {blank} _ ({back(4)} .{call} .ensures ∙ ap (λ l. outcome {blank} ({element} .dec l)) (rest ({back(10)} .args .bytes .now) (l .at))) ({told}))))""", name),
-        "add-at": f"record {{ fits = lt-of-le-of-lt (vec {element} {blank} _ .within _ (vec-next {element} {blank} _ _ ({back(7)} .loop .inv .1) (one-more ({back(2)})))) ({back(10)} .good .0 .0) }}",
+    (padded-no _ _ _ _ _ _ (vec-refused _ _ _ _ _ (turn (refused c) .loop-test .taken) (l .inv .1)
+    (told-not {blank} _ {source("refused c", "l .at")} ({told}))))""", name),
+        "add-at": f"""
+    let t = turn (called ({back(2)})) in
+    record {{ fits = lt-of-le-of-lt ({vec} _ .within _ (vec-next {element} {blank} _ _ (t .before .loop .inv .1) (one-more ({back(2)})))) (start t .good .0 .0) }}""",
         "loop-less": "omega arith",
         "loop-again": f"""
-    let l = {back(7)} .loop in
-    let m = {back(4)} .{call} .result .value in (
+    let l = turn (called ({back(2)})) .before .loop in
+    let m = called ({back(2)}) .{call} .result .value in (
       omega arith,
-      vec-next {element} {blank} _ _ (l .inv .1) (one-more ({back(2)})) ∙ ap (λ v. ok v (l .at + {back(2)} .to .given .0 .0)) (sym (filled-more (l .value) (l .i) m (omega (arith, l .inv .3)))),
+      vec-next {element} {blank} _ _ (l .inv .1) (one-more ({back(2)}))
+        ∙ ap (λ v. ok v (l .at + {back(2)} .to .given .0 .0)) (sym (filled-more (l .value) (l .i) m (omega (arith, l .inv .3)))),
       unfilled-more (l .value) _ (l .i) m (l .inv .2),
       length-set (l .value) (l .i) m ∙ l .inv .3,
     )""",
@@ -615,29 +662,31 @@ blanks-after i = drop-replicate i 9 {blank}
             ∙ ap (λ t. take (l .i) (l .value) ++ t) (l .inv .2 ∙ ap (drop (l .i)) ({back(2)} .{make} .ensures) ∙ blanks-after (l .i))
             ∙ ap (λ n. take (l .i) (l .value) ++ replicate (9 - n) {blank}) e in
     outcome-ok {blanks}
-    (padded-ok _ _ _ _ _ _ (subst (λ n. vec {element} {blank} n .dec (a .bytes .now) ≡ ok (take (l .i) (l .value)) (l .at)) e (l .inv .1)) ∙ ap (λ x. ok x (l .at)) (sym v))""", name),
+    (padded-ok _ _ _ _ _ _ (subst (λ n. {vec} n .dec (a .bytes .now) ≡ ok (take (l .i) (l .value)) (l .at)) e (l .inv .1)) ∙ ap (λ x. ok x (l .at)) (sym v))""", name),
     })
 
 
 def text(name, codec, blank, size):
     """Sized bytes that are UTF-8, in a place of so many."""
     call, zeros, refused = f"read_{name}", f"zeros{size}", "refused-" + kebab(name)
-    told = f"{back(2)} .enum-told .given .1"
+    told, after = f"{back(2)} .enum-told .given .1", "tie.After-known-told"
 
-    def read(steps):
-        """How many bytes were read and where they begin, and of which bytes, with so many steps to the place after the answer."""
-        return f"{back(steps + 1)} .size .given .0 .0", f"{back(steps + 1)} .size .given .0 .1 .0", f"{back(steps + 5)} .args .bytes .now"
+    def names(place):
+        return f"let n = text-size ({place}) in\n    let at = text-at ({place}) in\n    let s = input ({place}) in"
 
-    def names(steps):
-        n, at, s = read(steps)
-        return f"let n = {n} in\n    let at = {at} in\n    let s = {s} in"
+    defs = "-- the start, from after the size was read; that place, from after the text was refused and from after its place was made\n"
+    defs += abbrev("start", f"{after} → tie.Start", back(5))
+    defs += abbrev("sized-refused", f"tie.After-{refused}2 → {after}", back(4))
+    defs += abbrev("sized-held", f"tie.After-place → {after}", back(5))
+    defs += "-- how many bytes the text has, where it begins, and in which bytes\n"
+    defs += abbrev("text-size", f"{after} → ℕ", "c .before .size .given .0 .0")
+    defs += abbrev("text-at", f"{after} → ℕ", "c .before .size .given .0 .1 .0")
+    defs += abbrev("input", f"{after} → List ℕ", "start c .args .bytes .now")
+    defs += f"""-- what was read
+is : (c : {after}) → sized {size} .dec (input c) ≡ ok (text-size c, take (text-size c) (drop (text-at c) (input c))) (text-at c + text-size c)
+is c = got (λ r. sizedRead r (input c)) ({back(3)} .read-sized .ensures) (c .before .size .given .1)
 
-    n, at, s = read(0)
-    defs = f"""-- what was read
-is : (c : tie.After-known-told) → sized {size} .dec ({s}) ≡ ok ({n}, take ({n}) (drop ({at}) ({s}))) ({at} + {n})
-is c = got (λ r. sizedRead r ({s})) ({back(3)} .read-sized .ensures) ({back(1)} .size .given .1)
-
-fits : (c : tie.After-known-told) → {at} + {n} ≤ length ({s})
+fits : (c : {after}) → text-at c + text-size c ≤ length (input c)
 fits c = sized {size} .within _ (is c)
 
 """
@@ -655,25 +704,28 @@ fits c = sized {size} .within _ (is c)
     let s = {back(6)} .args .bytes .now in
     outcome-no _ (c .{refused} .ensures ∙ ap (λ a. outcome {blank} (no (numberOf a))) ({back(1)} .why-sized .ensures ∙ ap whySized ({told})))
     (via-no _ _ _ _ _ (checked-no _ _ _ (got (λ r. sizedRead r s) ({back(4)} .read-sized .ensures) ({told}))))""", opened),
-        "add-end": f"record {{ fits = lt-of-le-of-lt (fits c) ({back(5)} .good .0 .0) }}",
+        "add-end": "record { fits = lt-of-le-of-lt (fits c) (start c .good .0 .0) }",
         "sub-text": "omega arith",
         "part-text-start": "omega arith",
         "part-text-end": "fits c",
         "returns-2": (f"""
-    {names(4)}
+    {names("sized-refused c")}
     outcome-no _ (c .{refused}2 .ensures)
-    (via-no _ _ _ _ _ (checked-bad _ _ _ (is ({back(4)})) (ap require (ap isUtf8 (sym (part-is n at s)) ∙ failed ({back(2)} .is-utf8 .ensures) ({back(1)} .if1 .taken)))))""", opened + " pick"),
+    (via-no _ _ _ _ _ (checked-bad _ _ _ (is (sized-refused c))
+    (ap require (ap isUtf8 (sym (part-is n at s)) ∙ failed ({back(2)} .is-utf8 .ensures) ({back(1)} .if1 .taken)))))""", opened + " pick"),
         "put-bytes-requires": f"""
-    {names(5)}
+    {names("sized-held c")}
     let z : length ({back(1)} .{zeros} .result) ≡ {size} = ap length ({back(1)} .{zeros} .ensures) ∙ length-zeros {size} in
-    omega (arith, length-take (at + n - at) (drop at s), z, sized-small {size} s (is ({back(5)})))""",
+    omega (arith, length-take (at + n - at) (drop at s), z, sized-small {size} s (is (sized-held c)))""",
         "returns-3": (f"""
-    {names(7)}
+    let k = sized-held ({back(2)}) in
+    {names("k")}
     let l = take n (drop at s) in
-    let h : length l ≡ n = length-take-le n (drop at s) (omega (arith, length-drop at s, fits ({back(7)}))) in
+    let h : length l ≡ n = length-take-le n (drop at s) (omega (arith, length-drop at s, fits k)) in
     let p = {back(1)} .put-bytes .ensures .bytes ∙ (λ i. put (part-is n at s i) 0 ({back(3)} .{zeros} .ensures i)) ∙ put-zeros l {size} ∙ ap (λ m. l ++ replicate ({size} - m) 0) h in
     outcome-ok {blank}
-    (via-ok _ _ _ _ _ (checked-ok _ _ _ (is ({back(7)})) (ap require (ap isUtf8 (sym (part-is n at s)) ∙ held ({back(5)} .is-utf8 .ensures) ({back(4)} .if1 .left))))
+    (via-ok _ _ _ _ _ (checked-ok _ _ _ (is k)
+    (ap require (ap isUtf8 (sym (part-is n at s)) ∙ held ({back(5)} .is-utf8 .ensures) ({back(4)} .if1 .left))))
         ∙ ap (λ b. ok (record {{ len = n; bytes = b }}) (at + n)) (sym p))""", opened + " pick"),
     })
 
@@ -740,7 +792,7 @@ TEMPLATES = {
     "read_array32": lambda: array(32),
     "read_array64": lambda: array(64),
     "answers": answers,
-    **{reader[1]: (lambda reader=reader: write(Reader(*reader))) for reader in READERS},
+    **{"read_" + reader[1]: (lambda reader=reader: write(Reader(*reader))) for reader in READERS},
 }
 
 

@@ -16,24 +16,102 @@ use Rattle.identity.specs.Answer.{numberOf}
 use Rattle.reader.proofs.decode.read_binding.Statement.{statement}
 use Rattle.reader.proofs.decode.read_binding.Tie as tie
 
+-- the format up to each field
+abbrev to-key-digest : Codec (List ℕ)
+to-key-digest = raw 32
+
+abbrev to-descriptor-digest : Codec (List ℕ × List ℕ)
+to-descriptor-digest = dep to-key-digest (λ a. raw 32)
+
+abbrev to-admission-generation : Codec ((List ℕ × List ℕ) × ℕ)
+to-admission-generation = dep to-descriptor-digest (λ a. uint 8)
+
+-- the call that reads each field, from after the field and from after its refusal; the place after a field, from the call that reads the next
+abbrev called-key-digest : tie.After-key-digest → tie.After-read-array32
+called-key-digest c = c .before .before .before .before
+
+abbrev refused-key-digest : tie.After-refused-binding → tie.After-read-array32
+refused-key-digest c = c .before .before .before .before
+
+abbrev after-key-digest : tie.After-read-array322 → tie.After-key-digest
+after-key-digest c = c .before .before
+
+abbrev called-descriptor-digest : tie.After-descriptor-digest → tie.After-read-array322
+called-descriptor-digest c = c .before .before .before .before
+
+abbrev refused-descriptor-digest : tie.After-refused-binding2 → tie.After-read-array322
+refused-descriptor-digest c = c .before .before .before .before
+
+abbrev after-descriptor-digest : tie.After-read-u64 → tie.After-descriptor-digest
+after-descriptor-digest c = c .before .before
+
+abbrev called-admission-generation : tie.After-known-told3 → tie.After-read-u64
+called-admission-generation c = c .before .before .before
+
+abbrev refused-admission-generation : tie.After-refused-binding3 → tie.After-read-u64
+refused-admission-generation c = c .before .before .before .before
+
+-- where the function began, from the call that reads each field
+abbrev start-key-digest : tie.After-read-array32 → tie.Start
+start-key-digest c = c .before .before
+
+abbrev start-descriptor-digest : tie.After-read-array322 → tie.Start
+start-descriptor-digest c = start-key-digest (called-key-digest (after-key-digest c))
+
+abbrev start-admission-generation : tie.After-read-u64 → tie.Start
+start-admission-generation c = start-descriptor-digest (called-descriptor-digest (after-descriptor-digest c))
+
+-- the value of each field and its size; the values up to it and their size
+abbrev key-digest-value : tie.After-key-digest → List ℕ
+key-digest-value c = called-key-digest c .read-array32 .result .value
+
+abbrev key-digest-size : tie.After-key-digest → ℕ
+key-digest-size c = c .before .before .key-digest-to .given .0 .0
+
+abbrev descriptor-digest-value : tie.After-descriptor-digest → List ℕ
+descriptor-digest-value c = called-descriptor-digest c .read-array322 .result .value
+
+abbrev descriptor-digest-size : tie.After-descriptor-digest → ℕ
+descriptor-digest-size c = c .before .before .descriptor-digest-to .given .0 .0
+
+abbrev values-to-descriptor-digest : tie.After-descriptor-digest → List ℕ × List ℕ
+values-to-descriptor-digest c = (key-digest-value (after-key-digest (called-descriptor-digest c)), descriptor-digest-value c)
+
+abbrev size-to-descriptor-digest : tie.After-descriptor-digest → ℕ
+size-to-descriptor-digest c = key-digest-size (after-key-digest (called-descriptor-digest c)) + descriptor-digest-size c
+
+abbrev admission-generation-value : tie.After-known-told3 → ℕ
+admission-generation-value c = c .before .admission-generation-read .given .0 .0
+
+abbrev admission-generation-size : tie.After-known-told3 → ℕ
+admission-generation-size c = c .before .admission-generation-read .given .0 .1 .0
+
+abbrev values-to-admission-generation : tie.After-known-told3 → (List ℕ × List ℕ) × ℕ
+values-to-admission-generation c = (values-to-descriptor-digest (after-descriptor-digest (called-admission-generation c)), admission-generation-value c)
+
+abbrev size-to-admission-generation : tie.After-known-told3 → ℕ
+size-to-admission-generation c = size-to-descriptor-digest (after-descriptor-digest (called-admission-generation c)) + admission-generation-size c
+
 -- after each field: what was read so far, and up to where
-abbrev c1 : Codec (List ℕ)
-c1 = raw 32
+got-key-digest : (c : tie.After-key-digest)
+    → to-key-digest .dec (start-key-digest (called-key-digest c) .args .bytes .now) ≡ ok (key-digest-value c) (key-digest-size c)
+got-key-digest c = told (zeros 32) _ (called-key-digest c .read-array32 .ensures) (c .before .before .key-digest-to .given .1)
 
-abbrev c2 : Codec (List ℕ × List ℕ)
-c2 = dep c1 (λ a. raw 32)
+got-descriptor-digest : (c : tie.After-descriptor-digest)
+    → to-descriptor-digest .dec (start-descriptor-digest (called-descriptor-digest c) .args .bytes .now) ≡ ok (values-to-descriptor-digest c) (size-to-descriptor-digest c)
+got-descriptor-digest c =
+    dep-ok _ _ _ (got-key-digest (after-key-digest (called-descriptor-digest c)))
+    (told (zeros 32) _
+    (called-descriptor-digest c .read-array322 .ensures ∙ ap (λ l. outcome (zeros 32) (raw 32 .dec l)) (rest (start-descriptor-digest (called-descriptor-digest c) .args .bytes .now) _))
+    (c .before .before .descriptor-digest-to .given .1))
 
-abbrev c3 : Codec ((List ℕ × List ℕ) × ℕ)
-c3 = dep c2 (λ a. uint 8)
-
-got-1 : (c : tie.After-key-digest) → c1 .dec (c .before .before .before .before .before .before .args .bytes .now) ≡ ok (c .before .before .before .before .read-array32 .result .value) (c .before .before .key-digest-to .given .0 .0)
-got-1 c = told (zeros 32) _ (c .before .before .before .before .read-array32 .ensures) (c .before .before .key-digest-to .given .1)
-
-got-2 : (c : tie.After-descriptor-digest) → c2 .dec (c .before .before .before .before .before .before .before .before .before .before .before .before .args .bytes .now) ≡ ok (c .before .before .before .before .before .before .before .before .before .before .read-array32 .result .value, c .before .before .before .before .read-array322 .result .value) (c .before .before .before .before .before .before .before .before .key-digest-to .given .0 .0 + c .before .before .descriptor-digest-to .given .0 .0)
-got-2 c = dep-ok _ _ _ (got-1 (c .before .before .before .before .before .before)) (told (zeros 32) _ (c .before .before .before .before .read-array322 .ensures ∙ ap (λ l. outcome (zeros 32) ((raw 32) .dec l)) (rest (c .before .before .before .before .before .before .before .before .before .before .before .before .args .bytes .now) _)) (c .before .before .descriptor-digest-to .given .1))
-
-got-3 : (c : tie.After-known-told3) → c3 .dec (c .before .before .before .before .before .before .before .before .before .before .before .before .before .before .before .before .before .args .bytes .now) ≡ ok ((c .before .before .before .before .before .before .before .before .before .before .before .before .before .before .before .read-array32 .result .value, c .before .before .before .before .before .before .before .before .before .read-array322 .result .value), c .before .admission-generation-read .given .0 .0) ((c .before .before .before .before .before .before .before .before .before .before .before .before .before .key-digest-to .given .0 .0 + c .before .before .before .before .before .before .before .descriptor-digest-to .given .0 .0) + c .before .admission-generation-read .given .0 .1 .0)
-got-3 c = dep-ok _ _ _ (got-2 (c .before .before .before .before .before)) (got u64Read (c .before .before .before .read-u64 .ensures ∙ ap ((uint 8) .dec) (rest (c .before .before .before .before .before .before .before .before .before .before .before .before .before .before .before .before .before .args .bytes .now) _)) (c .before .admission-generation-read .given .1))
+got-admission-generation : (c : tie.After-known-told3)
+    → to-admission-generation .dec (start-admission-generation (called-admission-generation c) .args .bytes .now) ≡ ok (values-to-admission-generation c) (size-to-admission-generation c)
+got-admission-generation c =
+    dep-ok _ _ _ (got-descriptor-digest (after-descriptor-digest (called-admission-generation c)))
+    (got u64Read
+    (called-admission-generation c .read-u64 .ensures ∙ ap (uint 8 .dec) (rest (start-admission-generation (called-admission-generation c) .args .bytes .now) _))
+    (c .before .admission-generation-read .given .1))
 
 read-array32-requires : tie.Need-read-array32-requires
 read-array32-requires c κs = search needs
@@ -54,13 +132,13 @@ returns : tie.Need-returns
 unfolding binding
 returns c =
     outcome-no _ (c .refused-binding .ensures ∙ ap (λ a. outcome blankBinding (no (numberOf a))) (c .before .why .ensures ∙ ap whyOf (c .before .before .enum-told .given .1)))
-    (via-no _ _ _ _ _ (dep-no-1 _ _ _ (dep-no-1 _ _ _ (told-not (zeros 32) _ (c .before .before .before .before .read-array32 .ensures) (c .before .before .enum-told .given .1)))))
+    (via-no _ _ _ _ _ (dep-no-1 _ _ _ (dep-no-1 _ _ _ (told-not (zeros 32) _ (refused-key-digest c .read-array32 .ensures) (c .before .before .enum-told .given .1)))))
 
 sub-read-array32 : tie.Need-sub-read-array32
-sub-read-array32 c = c1 .within _ (got-1 c)
+sub-read-array32 c = to-key-digest .within _ (got-key-digest c)
 
 part-read-array32-start : tie.Need-part-read-array32-start
-part-read-array32-start c = c1 .within _ (got-1 c)
+part-read-array32-start c = to-key-digest .within _ (got-key-digest c)
 
 part-read-array32-end : tie.Need-part-read-array32-end
 part-read-array32-end c = search needs
@@ -84,16 +162,19 @@ returns-2 : tie.Need-returns-2
 unfolding binding
 returns-2 c =
     outcome-no _ (c .refused-binding2 .ensures ∙ ap (λ a. outcome blankBinding (no (numberOf a))) (c .before .why2 .ensures ∙ ap whyOf (c .before .before .enum-told2 .given .1)))
-    (via-no _ _ _ _ _ (dep-no-1 _ _ _ (dep-no-2 _ _ _ (got-1 (c .before .before .before .before .before .before)) (told-not (zeros 32) _ (c .before .before .before .before .read-array322 .ensures ∙ ap (λ l. outcome (zeros 32) ((raw 32) .dec l)) (rest (c .before .before .before .before .before .before .before .before .before .before .before .before .args .bytes .now) _)) (c .before .before .enum-told2 .given .1)))))
+    (via-no _ _ _ _ _ (dep-no-1 _ _ _ (dep-no-2 _ _ _ (got-key-digest (after-key-digest (refused-descriptor-digest c)))
+    (told-not (zeros 32) _
+    (refused-descriptor-digest c .read-array322 .ensures ∙ ap (λ l. outcome (zeros 32) (raw 32 .dec l)) (rest (start-descriptor-digest (refused-descriptor-digest c) .args .bytes .now) _))
+    (c .before .before .enum-told2 .given .1)))))
 
 add-at : tie.Need-add-at
-add-at c = record { fits = lt-of-le-of-lt (c2 .within _ (got-2 c)) (c .before .before .before .before .before .before .before .before .before .before .before .before .good .0 .0) }
+add-at c = record { fits = lt-of-le-of-lt (to-descriptor-digest .within _ (got-descriptor-digest c)) (start-descriptor-digest (called-descriptor-digest c) .good .0 .0) }
 
 sub-read-u64 : tie.Need-sub-read-u64
-sub-read-u64 c = c2 .within _ (got-2 c)
+sub-read-u64 c = to-descriptor-digest .within _ (got-descriptor-digest c)
 
 part-read-u64-start : tie.Need-part-read-u64-start
-part-read-u64-start c = c2 .within _ (got-2 c)
+part-read-u64-start c = to-descriptor-digest .within _ (got-descriptor-digest c)
 
 part-read-u64-end : tie.Need-part-read-u64-end
 part-read-u64-end c = search needs
@@ -117,14 +198,17 @@ returns-3 : tie.Need-returns-3
 unfolding binding
 returns-3 c =
     outcome-no _ (c .refused-binding3 .ensures ∙ ap (λ a. outcome blankBinding (no (numberOf a))) (c .before .why-u64 .ensures ∙ ap whyU64 (c .before .before .enum-told3 .given .1)))
-    (via-no _ _ _ _ _ (dep-no-2 _ _ _ (got-2 (c .before .before .before .before .before .before)) (got u64Read (c .before .before .before .before .read-u64 .ensures ∙ ap ((uint 8) .dec) (rest (c .before .before .before .before .before .before .before .before .before .before .before .before .before .before .before .before .before .before .args .bytes .now) _)) (c .before .before .enum-told3 .given .1))))
+    (via-no _ _ _ _ _ (dep-no-2 _ _ _ (got-descriptor-digest (after-descriptor-digest (refused-admission-generation c)))
+    (got u64Read
+    (refused-admission-generation c .read-u64 .ensures ∙ ap (uint 8 .dec) (rest (start-admission-generation (refused-admission-generation c) .args .bytes .now) _))
+    (c .before .before .enum-told3 .given .1))))
 
 add-t16 : tie.Need-add-t16
-add-t16 c = record { fits = lt-of-le-of-lt (c3 .within _ (got-3 (c))) (c .before .before .before .before .before .before .before .before .before .before .before .before .before .before .before .before .before .good .0 .0) }
+add-t16 c = record { fits = lt-of-le-of-lt (to-admission-generation .within _ (got-admission-generation c)) (start-admission-generation (called-admission-generation c) .good .0 .0) }
 
 returns-4 : tie.Need-returns-4
 unfolding binding
-returns-4 c = outcome-ok _ (via-ok _ _ _ _ _ (got-3 (c)))
+returns-4 c = outcome-ok _ (via-ok _ _ _ _ _ (got-admission-generation c))
 
 pub read-binding-spec : {M : Type 1} → statement M
 read-binding-spec =

@@ -18,27 +18,109 @@ use Rattle.records.specs.declared.records.VoterSlotMember.{VoterSlotMember}
 use Rattle.reader.proofs.decode.read_configuration.Statement.{statement}
 use Rattle.reader.proofs.decode.read_configuration.Tie as tie
 
+-- the format up to each field
+abbrev to-epoch : Codec (ℕ)
+to-epoch = epoch
+
+abbrev to-count : Codec (ℕ × ℕ)
+to-count = dep to-epoch (λ a. slotCount)
+
+abbrev to-members : Codec ((ℕ × ℕ) × List VoterSlotMember)
+to-members = dep to-count (λ a. members (a .1))
+
+-- the call that reads each field, from after the field and from after its refusal; the place after a field, from the call that reads the next
+abbrev called-epoch : tie.After-known-told → tie.After-read-epoch
+called-epoch c = c .before .before .before
+
+abbrev refused-epoch : tie.After-refused-configuration → tie.After-read-epoch
+refused-epoch c = c .before .before .before .before
+
+abbrev after-epoch : tie.After-read-count → tie.After-known-told
+after-epoch c = c .before .before
+
+abbrev called-count : tie.After-known-told2 → tie.After-read-count
+called-count c = c .before .before .before
+
+abbrev refused-count : tie.After-refused-configuration2 → tie.After-read-count
+refused-count c = c .before .before .before .before
+
+abbrev after-count : tie.After-read-members → tie.After-known-told2
+after-count c = c .before .before
+
+abbrev called-members : tie.After-members → tie.After-read-members
+called-members c = c .before .before .before .before
+
+abbrev refused-members : tie.After-refused-configuration3 → tie.After-read-members
+refused-members c = c .before .before .before .before
+
+-- where the function began, from the call that reads each field
+abbrev start-epoch : tie.After-read-epoch → tie.Start
+start-epoch c = c .before .before
+
+abbrev start-count : tie.After-read-count → tie.Start
+start-count c = start-epoch (called-epoch (after-epoch c))
+
+abbrev start-members : tie.After-read-members → tie.Start
+start-members c = start-count (called-count (after-count c))
+
+-- the value of each field and its size; the values up to it and their size
+abbrev epoch-value : tie.After-known-told → ℕ
+epoch-value c = c .before .epoch-read .given .0 .0
+
+abbrev epoch-size : tie.After-known-told → ℕ
+epoch-size c = c .before .epoch-read .given .0 .1 .0
+
+abbrev count-value : tie.After-known-told2 → ℕ
+count-value c = c .before .count-read .given .0 .0
+
+abbrev count-size : tie.After-known-told2 → ℕ
+count-size c = c .before .count-read .given .0 .1 .0
+
+abbrev values-to-count : tie.After-known-told2 → ℕ × ℕ
+values-to-count c = (epoch-value (after-epoch (called-count c)), count-value c)
+
+abbrev size-to-count : tie.After-known-told2 → ℕ
+size-to-count c = epoch-size (after-epoch (called-count c)) + count-size c
+
+abbrev members-value : tie.After-members → List VoterSlotMember
+members-value c = called-members c .read-members .result .value
+
+abbrev members-size : tie.After-members → ℕ
+members-size c = c .before .before .members-to .given .0 .0
+
+abbrev values-to-members : tie.After-members → (ℕ × ℕ) × List VoterSlotMember
+values-to-members c = (values-to-count (after-count (called-members c)), members-value c)
+
+abbrev size-to-members : tie.After-members → ℕ
+size-to-members c = size-to-count (after-count (called-members c)) + members-size c
+
 -- after each field: what was read so far, and up to where
-abbrev c1 : Codec (ℕ)
-c1 = epoch
+got-epoch : (c : tie.After-known-told)
+    → to-epoch .dec (start-epoch (called-epoch c) .args .bytes .now) ≡ ok (epoch-value c) (epoch-size c)
+got-epoch c = got u64Read (called-epoch c .read-epoch .ensures) (c .before .epoch-read .given .1)
 
-abbrev c2 : Codec (ℕ × ℕ)
-c2 = dep c1 (λ a. slotCount)
+got-count : (c : tie.After-known-told2)
+    → to-count .dec (start-count (called-count c) .args .bytes .now) ≡ ok (values-to-count c) (size-to-count c)
+got-count c =
+    dep-ok _ _ _ (got-epoch (after-epoch (called-count c)))
+    (got u8Read
+    (called-count c .read-count .ensures ∙ ap (slotCount .dec) (rest (start-count (called-count c) .args .bytes .now) _))
+    (c .before .count-read .given .1))
 
-abbrev c3 : Codec ((ℕ × ℕ) × List VoterSlotMember)
-c3 = dep c2 (λ a. members (a .1))
+got-members : (c : tie.After-members)
+    → to-members .dec (start-members (called-members c) .args .bytes .now) ≡ ok (values-to-members c) (size-to-members c)
+got-members c =
+    dep-ok _ _ _ (got-count (after-count (called-members c)))
+    (told blankVoterSlotMembers _
+    (called-members c .read-members .ensures ∙ ap (λ l. outcome blankVoterSlotMembers (members (count-value (after-count (called-members c))) .dec l)) (rest (start-members (called-members c) .args .bytes .now) _))
+    (c .before .before .members-to .given .1))
 
-got-1 : (c : tie.After-known-told) → c1 .dec (c .before .before .before .before .before .args .bytes .now) ≡ ok (c .before .epoch-read .given .0 .0) (c .before .epoch-read .given .0 .1 .0)
-got-1 c = got u64Read (c .before .before .before .read-epoch .ensures) (c .before .epoch-read .given .1)
-
-got-2 : (c : tie.After-known-told2) → c2 .dec (c .before .before .before .before .before .before .before .before .before .before .args .bytes .now) ≡ ok (c .before .before .before .before .before .before .epoch-read .given .0 .0, c .before .count-read .given .0 .0) (c .before .before .before .before .before .before .epoch-read .given .0 .1 .0 + c .before .count-read .given .0 .1 .0)
-got-2 c = dep-ok _ _ _ (got-1 (c .before .before .before .before .before)) (got u8Read (c .before .before .before .read-count .ensures ∙ ap (slotCount .dec) (rest (c .before .before .before .before .before .before .before .before .before .before .args .bytes .now) _)) (c .before .count-read .given .1))
-
-got-3 : (c : tie.After-members) → c3 .dec (c .before .before .before .before .before .before .before .before .before .before .before .before .before .before .before .before .args .bytes .now) ≡ ok ((c .before .before .before .before .before .before .before .before .before .before .before .before .epoch-read .given .0 .0, c .before .before .before .before .before .before .before .count-read .given .0 .0), c .before .before .before .before .read-members .result .value) ((c .before .before .before .before .before .before .before .before .before .before .before .before .epoch-read .given .0 .1 .0 + c .before .before .before .before .before .before .before .count-read .given .0 .1 .0) + c .before .before .members-to .given .0 .0)
-got-3 c = dep-ok _ _ _ (got-2 (c .before .before .before .before .before .before)) (told blankVoterSlotMembers _ (c .before .before .before .before .read-members .ensures ∙ ap (λ l. outcome blankVoterSlotMembers ((members (c .before .before .before .before .before .before .before .count-read .given .0 .0)) .dec l)) (rest (c .before .before .before .before .before .before .before .before .before .before .before .before .before .before .before .before .args .bytes .now) _)) (c .before .before .members-to .given .1))
-
-counted : (c : tie.After-known-told2) → slotCount .dec (drop (c .before .before .before .before .before .before .epoch-read .given .0 .1 .0) (c .before .before .before .before .before .before .before .before .before .before .args .bytes .now)) ≡ ok (c .before .count-read .given .0 .0) (c .before .count-read .given .0 .1 .0)
-counted c = got u8Read (c .before .before .before .read-count .ensures ∙ ap (slotCount .dec) (rest (c .before .before .before .before .before .before .before .before .before .before .args .bytes .now) _)) (c .before .count-read .given .1)
+counted : (c : tie.After-known-told2)
+    → slotCount .dec (drop (epoch-size (after-epoch (called-count c))) (start-count (called-count c) .args .bytes .now)) ≡ ok (count-value c) (count-size c)
+counted c =
+    got u8Read
+    (called-count c .read-count .ensures ∙ ap (slotCount .dec) (rest (start-count (called-count c) .args .bytes .now) _))
+    (c .before .count-read .given .1)
 
 read-epoch-requires : tie.Need-read-epoch-requires
 read-epoch-requires c κs = search needs
@@ -59,13 +141,13 @@ returns : tie.Need-returns
 unfolding configuration
 returns c =
     outcome-no _ (c .refused-configuration .ensures ∙ ap (λ a. outcome blankVoterConfiguration (no (numberOf a))) (c .before .why-u64 .ensures ∙ ap whyU64 (c .before .before .enum-told .given .1)))
-    (via-no _ _ _ _ _ (dep-no-1 _ _ _ (dep-no-1 _ _ _ (got u64Read (c .before .before .before .before .read-epoch .ensures) (c .before .before .enum-told .given .1)))))
+    (via-no _ _ _ _ _ (dep-no-1 _ _ _ (dep-no-1 _ _ _ (got u64Read (refused-epoch c .read-epoch .ensures) (c .before .before .enum-told .given .1)))))
 
 sub-read-count : tie.Need-sub-read-count
-sub-read-count c = c1 .within _ (got-1 c)
+sub-read-count c = to-epoch .within _ (got-epoch c)
 
 part-read-count-start : tie.Need-part-read-count-start
-part-read-count-start c = c1 .within _ (got-1 c)
+part-read-count-start c = to-epoch .within _ (got-epoch c)
 
 part-read-count-end : tie.Need-part-read-count-end
 part-read-count-end c = search needs
@@ -89,16 +171,19 @@ returns-2 : tie.Need-returns-2
 unfolding configuration
 returns-2 c =
     outcome-no _ (c .refused-configuration2 .ensures ∙ ap (λ a. outcome blankVoterConfiguration (no (numberOf a))) (c .before .why-u8 .ensures ∙ ap whyU8 (c .before .before .enum-told2 .given .1)))
-    (via-no _ _ _ _ _ (dep-no-1 _ _ _ (dep-no-2 _ _ _ (got-1 (c .before .before .before .before .before .before)) (got u8Read (c .before .before .before .before .read-count .ensures ∙ ap (slotCount .dec) (rest (c .before .before .before .before .before .before .before .before .before .before .before .args .bytes .now) _)) (c .before .before .enum-told2 .given .1)))))
+    (via-no _ _ _ _ _ (dep-no-1 _ _ _ (dep-no-2 _ _ _ (got-epoch (after-epoch (refused-count c)))
+    (got u8Read
+    (refused-count c .read-count .ensures ∙ ap (slotCount .dec) (rest (start-count (refused-count c) .args .bytes .now) _))
+    (c .before .before .enum-told2 .given .1)))))
 
 add-at : tie.Need-add-at
-add-at c = record { fits = lt-of-le-of-lt (c2 .within _ (got-2 c)) (c .before .before .before .before .before .before .before .before .before .before .good .0 .0) }
+add-at c = record { fits = lt-of-le-of-lt (to-count .within _ (got-count c)) (start-count (called-count c) .good .0 .0) }
 
 sub-read-members : tie.Need-sub-read-members
-sub-read-members c = c2 .within _ (got-2 c)
+sub-read-members c = to-count .within _ (got-count c)
 
 part-read-members-start : tie.Need-part-read-members-start
-part-read-members-start c = c2 .within _ (got-2 c)
+part-read-members-start c = to-count .within _ (got-count c)
 
 part-read-members-end : tie.Need-part-read-members-end
 part-read-members-end c = search needs
@@ -125,17 +210,20 @@ returns-3 : tie.Need-returns-3
 unfolding configuration
 returns-3 c =
     outcome-no _ (c .refused-configuration3 .ensures ∙ ap (λ a. outcome blankVoterConfiguration (no (numberOf a))) (c .before .why .ensures ∙ ap whyOf (c .before .before .enum-told3 .given .1)))
-    (via-no _ _ _ _ _ (dep-no-2 _ _ _ (got-2 (c .before .before .before .before .before .before)) (told-not blankVoterSlotMembers _ (c .before .before .before .before .read-members .ensures ∙ ap (λ l. outcome blankVoterSlotMembers ((members (c .before .before .before .before .before .before .before .count-read .given .0 .0)) .dec l)) (rest (c .before .before .before .before .before .before .before .before .before .before .before .before .before .before .before .before .args .bytes .now) _)) (c .before .before .enum-told3 .given .1))))
+    (via-no _ _ _ _ _ (dep-no-2 _ _ _ (got-count (after-count (refused-members c)))
+    (told-not blankVoterSlotMembers _
+    (refused-members c .read-members .ensures ∙ ap (λ l. outcome blankVoterSlotMembers (members (count-value (after-count (refused-members c))) .dec l)) (rest (start-members (refused-members c) .args .bytes .now) _))
+    (c .before .before .enum-told3 .given .1))))
 
 add-t15 : tie.Need-add-t15
-add-t15 c = record { fits = lt-of-le-of-lt (c3 .within _ (got-3 (c))) (c .before .before .before .before .before .before .before .before .before .before .before .before .before .before .before .before .good .0 .0) }
+add-t15 c = record { fits = lt-of-le-of-lt (to-members .within _ (got-members c)) (start-members (called-members c) .good .0 .0) }
 
 cast-t22 : tie.Need-cast-t22
 cast-t22 c = search needs
 
 returns-4 : tie.Need-returns-4
 unfolding configuration
-returns-4 c = outcome-ok _ (via-ok _ _ _ _ _ (got-3 (c)))
+returns-4 c = outcome-ok _ (via-ok _ _ _ _ _ (got-members c))
 
 pub read-configuration-spec : {M : Type 1} → statement M
 read-configuration-spec =

@@ -1,5 +1,5 @@
 -- `reader::decode::read_evidence` meets its contract: field by field. Written by scripts/readers.py. Assumes nothing.
-use Prim.Native.Nat.{_+_}
+use Prim.Native.Nat.{ℕ, _+_}
 use mathlib.Core.Bool.{Bool}
 use mathlib.Core.Path.{_≡_, sym, ap, _∙_}
 use native.Mathlib.Nat.{lt-of-le-of-lt}
@@ -19,30 +19,137 @@ use Rattle.layout.specs.declared.parts.ThreeCuts.{ThreeCuts}
 use Rattle.reader.proofs.decode.read_evidence.Statement.{statement}
 use Rattle.reader.proofs.decode.read_evidence.Tie as tie
 
+-- the format up to each field
+abbrev to-prepare : Codec (VoterSlotLogId)
+to-prepare = logId
+
+abbrev to-snapshot : Codec (VoterSlotLogId × (Bool × VoterSnapshotEvidence))
+to-snapshot = dep to-prepare (λ a. opt snapshot blankVoterSnapshotEvidence)
+
+abbrev to-early : Codec ((VoterSlotLogId × (Bool × VoterSnapshotEvidence)) × ThreeCuts)
+to-early = dep to-snapshot (λ a. threeCuts)
+
+abbrev to-late : Codec (((VoterSlotLogId × (Bool × VoterSnapshotEvidence)) × ThreeCuts) × ThreeCuts)
+to-late = dep to-early (λ a. threeCuts)
+
+-- the call that reads each field, from after the field and from after its refusal; the place after a field, from the call that reads the next
+abbrev called-prepare : tie.After-known-told → tie.After-read-log-id
+called-prepare c = c .before .before .before
+
+abbrev refused-prepare : tie.After-refused-evidence → tie.After-read-log-id
+refused-prepare c = c .before .before .before .before
+
+abbrev after-prepare : tie.After-read-optional-snapshot → tie.After-known-told
+after-prepare c = c .before .before
+
+abbrev called-snapshot : tie.After-snapshot → tie.After-read-optional-snapshot
+called-snapshot c = c .before .before .before .before
+
+abbrev refused-snapshot : tie.After-refused-evidence2 → tie.After-read-optional-snapshot
+refused-snapshot c = c .before .before .before .before
+
+abbrev after-snapshot : tie.After-read-three-cuts → tie.After-snapshot
+after-snapshot c = c .before .before
+
+abbrev called-early : tie.After-known-told3 → tie.After-read-three-cuts
+called-early c = c .before .before .before
+
+abbrev refused-early : tie.After-refused-evidence3 → tie.After-read-three-cuts
+refused-early c = c .before .before .before .before
+
+abbrev after-early : tie.After-read-three-cuts2 → tie.After-known-told3
+after-early c = c .before .before
+
+abbrev called-late : tie.After-known-told4 → tie.After-read-three-cuts2
+called-late c = c .before .before .before
+
+abbrev refused-late : tie.After-refused-evidence4 → tie.After-read-three-cuts2
+refused-late c = c .before .before .before .before
+
+-- where the function began, from the call that reads each field
+abbrev start-prepare : tie.After-read-log-id → tie.Start
+start-prepare c = c .before .before
+
+abbrev start-snapshot : tie.After-read-optional-snapshot → tie.Start
+start-snapshot c = start-prepare (called-prepare (after-prepare c))
+
+abbrev start-early : tie.After-read-three-cuts → tie.Start
+start-early c = start-snapshot (called-snapshot (after-snapshot c))
+
+abbrev start-late : tie.After-read-three-cuts2 → tie.Start
+start-late c = start-early (called-early (after-early c))
+
+-- the value of each field and its size; the values up to it and their size
+abbrev prepare-value : tie.After-known-told → VoterSlotLogId
+prepare-value c = c .before .prepare-read .given .0 .0
+
+abbrev prepare-size : tie.After-known-told → ℕ
+prepare-size c = c .before .prepare-read .given .0 .1 .0
+
+abbrev snapshot-value : tie.After-snapshot → Bool × VoterSnapshotEvidence
+snapshot-value c = (called-snapshot c .read-optional-snapshot .result .«is_some», called-snapshot c .read-optional-snapshot .result .value)
+
+abbrev snapshot-size : tie.After-snapshot → ℕ
+snapshot-size c = c .before .before .snapshot-to .given .0 .0
+
+abbrev values-to-snapshot : tie.After-snapshot → VoterSlotLogId × (Bool × VoterSnapshotEvidence)
+values-to-snapshot c = (prepare-value (after-prepare (called-snapshot c)), snapshot-value c)
+
+abbrev size-to-snapshot : tie.After-snapshot → ℕ
+size-to-snapshot c = prepare-size (after-prepare (called-snapshot c)) + snapshot-size c
+
+abbrev early-value : tie.After-known-told3 → ThreeCuts
+early-value c = c .before .early-read .given .0 .0
+
+abbrev early-size : tie.After-known-told3 → ℕ
+early-size c = c .before .early-read .given .0 .1 .0
+
+abbrev values-to-early : tie.After-known-told3 → (VoterSlotLogId × (Bool × VoterSnapshotEvidence)) × ThreeCuts
+values-to-early c = (values-to-snapshot (after-snapshot (called-early c)), early-value c)
+
+abbrev size-to-early : tie.After-known-told3 → ℕ
+size-to-early c = size-to-snapshot (after-snapshot (called-early c)) + early-size c
+
+abbrev late-value : tie.After-known-told4 → ThreeCuts
+late-value c = c .before .late-read .given .0 .0
+
+abbrev late-size : tie.After-known-told4 → ℕ
+late-size c = c .before .late-read .given .0 .1 .0
+
+abbrev values-to-late : tie.After-known-told4 → ((VoterSlotLogId × (Bool × VoterSnapshotEvidence)) × ThreeCuts) × ThreeCuts
+values-to-late c = (values-to-early (after-early (called-late c)), late-value c)
+
+abbrev size-to-late : tie.After-known-told4 → ℕ
+size-to-late c = size-to-early (after-early (called-late c)) + late-size c
+
 -- after each field: what was read so far, and up to where
-abbrev c1 : Codec (VoterSlotLogId)
-c1 = logId
+got-prepare : (c : tie.After-known-told)
+    → to-prepare .dec (start-prepare (called-prepare c) .args .bytes .now) ≡ ok (prepare-value c) (prepare-size c)
+got-prepare c = got logIdRead (called-prepare c .read-log-id .ensures) (c .before .prepare-read .given .1)
 
-abbrev c2 : Codec (VoterSlotLogId × (Bool × VoterSnapshotEvidence))
-c2 = dep c1 (λ a. opt snapshot blankVoterSnapshotEvidence)
+got-snapshot : (c : tie.After-snapshot)
+    → to-snapshot .dec (start-snapshot (called-snapshot c) .args .bytes .now) ≡ ok (values-to-snapshot c) (size-to-snapshot c)
+got-snapshot c =
+    dep-ok _ _ _ (got-prepare (after-prepare (called-snapshot c)))
+    (told absentSnapshot _
+    (called-snapshot c .read-optional-snapshot .ensures ∙ ap (λ l. outcome absentSnapshot (opt snapshot blankVoterSnapshotEvidence .dec l)) (rest (start-snapshot (called-snapshot c) .args .bytes .now) _))
+    (c .before .before .snapshot-to .given .1))
 
-abbrev c3 : Codec ((VoterSlotLogId × (Bool × VoterSnapshotEvidence)) × ThreeCuts)
-c3 = dep c2 (λ a. threeCuts)
+got-early : (c : tie.After-known-told3)
+    → to-early .dec (start-early (called-early c) .args .bytes .now) ≡ ok (values-to-early c) (size-to-early c)
+got-early c =
+    dep-ok _ _ _ (got-snapshot (after-snapshot (called-early c)))
+    (got threeCutsRead
+    (called-early c .read-three-cuts .ensures ∙ ap (threeCuts .dec) (rest (start-early (called-early c) .args .bytes .now) _))
+    (c .before .early-read .given .1))
 
-abbrev c4 : Codec (((VoterSlotLogId × (Bool × VoterSnapshotEvidence)) × ThreeCuts) × ThreeCuts)
-c4 = dep c3 (λ a. threeCuts)
-
-got-1 : (c : tie.After-known-told) → c1 .dec (c .before .before .before .before .before .args .bytes .now) ≡ ok (c .before .prepare-read .given .0 .0) (c .before .prepare-read .given .0 .1 .0)
-got-1 c = got logIdRead (c .before .before .before .read-log-id .ensures) (c .before .prepare-read .given .1)
-
-got-2 : (c : tie.After-snapshot) → c2 .dec (c .before .before .before .before .before .before .before .before .before .before .before .args .bytes .now) ≡ ok (c .before .before .before .before .before .before .before .prepare-read .given .0 .0, (c .before .before .before .before .read-optional-snapshot .result .«is_some», c .before .before .before .before .read-optional-snapshot .result .value)) (c .before .before .before .before .before .before .before .prepare-read .given .0 .1 .0 + c .before .before .snapshot-to .given .0 .0)
-got-2 c = dep-ok _ _ _ (got-1 (c .before .before .before .before .before .before)) (told absentSnapshot _ (c .before .before .before .before .read-optional-snapshot .ensures ∙ ap (λ l. outcome absentSnapshot ((opt snapshot blankVoterSnapshotEvidence) .dec l)) (rest (c .before .before .before .before .before .before .before .before .before .before .before .args .bytes .now) _)) (c .before .before .snapshot-to .given .1))
-
-got-3 : (c : tie.After-known-told3) → c3 .dec (c .before .before .before .before .before .before .before .before .before .before .before .before .before .before .before .before .args .bytes .now) ≡ ok ((c .before .before .before .before .before .before .before .before .before .before .before .before .prepare-read .given .0 .0, (c .before .before .before .before .before .before .before .before .before .read-optional-snapshot .result .«is_some», c .before .before .before .before .before .before .before .before .before .read-optional-snapshot .result .value)), c .before .early-read .given .0 .0) ((c .before .before .before .before .before .before .before .before .before .before .before .before .prepare-read .given .0 .1 .0 + c .before .before .before .before .before .before .before .snapshot-to .given .0 .0) + c .before .early-read .given .0 .1 .0)
-got-3 c = dep-ok _ _ _ (got-2 (c .before .before .before .before .before)) (got threeCutsRead (c .before .before .before .read-three-cuts .ensures ∙ ap (threeCuts .dec) (rest (c .before .before .before .before .before .before .before .before .before .before .before .before .before .before .before .before .args .bytes .now) _)) (c .before .early-read .given .1))
-
-got-4 : (c : tie.After-known-told4) → c4 .dec (c .before .before .before .before .before .before .before .before .before .before .before .before .before .before .before .before .before .before .before .before .before .args .bytes .now) ≡ ok (((c .before .before .before .before .before .before .before .before .before .before .before .before .before .before .before .before .before .prepare-read .given .0 .0, (c .before .before .before .before .before .before .before .before .before .before .before .before .before .before .read-optional-snapshot .result .«is_some», c .before .before .before .before .before .before .before .before .before .before .before .before .before .before .read-optional-snapshot .result .value)), c .before .before .before .before .before .before .early-read .given .0 .0), c .before .late-read .given .0 .0) (((c .before .before .before .before .before .before .before .before .before .before .before .before .before .before .before .before .before .prepare-read .given .0 .1 .0 + c .before .before .before .before .before .before .before .before .before .before .before .before .snapshot-to .given .0 .0) + c .before .before .before .before .before .before .early-read .given .0 .1 .0) + c .before .late-read .given .0 .1 .0)
-got-4 c = dep-ok _ _ _ (got-3 (c .before .before .before .before .before)) (got threeCutsRead (c .before .before .before .read-three-cuts2 .ensures ∙ ap (threeCuts .dec) (rest (c .before .before .before .before .before .before .before .before .before .before .before .before .before .before .before .before .before .before .before .before .before .args .bytes .now) _)) (c .before .late-read .given .1))
+got-late : (c : tie.After-known-told4)
+    → to-late .dec (start-late (called-late c) .args .bytes .now) ≡ ok (values-to-late c) (size-to-late c)
+got-late c =
+    dep-ok _ _ _ (got-early (after-early (called-late c)))
+    (got threeCutsRead
+    (called-late c .read-three-cuts2 .ensures ∙ ap (threeCuts .dec) (rest (start-late (called-late c) .args .bytes .now) _))
+    (c .before .late-read .given .1))
 
 read-log-id-requires : tie.Need-read-log-id-requires
 read-log-id-requires c κs = search needs
@@ -63,13 +170,13 @@ returns : tie.Need-returns
 unfolding evidence
 returns c =
     outcome-no _ (c .refused-evidence .ensures ∙ ap (λ a. outcome blankVoterReplacementEvidence (no (numberOf a))) (c .before .why-log-id .ensures ∙ ap whyLogId (c .before .before .enum-told .given .1)))
-    (via-no _ _ _ _ _ (dep-no-1 _ _ _ (dep-no-1 _ _ _ (dep-no-1 _ _ _ (got logIdRead (c .before .before .before .before .read-log-id .ensures) (c .before .before .enum-told .given .1))))))
+    (via-no _ _ _ _ _ (dep-no-1 _ _ _ (dep-no-1 _ _ _ (dep-no-1 _ _ _ (got logIdRead (refused-prepare c .read-log-id .ensures) (c .before .before .enum-told .given .1))))))
 
 sub-read-optional-snapshot : tie.Need-sub-read-optional-snapshot
-sub-read-optional-snapshot c = c1 .within _ (got-1 c)
+sub-read-optional-snapshot c = to-prepare .within _ (got-prepare c)
 
 part-read-optional-snapshot-start : tie.Need-part-read-optional-snapshot-start
-part-read-optional-snapshot-start c = c1 .within _ (got-1 c)
+part-read-optional-snapshot-start c = to-prepare .within _ (got-prepare c)
 
 part-read-optional-snapshot-end : tie.Need-part-read-optional-snapshot-end
 part-read-optional-snapshot-end c = search needs
@@ -93,16 +200,19 @@ returns-2 : tie.Need-returns-2
 unfolding evidence
 returns-2 c =
     outcome-no _ (c .refused-evidence2 .ensures ∙ ap (λ a. outcome blankVoterReplacementEvidence (no (numberOf a))) (c .before .why .ensures ∙ ap whyOf (c .before .before .enum-told2 .given .1)))
-    (via-no _ _ _ _ _ (dep-no-1 _ _ _ (dep-no-1 _ _ _ (dep-no-2 _ _ _ (got-1 (c .before .before .before .before .before .before)) (told-not absentSnapshot _ (c .before .before .before .before .read-optional-snapshot .ensures ∙ ap (λ l. outcome absentSnapshot ((opt snapshot blankVoterSnapshotEvidence) .dec l)) (rest (c .before .before .before .before .before .before .before .before .before .before .before .args .bytes .now) _)) (c .before .before .enum-told2 .given .1))))))
+    (via-no _ _ _ _ _ (dep-no-1 _ _ _ (dep-no-1 _ _ _ (dep-no-2 _ _ _ (got-prepare (after-prepare (refused-snapshot c)))
+    (told-not absentSnapshot _
+    (refused-snapshot c .read-optional-snapshot .ensures ∙ ap (λ l. outcome absentSnapshot (opt snapshot blankVoterSnapshotEvidence .dec l)) (rest (start-snapshot (refused-snapshot c) .args .bytes .now) _))
+    (c .before .before .enum-told2 .given .1))))))
 
 add-at : tie.Need-add-at
-add-at c = record { fits = lt-of-le-of-lt (c2 .within _ (got-2 c)) (c .before .before .before .before .before .before .before .before .before .before .before .good .0 .0) }
+add-at c = record { fits = lt-of-le-of-lt (to-snapshot .within _ (got-snapshot c)) (start-snapshot (called-snapshot c) .good .0 .0) }
 
 sub-read-three-cuts : tie.Need-sub-read-three-cuts
-sub-read-three-cuts c = c2 .within _ (got-2 c)
+sub-read-three-cuts c = to-snapshot .within _ (got-snapshot c)
 
 part-read-three-cuts-start : tie.Need-part-read-three-cuts-start
-part-read-three-cuts-start c = c2 .within _ (got-2 c)
+part-read-three-cuts-start c = to-snapshot .within _ (got-snapshot c)
 
 part-read-three-cuts-end : tie.Need-part-read-three-cuts-end
 part-read-three-cuts-end c = search needs
@@ -126,16 +236,19 @@ returns-3 : tie.Need-returns-3
 unfolding evidence
 returns-3 c =
     outcome-no _ (c .refused-evidence3 .ensures ∙ ap (λ a. outcome blankVoterReplacementEvidence (no (numberOf a))) (c .before .why-three-cuts .ensures ∙ ap whyThreeCuts (c .before .before .enum-told3 .given .1)))
-    (via-no _ _ _ _ _ (dep-no-1 _ _ _ (dep-no-2 _ _ _ (got-2 (c .before .before .before .before .before .before)) (got threeCutsRead (c .before .before .before .before .read-three-cuts .ensures ∙ ap (threeCuts .dec) (rest (c .before .before .before .before .before .before .before .before .before .before .before .before .before .before .before .before .before .args .bytes .now) _)) (c .before .before .enum-told3 .given .1)))))
+    (via-no _ _ _ _ _ (dep-no-1 _ _ _ (dep-no-2 _ _ _ (got-snapshot (after-snapshot (refused-early c)))
+    (got threeCutsRead
+    (refused-early c .read-three-cuts .ensures ∙ ap (threeCuts .dec) (rest (start-early (refused-early c) .args .bytes .now) _))
+    (c .before .before .enum-told3 .given .1)))))
 
 add-at-2 : tie.Need-add-at-2
-add-at-2 c = record { fits = lt-of-le-of-lt (c3 .within _ (got-3 c)) (c .before .before .before .before .before .before .before .before .before .before .before .before .before .before .before .before .good .0 .0) }
+add-at-2 c = record { fits = lt-of-le-of-lt (to-early .within _ (got-early c)) (start-early (called-early c) .good .0 .0) }
 
 sub-read-three-cuts-2 : tie.Need-sub-read-three-cuts-2
-sub-read-three-cuts-2 c = c3 .within _ (got-3 c)
+sub-read-three-cuts-2 c = to-early .within _ (got-early c)
 
 part-read-three-cuts-start-2 : tie.Need-part-read-three-cuts-start-2
-part-read-three-cuts-start-2 c = c3 .within _ (got-3 c)
+part-read-three-cuts-start-2 c = to-early .within _ (got-early c)
 
 part-read-three-cuts-end-2 : tie.Need-part-read-three-cuts-end-2
 part-read-three-cuts-end-2 c = search needs
@@ -159,17 +272,21 @@ returns-4 : tie.Need-returns-4
 unfolding evidence
 returns-4 c =
     outcome-no _ (c .refused-evidence4 .ensures ∙ ap (λ a. outcome blankVoterReplacementEvidence (no (numberOf a))) (c .before .why-three-cuts2 .ensures ∙ ap whyThreeCuts (c .before .before .enum-told4 .given .1)))
-    (via-no _ _ _ _ _ (dep-no-2 _ _ _ (got-3 (c .before .before .before .before .before .before)) (got threeCutsRead (c .before .before .before .before .read-three-cuts2 .ensures ∙ ap (threeCuts .dec) (rest (c .before .before .before .before .before .before .before .before .before .before .before .before .before .before .before .before .before .before .before .before .before .before .args .bytes .now) _)) (c .before .before .enum-told4 .given .1))))
+    (via-no _ _ _ _ _ (dep-no-2 _ _ _ (got-early (after-early (refused-late c)))
+    (got threeCutsRead
+    (refused-late c .read-three-cuts2 .ensures ∙ ap (threeCuts .dec) (rest (start-late (refused-late c) .args .bytes .now) _))
+    (c .before .before .enum-told4 .given .1))))
 
 add-t19 : tie.Need-add-t19
-add-t19 c = record { fits = lt-of-le-of-lt (c4 .within _ (got-4 (c))) (c .before .before .before .before .before .before .before .before .before .before .before .before .before .before .before .before .before .before .before .before .before .good .0 .0) }
+add-t19 c = record { fits = lt-of-le-of-lt (to-late .within _ (got-late c)) (start-late (called-late c) .good .0 .0) }
 
 evidence-of-requires : tie.Need-evidence-of-requires
 evidence-of-requires c κs = search needs
 
 returns-5 : tie.Need-returns-5
 unfolding evidence
-returns-5 c = outcome-ok _ (via-ok _ _ _ _ _ (got-4 (c .before)) ∙ ap (λ v. ok v (((c .before .before .before .before .before .before .before .before .before .before .before .before .before .before .before .before .before .before .prepare-read .given .0 .1 .0 + c .before .before .before .before .before .before .before .before .before .before .before .before .before .snapshot-to .given .0 .0) + c .before .before .before .before .before .before .before .early-read .given .0 .1 .0) + c .before .before .late-read .given .0 .1 .0)) (sym (c .evidence-of .ensures)))
+returns-5 c = outcome-ok _ (via-ok _ _ _ _ _ (got-late (c .before))
+    ∙ ap (λ v. ok v (size-to-late (c .before))) (sym (c .evidence-of .ensures)))
 
 pub read-evidence-spec : {M : Type 1} → statement M
 read-evidence-spec =

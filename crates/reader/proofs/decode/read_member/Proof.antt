@@ -1,5 +1,5 @@
 -- `reader::decode::read_member` meets its contract: field by field. Written by scripts/readers.py. Assumes nothing.
-use Prim.Native.Nat.{_+_}
+use Prim.Native.Nat.{ℕ, _+_}
 use mathlib.Core.Path.{_≡_, sym, ap, _∙_}
 use native.Mathlib.Nat.{lt-of-le-of-lt}
 use borrow.Author.Needs.{needs}
@@ -16,18 +16,67 @@ use Rattle.layout.specs.declared.parts.Binding.{Binding}
 use Rattle.reader.proofs.decode.read_member.Statement.{statement}
 use Rattle.reader.proofs.decode.read_member.Tie as tie
 
+-- the format up to each field
+abbrev to-identity : Codec (VoterSlotIdentity)
+to-identity = identity
+
+abbrev to-binding : Codec (VoterSlotIdentity × Binding)
+to-binding = dep to-identity (λ a. binding)
+
+-- the call that reads each field, from after the field and from after its refusal; the place after a field, from the call that reads the next
+abbrev called-identity : tie.After-known-told → tie.After-read-identity
+called-identity c = c .before .before .before
+
+abbrev refused-identity : tie.After-refused-member → tie.After-read-identity
+refused-identity c = c .before .before .before .before
+
+abbrev after-identity : tie.After-read-binding → tie.After-known-told
+after-identity c = c .before .before
+
+abbrev called-binding : tie.After-binding → tie.After-read-binding
+called-binding c = c .before .before .before .before
+
+abbrev refused-binding : tie.After-refused-member2 → tie.After-read-binding
+refused-binding c = c .before .before .before .before
+
+-- where the function began, from the call that reads each field
+abbrev start-identity : tie.After-read-identity → tie.Start
+start-identity c = c .before .before
+
+abbrev start-binding : tie.After-read-binding → tie.Start
+start-binding c = start-identity (called-identity (after-identity c))
+
+-- the value of each field and its size; the values up to it and their size
+abbrev identity-value : tie.After-known-told → VoterSlotIdentity
+identity-value c = c .before .identity-read .given .0 .0
+
+abbrev identity-size : tie.After-known-told → ℕ
+identity-size c = c .before .identity-read .given .0 .1 .0
+
+abbrev binding-value : tie.After-binding → Binding
+binding-value c = called-binding c .read-binding .result .value
+
+abbrev binding-size : tie.After-binding → ℕ
+binding-size c = c .before .before .binding-to .given .0 .0
+
+abbrev values-to-binding : tie.After-binding → VoterSlotIdentity × Binding
+values-to-binding c = (identity-value (after-identity (called-binding c)), binding-value c)
+
+abbrev size-to-binding : tie.After-binding → ℕ
+size-to-binding c = identity-size (after-identity (called-binding c)) + binding-size c
+
 -- after each field: what was read so far, and up to where
-abbrev c1 : Codec (VoterSlotIdentity)
-c1 = identity
+got-identity : (c : tie.After-known-told)
+    → to-identity .dec (start-identity (called-identity c) .args .bytes .now) ≡ ok (identity-value c) (identity-size c)
+got-identity c = got identityRead (called-identity c .read-identity .ensures) (c .before .identity-read .given .1)
 
-abbrev c2 : Codec (VoterSlotIdentity × Binding)
-c2 = dep c1 (λ a. binding)
-
-got-1 : (c : tie.After-known-told) → c1 .dec (c .before .before .before .before .before .args .bytes .now) ≡ ok (c .before .identity-read .given .0 .0) (c .before .identity-read .given .0 .1 .0)
-got-1 c = got identityRead (c .before .before .before .read-identity .ensures) (c .before .identity-read .given .1)
-
-got-2 : (c : tie.After-binding) → c2 .dec (c .before .before .before .before .before .before .before .before .before .before .before .args .bytes .now) ≡ ok (c .before .before .before .before .before .before .before .identity-read .given .0 .0, c .before .before .before .before .read-binding .result .value) (c .before .before .before .before .before .before .before .identity-read .given .0 .1 .0 + c .before .before .binding-to .given .0 .0)
-got-2 c = dep-ok _ _ _ (got-1 (c .before .before .before .before .before .before)) (told blankBinding _ (c .before .before .before .before .read-binding .ensures ∙ ap (λ l. outcome blankBinding (binding .dec l)) (rest (c .before .before .before .before .before .before .before .before .before .before .before .args .bytes .now) _)) (c .before .before .binding-to .given .1))
+got-binding : (c : tie.After-binding)
+    → to-binding .dec (start-binding (called-binding c) .args .bytes .now) ≡ ok (values-to-binding c) (size-to-binding c)
+got-binding c =
+    dep-ok _ _ _ (got-identity (after-identity (called-binding c)))
+    (told blankBinding _
+    (called-binding c .read-binding .ensures ∙ ap (λ l. outcome blankBinding (binding .dec l)) (rest (start-binding (called-binding c) .args .bytes .now) _))
+    (c .before .before .binding-to .given .1))
 
 read-identity-requires : tie.Need-read-identity-requires
 read-identity-requires c κs = search needs
@@ -48,13 +97,13 @@ returns : tie.Need-returns
 unfolding member
 returns c =
     outcome-no _ (c .refused-member .ensures ∙ ap (λ a. outcome blankVoterSlotMember (no (numberOf a))) (c .before .why-identity .ensures ∙ ap whyIdentity (c .before .before .enum-told .given .1)))
-    (via-no _ _ _ _ _ (dep-no-1 _ _ _ (got identityRead (c .before .before .before .before .read-identity .ensures) (c .before .before .enum-told .given .1))))
+    (via-no _ _ _ _ _ (dep-no-1 _ _ _ (got identityRead (refused-identity c .read-identity .ensures) (c .before .before .enum-told .given .1))))
 
 sub-read-binding : tie.Need-sub-read-binding
-sub-read-binding c = c1 .within _ (got-1 c)
+sub-read-binding c = to-identity .within _ (got-identity c)
 
 part-read-binding-start : tie.Need-part-read-binding-start
-part-read-binding-start c = c1 .within _ (got-1 c)
+part-read-binding-start c = to-identity .within _ (got-identity c)
 
 part-read-binding-end : tie.Need-part-read-binding-end
 part-read-binding-end c = search needs
@@ -78,17 +127,21 @@ returns-2 : tie.Need-returns-2
 unfolding member
 returns-2 c =
     outcome-no _ (c .refused-member2 .ensures ∙ ap (λ a. outcome blankVoterSlotMember (no (numberOf a))) (c .before .why .ensures ∙ ap whyOf (c .before .before .enum-told2 .given .1)))
-    (via-no _ _ _ _ _ (dep-no-2 _ _ _ (got-1 (c .before .before .before .before .before .before)) (told-not blankBinding _ (c .before .before .before .before .read-binding .ensures ∙ ap (λ l. outcome blankBinding (binding .dec l)) (rest (c .before .before .before .before .before .before .before .before .before .before .before .args .bytes .now) _)) (c .before .before .enum-told2 .given .1))))
+    (via-no _ _ _ _ _ (dep-no-2 _ _ _ (got-identity (after-identity (refused-binding c)))
+    (told-not blankBinding _
+    (refused-binding c .read-binding .ensures ∙ ap (λ l. outcome blankBinding (binding .dec l)) (rest (start-binding (refused-binding c) .args .bytes .now) _))
+    (c .before .before .enum-told2 .given .1))))
 
 add-t11 : tie.Need-add-t11
-add-t11 c = record { fits = lt-of-le-of-lt (c2 .within _ (got-2 (c))) (c .before .before .before .before .before .before .before .before .before .before .before .good .0 .0) }
+add-t11 c = record { fits = lt-of-le-of-lt (to-binding .within _ (got-binding c)) (start-binding (called-binding c) .good .0 .0) }
 
 member-of-requires : tie.Need-member-of-requires
 member-of-requires c κs = search needs
 
 returns-3 : tie.Need-returns-3
 unfolding member
-returns-3 c = outcome-ok _ (via-ok _ _ _ _ _ (got-2 (c .before)) ∙ ap (λ v. ok v (c .before .before .before .before .before .before .before .before .identity-read .given .0 .1 .0 + c .before .before .before .binding-to .given .0 .0)) (sym (c .member-of .ensures)))
+returns-3 c = outcome-ok _ (via-ok _ _ _ _ _ (got-binding (c .before))
+    ∙ ap (λ v. ok v (size-to-binding (c .before))) (sym (c .member-of .ensures)))
 
 pub read-member-spec : {M : Type 1} → statement M
 read-member-spec =

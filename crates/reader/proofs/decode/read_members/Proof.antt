@@ -26,9 +26,23 @@ Inv-loop bytes count value₀ at₀ i₀ value at i =
 abbrev μ-loop : tie.MeasureT-loop
 μ-loop bytes count value₀ at₀ i₀ value at i = count - i
 
+-- the start, from within the loop; the turn of the loop, from the call in it; that call, from after its answer and from after its refusal
+abbrev start : tie.In-loop Inv-loop μ-loop → tie.Start Inv-loop μ-loop
+start c = c .before .before .before .before
+
+abbrev turn : tie.After-read-member Inv-loop μ-loop → tie.In-loop Inv-loop μ-loop
+turn c = c .before .before
+
+abbrev called : tie.After-to Inv-loop μ-loop → tie.After-read-member Inv-loop μ-loop
+called c = c .before .before
+
+abbrev refused : tie.After-refused-members Inv-loop μ-loop → tie.After-read-member Inv-loop μ-loop
+refused c = c .before .before .before .before
+
 -- one more was read, after those before it
-one-more : (c : tie.After-to Inv-loop μ-loop) → member .dec (drop (c .before .before .before .before .before .loop .at) (c .before .before .before .before .before .before .before .before .args .bytes .now)) ≡ ok (c .before .before .read-member .result .value) (c .to .given .0 .0)
-one-more c = told blankVoterSlotMember _ (c .before .before .read-member .ensures ∙ ap (λ l. outcome blankVoterSlotMember (member .dec l)) (rest (c .before .before .before .before .before .before .before .before .args .bytes .now) (c .before .before .before .before .before .loop .at))) (c .to .given .1)
+one-more : (c : tie.After-to Inv-loop μ-loop)
+    → member .dec (drop (turn (called c) .before .loop .at) (start (turn (called c)) .args .bytes .now)) ≡ ok (called c .read-member .result .value) (c .to .given .0 .0)
+one-more c = told blankVoterSlotMember _ (called c .read-member .ensures ∙ ap (λ l. outcome blankVoterSlotMember (member .dec l)) (rest (start (turn (called c)) .args .bytes .now) (turn (called c) .before .loop .at))) (c .to .given .1)
 
 -- after those that were read there are blanks
 blanks-after : (i : ℕ) → drop i blankVoterSlotMembers ≡ replicate (9 - i) blankVoterSlotMember
@@ -69,10 +83,10 @@ refused-members-requires c κs = search needs
 returns : tie.Need-returns Inv-loop μ-loop
 unfolding members
 returns c =
-    let l = c .before .before .before .before .before .before .before .loop in
+    let l = turn (refused c) .before .loop in
     outcome-no blankVoterSlotMembers (c .refused-members .ensures ∙ ap (λ a. outcome blankVoterSlotMembers (no (numberOf a))) (c .before .why .ensures ∙ ap whyOf (c .before .before .enum-told .given .1)))
-    (padded-no _ _ _ _ _ _ (vec-refused _ _ _ _ _ (c .before .before .before .before .before .before .loop-test .taken) (l .inv .1)
-    (told-not blankVoterSlotMember _ (c .before .before .before .before .read-member .ensures ∙ ap (λ l. outcome blankVoterSlotMember (member .dec l)) (rest (c .before .before .before .before .before .before .before .before .before .before .args .bytes .now) (l .at))) (c .before .before .enum-told .given .1))))
+    (padded-no _ _ _ _ _ _ (vec-refused _ _ _ _ _ (turn (refused c) .loop-test .taken) (l .inv .1)
+    (told-not blankVoterSlotMember _ (refused c .read-member .ensures ∙ ap (λ l. outcome blankVoterSlotMember (member .dec l)) (rest (start (turn (refused c)) .args .bytes .now) (l .at))) (c .before .before .enum-told .given .1))))
 
 mul-value : tie.Need-mul-value Inv-loop μ-loop
 mul-value c = search needs
@@ -81,7 +95,9 @@ array-set-from-value : tie.Need-array-set-from-value Inv-loop μ-loop
 array-set-from-value c = search needs
 
 add-at : tie.Need-add-at Inv-loop μ-loop
-add-at c = record { fits = lt-of-le-of-lt (vec member blankVoterSlotMember _ .within _ (vec-next member blankVoterSlotMember _ _ (c .before .before .before .before .before .before .before .loop .inv .1) (one-more (c .before .before)))) (c .before .before .before .before .before .before .before .before .before .before .good .0 .0) }
+add-at c =
+    let t = turn (called (c .before .before)) in
+    record { fits = lt-of-le-of-lt (vec member blankVoterSlotMember _ .within _ (vec-next member blankVoterSlotMember _ _ (t .before .loop .inv .1) (one-more (c .before .before)))) (start t .good .0 .0) }
 
 add-i : tie.Need-add-i Inv-loop μ-loop
 add-i c = search needs
@@ -91,10 +107,11 @@ loop-less c = omega arith
 
 loop-again : tie.Need-loop-again Inv-loop μ-loop
 loop-again c =
-    let l = c .before .before .before .before .before .before .before .loop in
-    let m = c .before .before .before .before .read-member .result .value in (
+    let l = turn (called (c .before .before)) .before .loop in
+    let m = called (c .before .before) .read-member .result .value in (
       omega arith,
-      vec-next member blankVoterSlotMember _ _ (l .inv .1) (one-more (c .before .before)) ∙ ap (λ v. ok v (l .at + c .before .before .to .given .0 .0)) (sym (filled-more (l .value) (l .i) m (omega (arith, l .inv .3)))),
+      vec-next member blankVoterSlotMember _ _ (l .inv .1) (one-more (c .before .before))
+          ∙ ap (λ v. ok v (l .at + c .before .before .to .given .0 .0)) (sym (filled-more (l .value) (l .i) m (omega (arith, l .inv .3)))),
       unfilled-more (l .value) _ (l .i) m (l .inv .2),
       length-set (l .value) (l .i) m ∙ l .inv .3,
     )

@@ -1,5 +1,5 @@
 -- `reader::decode::read_optional_result` meets its contract. Written by scripts/readers.py. Assumes nothing.
-use Prim.Native.Nat.{_+_}
+use Prim.Native.Nat.{ℕ, _+_}
 use Rattle.format.specs.Combinators.{rest}
 use Rattle.format.specs.List.{flag, opt, opt-no, opt-none, opt-some, opt-bad}
 use Rattle.format.specs.Res.Res.{ok, no}
@@ -17,18 +17,45 @@ use borrow.Author.Needs.{needs}
 use Rattle.reader.proofs.decode.read_optional_result.Statement.{statement}
 use Rattle.reader.proofs.decode.read_optional_result.Tie as tie
 
+-- the start and the flag's place, from after them; the part's call, from after the part and from after its refusal
+abbrev start : tie.After-flag → tie.Start
+start c = c .before .before .before .before
+
+abbrev at-flag : tie.Else1 → tie.After-flag
+at-flag c = c .before .before
+
+abbrev at-yes : tie.After-read-result → tie.Else1
+at-yes c = c .before .before
+
+abbrev called : tie.After-value → tie.After-read-result
+called c = c .before .before .before .before
+
+abbrev refused : tie.After-refused-optional-result2 → tie.After-read-result
+refused c = c .before .before .before .before
+
+-- how many bytes the flag has, and the whole
+abbrev flag-size : tie.After-flag → ℕ
+flag-size c = c .flag .given .0 .1 .0
+
+abbrev size : tie.After-value → ℕ
+size c = flag-size (at-flag (at-yes (called c))) + c .before .before .to .given .0 .0
+
 -- the flag, what it says in the branch of a yes, and the whole
-flagged : (c : tie.After-flag) → flag .dec (c .before .before .before .before .args .bytes .now) ≡ ok (c .flag .given .0 .0) (c .flag .given .0 .1 .0)
+flagged : (c : tie.After-flag) → flag .dec (start c .args .bytes .now) ≡ ok (c .flag .given .0 .0) (flag-size c)
 flagged c = got boolRead (c .before .before .read-flag .ensures) (c .flag .given .1)
 
-yes-is : (c : tie.Else1) → c .before .before .flag .given .0 .0 ≡ true
+yes-is : (c : tie.Else1) → at-flag c .flag .given .0 .0 ≡ true
 yes-is c = not-false _ (c .if1 .left)
 
-flagged-yes : (c : tie.Else1) → flag .dec (c .before .before .before .before .before .before .args .bytes .now) ≡ ok true (c .before .before .flag .given .0 .1 .0)
-flagged-yes c = flagged (c .before .before) ∙ ap (λ t. ok t (c .before .before .flag .given .0 .1 .0)) (yes-is c)
+flagged-yes : (c : tie.Else1) → flag .dec (start (at-flag c) .args .bytes .now) ≡ ok true (flag-size (at-flag c))
+flagged-yes c = flagged (at-flag c) ∙ ap (λ t. ok t (flag-size (at-flag c))) (yes-is c)
 
-both : (c : tie.After-value) → opt result blankVoterReplacementResult .dec (c .before .before .before .before .before .before .before .before .before .before .before .before .args .bytes .now) ≡ ok (true, c .before .before .before .before .read-result .result .value) (c .before .before .before .before .before .before .before .before .flag .given .0 .1 .0 + c .before .before .to .given .0 .0)
-both c = opt-some _ _ _ (flagged-yes (c .before .before .before .before .before .before)) (told blankVoterReplacementResult _ (c .before .before .before .before .read-result .ensures ∙ ap (λ l. outcome blankVoterReplacementResult (result .dec l)) (rest (c .before .before .before .before .before .before .before .before .before .before .before .before .args .bytes .now) _)) (c .before .before .to .given .1))
+both : (c : tie.After-value) → opt result blankVoterReplacementResult .dec (start (at-flag (at-yes (called c))) .args .bytes .now) ≡ ok (true, called c .read-result .result .value) (size c)
+both c =
+    opt-some _ _ _ (flagged-yes (at-yes (called c)))
+    (told blankVoterReplacementResult _
+    (called c .read-result .ensures ∙ ap (λ l. outcome blankVoterReplacementResult (result .dec l)) (rest (start (at-flag (at-yes (called c))) .args .bytes .now) _))
+    (c .before .before .to .given .1))
 
 read-flag-requires : tie.Need-read-flag-requires
 read-flag-requires c κs = search needs
@@ -55,16 +82,17 @@ blank-voter-replacement-result-requires c κs = search needs
 
 returns-2 : tie.Need-returns-2
 returns-2 c =
-    let n = c .before .before .before .flag .given .0 .1 .0 in
+    let f = c .before .before .before in
+    let n = flag-size f in
     let t = not-true _ (c .before .if1 .taken) in
-    let p : opt result blankVoterReplacementResult .dec (c .before .before .before .before .before .before .before .args .bytes .now) ≡ ok (false, blankVoterReplacementResult) n = opt-none _ _ _ (flagged (c .before .before .before) ∙ ap (λ b. ok b n) t) in
+    let p : opt result blankVoterReplacementResult .dec (start f .args .bytes .now) ≡ ok (false, blankVoterReplacementResult) n = opt-none _ _ _ (flagged f ∙ ap (λ b. ok b n) t) in
     outcome-ok absentResult (p ∙ (λ i. ok (sym t i, sym (c .blank-voter-replacement-result .ensures) i) n))
 
 sub-read-result : tie.Need-sub-read-result
-sub-read-result c = flag .within _ (flagged (c .before .before))
+sub-read-result c = flag .within _ (flagged (at-flag c))
 
 part-read-result-start : tie.Need-part-read-result-start
-part-read-result-start c = flag .within _ (flagged (c .before .before))
+part-read-result-start c = flag .within _ (flagged (at-flag c))
 
 part-read-result-end : tie.Need-part-read-result-end
 part-read-result-end c = search needs
@@ -87,15 +115,18 @@ refused-optional-result-requires-2 c κs = search needs
 returns-3 : tie.Need-returns-3
 returns-3 c =
     outcome-no absentResult (c .refused-optional-result2 .ensures ∙ ap (λ a. outcome absentResult (no (numberOf a))) (c .before .why .ensures ∙ ap whyOf (c .before .before .enum-told2 .given .1)))
-    (opt-bad _ _ _ (flagged-yes (c .before .before .before .before .before .before)) (told-not blankVoterReplacementResult _ (c .before .before .before .before .read-result .ensures ∙ ap (λ l. outcome blankVoterReplacementResult (result .dec l)) (rest (c .before .before .before .before .before .before .before .before .before .before .before .before .args .bytes .now) _)) (c .before .before .enum-told2 .given .1)))
+    (opt-bad _ _ _ (flagged-yes (at-yes (refused c)))
+    (told-not blankVoterReplacementResult _
+    (refused c .read-result .ensures ∙ ap (λ l. outcome blankVoterReplacementResult (result .dec l)) (rest (start (at-flag (at-yes (refused c))) .args .bytes .now) _))
+    (c .before .before .enum-told2 .given .1)))
 
 add-t14 : tie.Need-add-t14
-add-t14 c = record { fits = lt-of-le-of-lt ((opt result blankVoterReplacementResult) .within _ (both c)) (c .before .before .before .before .before .before .before .before .before .before .before .before .good .0 .0) }
+add-t14 c = record { fits = lt-of-le-of-lt ((opt result blankVoterReplacementResult) .within _ (both c)) (start (at-flag (at-yes (called c))) .good .0 .0) }
 
 returns-4 : tie.Need-returns-4
 returns-4 c =
     outcome-ok absentResult
-    (both c ∙ ap (λ b. ok (b, c .before .before .before .before .read-result .result .value) (c .before .before .before .before .before .before .before .before .flag .given .0 .1 .0 + c .before .before .to .given .0 .0)) (sym (yes-is (c .before .before .before .before .before .before))))
+    (both c ∙ ap (λ b. ok (b, called c .read-result .result .value) (size c)) (sym (yes-is (at-yes (called c)))))
 
 pub read-optional-result-spec : {M : Type 1} → statement M
 read-optional-result-spec =

@@ -19,30 +19,137 @@ use Rattle.layout.specs.declared.parts.Change.{Change}
 use Rattle.reader.proofs.decode.read_replacement.Statement.{statement}
 use Rattle.reader.proofs.decode.read_replacement.Tie as tie
 
+-- the format up to each field
+abbrev to-expected-revision : Codec (ℕ)
+to-expected-revision = uint 8
+
+abbrev to-attestation : Codec (ℕ × LostVoterAttestationV1)
+to-attestation = dep to-expected-revision (λ a. boxed attestation 8192)
+
+abbrev to-change : Codec ((ℕ × LostVoterAttestationV1) × Change)
+to-change = dep to-attestation (λ a. change)
+
+abbrev to-evidence : Codec (((ℕ × LostVoterAttestationV1) × Change) × VoterReplacementEvidence)
+to-evidence = dep to-change (λ a. evidence)
+
+-- the call that reads each field, from after the field and from after its refusal; the place after a field, from the call that reads the next
+abbrev called-expected-revision : tie.After-known-told → tie.After-read-u64
+called-expected-revision c = c .before .before .before
+
+abbrev refused-expected-revision : tie.After-refused-replacement → tie.After-read-u64
+refused-expected-revision c = c .before .before .before .before
+
+abbrev after-expected-revision : tie.After-read-boxed-attestation → tie.After-known-told
+after-expected-revision c = c .before .before
+
+abbrev called-attestation : tie.After-attestation → tie.After-read-boxed-attestation
+called-attestation c = c .before .before .before .before
+
+abbrev refused-attestation : tie.After-refused-replacement2 → tie.After-read-boxed-attestation
+refused-attestation c = c .before .before .before .before
+
+abbrev after-attestation : tie.After-read-change → tie.After-attestation
+after-attestation c = c .before .before
+
+abbrev called-change : tie.After-change → tie.After-read-change
+called-change c = c .before .before .before .before
+
+abbrev refused-change : tie.After-refused-replacement3 → tie.After-read-change
+refused-change c = c .before .before .before .before
+
+abbrev after-change : tie.After-read-evidence → tie.After-change
+after-change c = c .before .before
+
+abbrev called-evidence : tie.After-evidence → tie.After-read-evidence
+called-evidence c = c .before .before .before .before
+
+abbrev refused-evidence : tie.After-refused-replacement4 → tie.After-read-evidence
+refused-evidence c = c .before .before .before .before
+
+-- where the function began, from the call that reads each field
+abbrev start-expected-revision : tie.After-read-u64 → tie.Start
+start-expected-revision c = c .before .before
+
+abbrev start-attestation : tie.After-read-boxed-attestation → tie.Start
+start-attestation c = start-expected-revision (called-expected-revision (after-expected-revision c))
+
+abbrev start-change : tie.After-read-change → tie.Start
+start-change c = start-attestation (called-attestation (after-attestation c))
+
+abbrev start-evidence : tie.After-read-evidence → tie.Start
+start-evidence c = start-change (called-change (after-change c))
+
+-- the value of each field and its size; the values up to it and their size
+abbrev expected-revision-value : tie.After-known-told → ℕ
+expected-revision-value c = c .before .expected-revision-read .given .0 .0
+
+abbrev expected-revision-size : tie.After-known-told → ℕ
+expected-revision-size c = c .before .expected-revision-read .given .0 .1 .0
+
+abbrev attestation-value : tie.After-attestation → LostVoterAttestationV1
+attestation-value c = called-attestation c .read-boxed-attestation .result .value
+
+abbrev attestation-size : tie.After-attestation → ℕ
+attestation-size c = c .before .before .attestation-to .given .0 .0
+
+abbrev values-to-attestation : tie.After-attestation → ℕ × LostVoterAttestationV1
+values-to-attestation c = (expected-revision-value (after-expected-revision (called-attestation c)), attestation-value c)
+
+abbrev size-to-attestation : tie.After-attestation → ℕ
+size-to-attestation c = expected-revision-size (after-expected-revision (called-attestation c)) + attestation-size c
+
+abbrev change-value : tie.After-change → Change
+change-value c = called-change c .read-change .result .value
+
+abbrev change-size : tie.After-change → ℕ
+change-size c = c .before .before .change-to .given .0 .0
+
+abbrev values-to-change : tie.After-change → (ℕ × LostVoterAttestationV1) × Change
+values-to-change c = (values-to-attestation (after-attestation (called-change c)), change-value c)
+
+abbrev size-to-change : tie.After-change → ℕ
+size-to-change c = size-to-attestation (after-attestation (called-change c)) + change-size c
+
+abbrev evidence-value : tie.After-evidence → VoterReplacementEvidence
+evidence-value c = called-evidence c .read-evidence .result .value
+
+abbrev evidence-size : tie.After-evidence → ℕ
+evidence-size c = c .before .before .evidence-to .given .0 .0
+
+abbrev values-to-evidence : tie.After-evidence → ((ℕ × LostVoterAttestationV1) × Change) × VoterReplacementEvidence
+values-to-evidence c = (values-to-change (after-change (called-evidence c)), evidence-value c)
+
+abbrev size-to-evidence : tie.After-evidence → ℕ
+size-to-evidence c = size-to-change (after-change (called-evidence c)) + evidence-size c
+
 -- after each field: what was read so far, and up to where
-abbrev c1 : Codec (ℕ)
-c1 = uint 8
+got-expected-revision : (c : tie.After-known-told)
+    → to-expected-revision .dec (start-expected-revision (called-expected-revision c) .args .bytes .now) ≡ ok (expected-revision-value c) (expected-revision-size c)
+got-expected-revision c = got u64Read (called-expected-revision c .read-u64 .ensures) (c .before .expected-revision-read .given .1)
 
-abbrev c2 : Codec (ℕ × LostVoterAttestationV1)
-c2 = dep c1 (λ a. boxed attestation 8192)
+got-attestation : (c : tie.After-attestation)
+    → to-attestation .dec (start-attestation (called-attestation c) .args .bytes .now) ≡ ok (values-to-attestation c) (size-to-attestation c)
+got-attestation c =
+    dep-ok _ _ _ (got-expected-revision (after-expected-revision (called-attestation c)))
+    (told blankLostVoterAttestationV1 _
+    (called-attestation c .read-boxed-attestation .ensures ∙ ap (λ l. outcome blankLostVoterAttestationV1 (boxed attestation 8192 .dec l)) (rest (start-attestation (called-attestation c) .args .bytes .now) _))
+    (c .before .before .attestation-to .given .1))
 
-abbrev c3 : Codec ((ℕ × LostVoterAttestationV1) × Change)
-c3 = dep c2 (λ a. change)
+got-change : (c : tie.After-change)
+    → to-change .dec (start-change (called-change c) .args .bytes .now) ≡ ok (values-to-change c) (size-to-change c)
+got-change c =
+    dep-ok _ _ _ (got-attestation (after-attestation (called-change c)))
+    (told blankChange _
+    (called-change c .read-change .ensures ∙ ap (λ l. outcome blankChange (change .dec l)) (rest (start-change (called-change c) .args .bytes .now) _))
+    (c .before .before .change-to .given .1))
 
-abbrev c4 : Codec (((ℕ × LostVoterAttestationV1) × Change) × VoterReplacementEvidence)
-c4 = dep c3 (λ a. evidence)
-
-got-1 : (c : tie.After-known-told) → c1 .dec (c .before .before .before .before .before .args .bytes .now) ≡ ok (c .before .expected-revision-read .given .0 .0) (c .before .expected-revision-read .given .0 .1 .0)
-got-1 c = got u64Read (c .before .before .before .read-u64 .ensures) (c .before .expected-revision-read .given .1)
-
-got-2 : (c : tie.After-attestation) → c2 .dec (c .before .before .before .before .before .before .before .before .before .before .before .args .bytes .now) ≡ ok (c .before .before .before .before .before .before .before .expected-revision-read .given .0 .0, c .before .before .before .before .read-boxed-attestation .result .value) (c .before .before .before .before .before .before .before .expected-revision-read .given .0 .1 .0 + c .before .before .attestation-to .given .0 .0)
-got-2 c = dep-ok _ _ _ (got-1 (c .before .before .before .before .before .before)) (told blankLostVoterAttestationV1 _ (c .before .before .before .before .read-boxed-attestation .ensures ∙ ap (λ l. outcome blankLostVoterAttestationV1 ((boxed attestation 8192) .dec l)) (rest (c .before .before .before .before .before .before .before .before .before .before .before .args .bytes .now) _)) (c .before .before .attestation-to .given .1))
-
-got-3 : (c : tie.After-change) → c3 .dec (c .before .before .before .before .before .before .before .before .before .before .before .before .before .before .before .before .before .args .bytes .now) ≡ ok ((c .before .before .before .before .before .before .before .before .before .before .before .before .before .expected-revision-read .given .0 .0, c .before .before .before .before .before .before .before .before .before .before .read-boxed-attestation .result .value), c .before .before .before .before .read-change .result .value) ((c .before .before .before .before .before .before .before .before .before .before .before .before .before .expected-revision-read .given .0 .1 .0 + c .before .before .before .before .before .before .before .before .attestation-to .given .0 .0) + c .before .before .change-to .given .0 .0)
-got-3 c = dep-ok _ _ _ (got-2 (c .before .before .before .before .before .before)) (told blankChange _ (c .before .before .before .before .read-change .ensures ∙ ap (λ l. outcome blankChange (change .dec l)) (rest (c .before .before .before .before .before .before .before .before .before .before .before .before .before .before .before .before .before .args .bytes .now) _)) (c .before .before .change-to .given .1))
-
-got-4 : (c : tie.After-evidence) → c4 .dec (c .before .before .before .before .before .before .before .before .before .before .before .before .before .before .before .before .before .before .before .before .before .before .before .args .bytes .now) ≡ ok (((c .before .before .before .before .before .before .before .before .before .before .before .before .before .before .before .before .before .before .before .expected-revision-read .given .0 .0, c .before .before .before .before .before .before .before .before .before .before .before .before .before .before .before .before .read-boxed-attestation .result .value), c .before .before .before .before .before .before .before .before .before .before .read-change .result .value), c .before .before .before .before .read-evidence .result .value) (((c .before .before .before .before .before .before .before .before .before .before .before .before .before .before .before .before .before .before .before .expected-revision-read .given .0 .1 .0 + c .before .before .before .before .before .before .before .before .before .before .before .before .before .before .attestation-to .given .0 .0) + c .before .before .before .before .before .before .before .before .change-to .given .0 .0) + c .before .before .evidence-to .given .0 .0)
-got-4 c = dep-ok _ _ _ (got-3 (c .before .before .before .before .before .before)) (told blankVoterReplacementEvidence _ (c .before .before .before .before .read-evidence .ensures ∙ ap (λ l. outcome blankVoterReplacementEvidence (evidence .dec l)) (rest (c .before .before .before .before .before .before .before .before .before .before .before .before .before .before .before .before .before .before .before .before .before .before .before .args .bytes .now) _)) (c .before .before .evidence-to .given .1))
+got-evidence : (c : tie.After-evidence)
+    → to-evidence .dec (start-evidence (called-evidence c) .args .bytes .now) ≡ ok (values-to-evidence c) (size-to-evidence c)
+got-evidence c =
+    dep-ok _ _ _ (got-change (after-change (called-evidence c)))
+    (told blankVoterReplacementEvidence _
+    (called-evidence c .read-evidence .ensures ∙ ap (λ l. outcome blankVoterReplacementEvidence (evidence .dec l)) (rest (start-evidence (called-evidence c) .args .bytes .now) _))
+    (c .before .before .evidence-to .given .1))
 
 read-u64-requires : tie.Need-read-u64-requires
 read-u64-requires c κs = search needs
@@ -63,13 +170,13 @@ returns : tie.Need-returns
 unfolding replacement
 returns c =
     outcome-no _ (c .refused-replacement .ensures ∙ ap (λ a. outcome blankVoterReplacementRecord (no (numberOf a))) (c .before .why-u64 .ensures ∙ ap whyU64 (c .before .before .enum-told .given .1)))
-    (via-no _ _ _ _ _ (dep-no-1 _ _ _ (dep-no-1 _ _ _ (dep-no-1 _ _ _ (got u64Read (c .before .before .before .before .read-u64 .ensures) (c .before .before .enum-told .given .1))))))
+    (via-no _ _ _ _ _ (dep-no-1 _ _ _ (dep-no-1 _ _ _ (dep-no-1 _ _ _ (got u64Read (refused-expected-revision c .read-u64 .ensures) (c .before .before .enum-told .given .1))))))
 
 sub-read-boxed-attestation : tie.Need-sub-read-boxed-attestation
-sub-read-boxed-attestation c = c1 .within _ (got-1 c)
+sub-read-boxed-attestation c = to-expected-revision .within _ (got-expected-revision c)
 
 part-read-boxed-attestation-start : tie.Need-part-read-boxed-attestation-start
-part-read-boxed-attestation-start c = c1 .within _ (got-1 c)
+part-read-boxed-attestation-start c = to-expected-revision .within _ (got-expected-revision c)
 
 part-read-boxed-attestation-end : tie.Need-part-read-boxed-attestation-end
 part-read-boxed-attestation-end c = search needs
@@ -93,16 +200,19 @@ returns-2 : tie.Need-returns-2
 unfolding replacement
 returns-2 c =
     outcome-no _ (c .refused-replacement2 .ensures ∙ ap (λ a. outcome blankVoterReplacementRecord (no (numberOf a))) (c .before .why .ensures ∙ ap whyOf (c .before .before .enum-told2 .given .1)))
-    (via-no _ _ _ _ _ (dep-no-1 _ _ _ (dep-no-1 _ _ _ (dep-no-2 _ _ _ (got-1 (c .before .before .before .before .before .before)) (told-not blankLostVoterAttestationV1 _ (c .before .before .before .before .read-boxed-attestation .ensures ∙ ap (λ l. outcome blankLostVoterAttestationV1 ((boxed attestation 8192) .dec l)) (rest (c .before .before .before .before .before .before .before .before .before .before .before .args .bytes .now) _)) (c .before .before .enum-told2 .given .1))))))
+    (via-no _ _ _ _ _ (dep-no-1 _ _ _ (dep-no-1 _ _ _ (dep-no-2 _ _ _ (got-expected-revision (after-expected-revision (refused-attestation c)))
+    (told-not blankLostVoterAttestationV1 _
+    (refused-attestation c .read-boxed-attestation .ensures ∙ ap (λ l. outcome blankLostVoterAttestationV1 (boxed attestation 8192 .dec l)) (rest (start-attestation (refused-attestation c) .args .bytes .now) _))
+    (c .before .before .enum-told2 .given .1))))))
 
 add-at : tie.Need-add-at
-add-at c = record { fits = lt-of-le-of-lt (c2 .within _ (got-2 c)) (c .before .before .before .before .before .before .before .before .before .before .before .good .0 .0) }
+add-at c = record { fits = lt-of-le-of-lt (to-attestation .within _ (got-attestation c)) (start-attestation (called-attestation c) .good .0 .0) }
 
 sub-read-change : tie.Need-sub-read-change
-sub-read-change c = c2 .within _ (got-2 c)
+sub-read-change c = to-attestation .within _ (got-attestation c)
 
 part-read-change-start : tie.Need-part-read-change-start
-part-read-change-start c = c2 .within _ (got-2 c)
+part-read-change-start c = to-attestation .within _ (got-attestation c)
 
 part-read-change-end : tie.Need-part-read-change-end
 part-read-change-end c = search needs
@@ -126,16 +236,19 @@ returns-3 : tie.Need-returns-3
 unfolding replacement
 returns-3 c =
     outcome-no _ (c .refused-replacement3 .ensures ∙ ap (λ a. outcome blankVoterReplacementRecord (no (numberOf a))) (c .before .why2 .ensures ∙ ap whyOf (c .before .before .enum-told3 .given .1)))
-    (via-no _ _ _ _ _ (dep-no-1 _ _ _ (dep-no-2 _ _ _ (got-2 (c .before .before .before .before .before .before)) (told-not blankChange _ (c .before .before .before .before .read-change .ensures ∙ ap (λ l. outcome blankChange (change .dec l)) (rest (c .before .before .before .before .before .before .before .before .before .before .before .before .before .before .before .before .before .args .bytes .now) _)) (c .before .before .enum-told3 .given .1)))))
+    (via-no _ _ _ _ _ (dep-no-1 _ _ _ (dep-no-2 _ _ _ (got-attestation (after-attestation (refused-change c)))
+    (told-not blankChange _
+    (refused-change c .read-change .ensures ∙ ap (λ l. outcome blankChange (change .dec l)) (rest (start-change (refused-change c) .args .bytes .now) _))
+    (c .before .before .enum-told3 .given .1)))))
 
 add-at-2 : tie.Need-add-at-2
-add-at-2 c = record { fits = lt-of-le-of-lt (c3 .within _ (got-3 c)) (c .before .before .before .before .before .before .before .before .before .before .before .before .before .before .before .before .before .good .0 .0) }
+add-at-2 c = record { fits = lt-of-le-of-lt (to-change .within _ (got-change c)) (start-change (called-change c) .good .0 .0) }
 
 sub-read-evidence : tie.Need-sub-read-evidence
-sub-read-evidence c = c3 .within _ (got-3 c)
+sub-read-evidence c = to-change .within _ (got-change c)
 
 part-read-evidence-start : tie.Need-part-read-evidence-start
-part-read-evidence-start c = c3 .within _ (got-3 c)
+part-read-evidence-start c = to-change .within _ (got-change c)
 
 part-read-evidence-end : tie.Need-part-read-evidence-end
 part-read-evidence-end c = search needs
@@ -159,17 +272,21 @@ returns-4 : tie.Need-returns-4
 unfolding replacement
 returns-4 c =
     outcome-no _ (c .refused-replacement4 .ensures ∙ ap (λ a. outcome blankVoterReplacementRecord (no (numberOf a))) (c .before .why3 .ensures ∙ ap whyOf (c .before .before .enum-told4 .given .1)))
-    (via-no _ _ _ _ _ (dep-no-2 _ _ _ (got-3 (c .before .before .before .before .before .before)) (told-not blankVoterReplacementEvidence _ (c .before .before .before .before .read-evidence .ensures ∙ ap (λ l. outcome blankVoterReplacementEvidence (evidence .dec l)) (rest (c .before .before .before .before .before .before .before .before .before .before .before .before .before .before .before .before .before .before .before .before .before .before .before .args .bytes .now) _)) (c .before .before .enum-told4 .given .1))))
+    (via-no _ _ _ _ _ (dep-no-2 _ _ _ (got-change (after-change (refused-evidence c)))
+    (told-not blankVoterReplacementEvidence _
+    (refused-evidence c .read-evidence .ensures ∙ ap (λ l. outcome blankVoterReplacementEvidence (evidence .dec l)) (rest (start-evidence (refused-evidence c) .args .bytes .now) _))
+    (c .before .before .enum-told4 .given .1))))
 
 add-t21 : tie.Need-add-t21
-add-t21 c = record { fits = lt-of-le-of-lt (c4 .within _ (got-4 (c))) (c .before .before .before .before .before .before .before .before .before .before .before .before .before .before .before .before .before .before .before .before .before .before .before .good .0 .0) }
+add-t21 c = record { fits = lt-of-le-of-lt (to-evidence .within _ (got-evidence c)) (start-evidence (called-evidence c) .good .0 .0) }
 
 replacement-of-requires : tie.Need-replacement-of-requires
 replacement-of-requires c κs = search needs
 
 returns-5 : tie.Need-returns-5
 unfolding replacement
-returns-5 c = outcome-ok _ (via-ok _ _ _ _ _ (got-4 (c .before)) ∙ ap (λ v. ok v (((c .before .before .before .before .before .before .before .before .before .before .before .before .before .before .before .before .before .before .before .before .expected-revision-read .given .0 .1 .0 + c .before .before .before .before .before .before .before .before .before .before .before .before .before .before .before .attestation-to .given .0 .0) + c .before .before .before .before .before .before .before .before .before .change-to .given .0 .0) + c .before .before .before .evidence-to .given .0 .0)) (sym (c .replacement-of .ensures)))
+returns-5 c = outcome-ok _ (via-ok _ _ _ _ _ (got-evidence (c .before))
+    ∙ ap (λ v. ok v (size-to-evidence (c .before))) (sym (c .replacement-of .ensures)))
 
 pub read-replacement-spec : {M : Type 1} → statement M
 read-replacement-spec =

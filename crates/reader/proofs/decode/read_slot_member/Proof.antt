@@ -16,24 +16,102 @@ use Rattle.layout.specs.declared.parts.Binding.{Binding}
 use Rattle.reader.proofs.decode.read_slot_member.Statement.{statement}
 use Rattle.reader.proofs.decode.read_slot_member.Tie as tie
 
+-- the format up to each field
+abbrev to-identity : Codec (VoterSlotIdentity)
+to-identity = identity
+
+abbrev to-retired-through : Codec (VoterSlotIdentity × ℕ)
+to-retired-through = dep to-identity (λ a. uint 8)
+
+abbrev to-binding : Codec ((VoterSlotIdentity × ℕ) × Binding)
+to-binding = dep to-retired-through (λ a. binding)
+
+-- the call that reads each field, from after the field and from after its refusal; the place after a field, from the call that reads the next
+abbrev called-identity : tie.After-known-told → tie.After-read-identity
+called-identity c = c .before .before .before
+
+abbrev refused-identity : tie.After-refused-slot-member → tie.After-read-identity
+refused-identity c = c .before .before .before .before
+
+abbrev after-identity : tie.After-read-u64 → tie.After-known-told
+after-identity c = c .before .before
+
+abbrev called-retired-through : tie.After-known-told2 → tie.After-read-u64
+called-retired-through c = c .before .before .before
+
+abbrev refused-retired-through : tie.After-refused-slot-member2 → tie.After-read-u64
+refused-retired-through c = c .before .before .before .before
+
+abbrev after-retired-through : tie.After-read-binding → tie.After-known-told2
+after-retired-through c = c .before .before
+
+abbrev called-binding : tie.After-binding → tie.After-read-binding
+called-binding c = c .before .before .before .before
+
+abbrev refused-binding : tie.After-refused-slot-member3 → tie.After-read-binding
+refused-binding c = c .before .before .before .before
+
+-- where the function began, from the call that reads each field
+abbrev start-identity : tie.After-read-identity → tie.Start
+start-identity c = c .before .before
+
+abbrev start-retired-through : tie.After-read-u64 → tie.Start
+start-retired-through c = start-identity (called-identity (after-identity c))
+
+abbrev start-binding : tie.After-read-binding → tie.Start
+start-binding c = start-retired-through (called-retired-through (after-retired-through c))
+
+-- the value of each field and its size; the values up to it and their size
+abbrev identity-value : tie.After-known-told → VoterSlotIdentity
+identity-value c = c .before .identity-read .given .0 .0
+
+abbrev identity-size : tie.After-known-told → ℕ
+identity-size c = c .before .identity-read .given .0 .1 .0
+
+abbrev retired-through-value : tie.After-known-told2 → ℕ
+retired-through-value c = c .before .retired-through-read .given .0 .0
+
+abbrev retired-through-size : tie.After-known-told2 → ℕ
+retired-through-size c = c .before .retired-through-read .given .0 .1 .0
+
+abbrev values-to-retired-through : tie.After-known-told2 → VoterSlotIdentity × ℕ
+values-to-retired-through c = (identity-value (after-identity (called-retired-through c)), retired-through-value c)
+
+abbrev size-to-retired-through : tie.After-known-told2 → ℕ
+size-to-retired-through c = identity-size (after-identity (called-retired-through c)) + retired-through-size c
+
+abbrev binding-value : tie.After-binding → Binding
+binding-value c = called-binding c .read-binding .result .value
+
+abbrev binding-size : tie.After-binding → ℕ
+binding-size c = c .before .before .binding-to .given .0 .0
+
+abbrev values-to-binding : tie.After-binding → (VoterSlotIdentity × ℕ) × Binding
+values-to-binding c = (values-to-retired-through (after-retired-through (called-binding c)), binding-value c)
+
+abbrev size-to-binding : tie.After-binding → ℕ
+size-to-binding c = size-to-retired-through (after-retired-through (called-binding c)) + binding-size c
+
 -- after each field: what was read so far, and up to where
-abbrev c1 : Codec (VoterSlotIdentity)
-c1 = identity
+got-identity : (c : tie.After-known-told)
+    → to-identity .dec (start-identity (called-identity c) .args .bytes .now) ≡ ok (identity-value c) (identity-size c)
+got-identity c = got identityRead (called-identity c .read-identity .ensures) (c .before .identity-read .given .1)
 
-abbrev c2 : Codec (VoterSlotIdentity × ℕ)
-c2 = dep c1 (λ a. uint 8)
+got-retired-through : (c : tie.After-known-told2)
+    → to-retired-through .dec (start-retired-through (called-retired-through c) .args .bytes .now) ≡ ok (values-to-retired-through c) (size-to-retired-through c)
+got-retired-through c =
+    dep-ok _ _ _ (got-identity (after-identity (called-retired-through c)))
+    (got u64Read
+    (called-retired-through c .read-u64 .ensures ∙ ap (uint 8 .dec) (rest (start-retired-through (called-retired-through c) .args .bytes .now) _))
+    (c .before .retired-through-read .given .1))
 
-abbrev c3 : Codec ((VoterSlotIdentity × ℕ) × Binding)
-c3 = dep c2 (λ a. binding)
-
-got-1 : (c : tie.After-known-told) → c1 .dec (c .before .before .before .before .before .args .bytes .now) ≡ ok (c .before .identity-read .given .0 .0) (c .before .identity-read .given .0 .1 .0)
-got-1 c = got identityRead (c .before .before .before .read-identity .ensures) (c .before .identity-read .given .1)
-
-got-2 : (c : tie.After-known-told2) → c2 .dec (c .before .before .before .before .before .before .before .before .before .before .args .bytes .now) ≡ ok (c .before .before .before .before .before .before .identity-read .given .0 .0, c .before .retired-through-read .given .0 .0) (c .before .before .before .before .before .before .identity-read .given .0 .1 .0 + c .before .retired-through-read .given .0 .1 .0)
-got-2 c = dep-ok _ _ _ (got-1 (c .before .before .before .before .before)) (got u64Read (c .before .before .before .read-u64 .ensures ∙ ap ((uint 8) .dec) (rest (c .before .before .before .before .before .before .before .before .before .before .args .bytes .now) _)) (c .before .retired-through-read .given .1))
-
-got-3 : (c : tie.After-binding) → c3 .dec (c .before .before .before .before .before .before .before .before .before .before .before .before .before .before .before .before .args .bytes .now) ≡ ok ((c .before .before .before .before .before .before .before .before .before .before .before .before .identity-read .given .0 .0, c .before .before .before .before .before .before .before .retired-through-read .given .0 .0), c .before .before .before .before .read-binding .result .value) ((c .before .before .before .before .before .before .before .before .before .before .before .before .identity-read .given .0 .1 .0 + c .before .before .before .before .before .before .before .retired-through-read .given .0 .1 .0) + c .before .before .binding-to .given .0 .0)
-got-3 c = dep-ok _ _ _ (got-2 (c .before .before .before .before .before .before)) (told blankBinding _ (c .before .before .before .before .read-binding .ensures ∙ ap (λ l. outcome blankBinding (binding .dec l)) (rest (c .before .before .before .before .before .before .before .before .before .before .before .before .before .before .before .before .args .bytes .now) _)) (c .before .before .binding-to .given .1))
+got-binding : (c : tie.After-binding)
+    → to-binding .dec (start-binding (called-binding c) .args .bytes .now) ≡ ok (values-to-binding c) (size-to-binding c)
+got-binding c =
+    dep-ok _ _ _ (got-retired-through (after-retired-through (called-binding c)))
+    (told blankBinding _
+    (called-binding c .read-binding .ensures ∙ ap (λ l. outcome blankBinding (binding .dec l)) (rest (start-binding (called-binding c) .args .bytes .now) _))
+    (c .before .before .binding-to .given .1))
 
 read-identity-requires : tie.Need-read-identity-requires
 read-identity-requires c κs = search needs
@@ -54,13 +132,13 @@ returns : tie.Need-returns
 unfolding slotMember
 returns c =
     outcome-no _ (c .refused-slot-member .ensures ∙ ap (λ a. outcome blankSlotMember (no (numberOf a))) (c .before .why-identity .ensures ∙ ap whyIdentity (c .before .before .enum-told .given .1)))
-    (via-no _ _ _ _ _ (dep-no-1 _ _ _ (dep-no-1 _ _ _ (got identityRead (c .before .before .before .before .read-identity .ensures) (c .before .before .enum-told .given .1)))))
+    (via-no _ _ _ _ _ (dep-no-1 _ _ _ (dep-no-1 _ _ _ (got identityRead (refused-identity c .read-identity .ensures) (c .before .before .enum-told .given .1)))))
 
 sub-read-u64 : tie.Need-sub-read-u64
-sub-read-u64 c = c1 .within _ (got-1 c)
+sub-read-u64 c = to-identity .within _ (got-identity c)
 
 part-read-u64-start : tie.Need-part-read-u64-start
-part-read-u64-start c = c1 .within _ (got-1 c)
+part-read-u64-start c = to-identity .within _ (got-identity c)
 
 part-read-u64-end : tie.Need-part-read-u64-end
 part-read-u64-end c = search needs
@@ -84,16 +162,19 @@ returns-2 : tie.Need-returns-2
 unfolding slotMember
 returns-2 c =
     outcome-no _ (c .refused-slot-member2 .ensures ∙ ap (λ a. outcome blankSlotMember (no (numberOf a))) (c .before .why-u64 .ensures ∙ ap whyU64 (c .before .before .enum-told2 .given .1)))
-    (via-no _ _ _ _ _ (dep-no-1 _ _ _ (dep-no-2 _ _ _ (got-1 (c .before .before .before .before .before .before)) (got u64Read (c .before .before .before .before .read-u64 .ensures ∙ ap ((uint 8) .dec) (rest (c .before .before .before .before .before .before .before .before .before .before .before .args .bytes .now) _)) (c .before .before .enum-told2 .given .1)))))
+    (via-no _ _ _ _ _ (dep-no-1 _ _ _ (dep-no-2 _ _ _ (got-identity (after-identity (refused-retired-through c)))
+    (got u64Read
+    (refused-retired-through c .read-u64 .ensures ∙ ap (uint 8 .dec) (rest (start-retired-through (refused-retired-through c) .args .bytes .now) _))
+    (c .before .before .enum-told2 .given .1)))))
 
 add-at : tie.Need-add-at
-add-at c = record { fits = lt-of-le-of-lt (c2 .within _ (got-2 c)) (c .before .before .before .before .before .before .before .before .before .before .good .0 .0) }
+add-at c = record { fits = lt-of-le-of-lt (to-retired-through .within _ (got-retired-through c)) (start-retired-through (called-retired-through c) .good .0 .0) }
 
 sub-read-binding : tie.Need-sub-read-binding
-sub-read-binding c = c2 .within _ (got-2 c)
+sub-read-binding c = to-retired-through .within _ (got-retired-through c)
 
 part-read-binding-start : tie.Need-part-read-binding-start
-part-read-binding-start c = c2 .within _ (got-2 c)
+part-read-binding-start c = to-retired-through .within _ (got-retired-through c)
 
 part-read-binding-end : tie.Need-part-read-binding-end
 part-read-binding-end c = search needs
@@ -117,17 +198,21 @@ returns-3 : tie.Need-returns-3
 unfolding slotMember
 returns-3 c =
     outcome-no _ (c .refused-slot-member3 .ensures ∙ ap (λ a. outcome blankSlotMember (no (numberOf a))) (c .before .why .ensures ∙ ap whyOf (c .before .before .enum-told3 .given .1)))
-    (via-no _ _ _ _ _ (dep-no-2 _ _ _ (got-2 (c .before .before .before .before .before .before)) (told-not blankBinding _ (c .before .before .before .before .read-binding .ensures ∙ ap (λ l. outcome blankBinding (binding .dec l)) (rest (c .before .before .before .before .before .before .before .before .before .before .before .before .before .before .before .before .args .bytes .now) _)) (c .before .before .enum-told3 .given .1))))
+    (via-no _ _ _ _ _ (dep-no-2 _ _ _ (got-retired-through (after-retired-through (refused-binding c)))
+    (told-not blankBinding _
+    (refused-binding c .read-binding .ensures ∙ ap (λ l. outcome blankBinding (binding .dec l)) (rest (start-binding (refused-binding c) .args .bytes .now) _))
+    (c .before .before .enum-told3 .given .1))))
 
 add-t15 : tie.Need-add-t15
-add-t15 c = record { fits = lt-of-le-of-lt (c3 .within _ (got-3 (c))) (c .before .before .before .before .before .before .before .before .before .before .before .before .before .before .before .before .good .0 .0) }
+add-t15 c = record { fits = lt-of-le-of-lt (to-binding .within _ (got-binding c)) (start-binding (called-binding c) .good .0 .0) }
 
 member-of-requires : tie.Need-member-of-requires
 member-of-requires c κs = search needs
 
 returns-4 : tie.Need-returns-4
 unfolding slotMember
-returns-4 c = outcome-ok _ (via-ok _ _ _ _ _ (got-3 (c .before)) ∙ ap (λ v. ok (record { member = v; «retired_through» = c .before .before .before .before .before .before .before .before .retired-through-read .given .0 .0 }) ((c .before .before .before .before .before .before .before .before .before .before .before .before .before .identity-read .given .0 .1 .0 + c .before .before .before .before .before .before .before .before .retired-through-read .given .0 .1 .0) + c .before .before .before .binding-to .given .0 .0)) (sym (c .member-of .ensures)))
+returns-4 c = outcome-ok _ (via-ok _ _ _ _ _ (got-binding (c .before))
+    ∙ ap (λ v. ok (record { member = v; «retired_through» = retired-through-value (after-retired-through (called-binding (c .before))) }) (size-to-binding (c .before))) (sym (c .member-of .ensures)))
 
 pub read-slot-member-spec : {M : Type 1} → statement M
 read-slot-member-spec =

@@ -1,5 +1,5 @@
 -- `reader::reader::read_spiffe_id` meets its contract. Written by scripts/readers.py. Assumes nothing.
-use Prim.Native.Nat.{_+_, _-_, _≤_}
+use Prim.Native.Nat.{ℕ, _+_, _-_, _≤_}
 use Rattle.format.specs.Combinators.{checked-ok, checked-no, checked-bad, via-ok, via-no}
 use Rattle.format.specs.Copy.{length-zeros}
 use Rattle.format.specs.Fill.{put-zeros}
@@ -16,7 +16,7 @@ use Rattle.records.specs.Blank.{blankSpiffeId}
 use Rattle.records.specs.ValidationLaws.{failed, held}
 use lib.ListN.{length, take, drop, replicate, length-take, length-drop}
 use lib.Seq.{length-take-le}
-use mathlib.Core.List.{_++_}
+use mathlib.Core.List.{List, _++_}
 use mathlib.Core.Path.{_≡_, sym, ap, _∙_}
 use native.Mathlib.Nat.{lt-of-le-of-lt}
 use native.Mathlib.Omega.{arith}
@@ -24,11 +24,31 @@ use borrow.Author.Needs.{needs}
 use Rattle.reader.proofs.reader.read_spiffe_id.Statement.{statement}
 use Rattle.reader.proofs.reader.read_spiffe_id.Tie as tie
 
--- what was read
-is : (c : tie.After-known-told) → sized 2048 .dec (c .before .before .before .before .before .args .bytes .now) ≡ ok (c .before .size .given .0 .0, take (c .before .size .given .0 .0) (drop (c .before .size .given .0 .1 .0) (c .before .before .before .before .before .args .bytes .now))) (c .before .size .given .0 .1 .0 + c .before .size .given .0 .0)
-is c = got (λ r. sizedRead r (c .before .before .before .before .before .args .bytes .now)) (c .before .before .before .read-sized .ensures) (c .before .size .given .1)
+-- the start, from after the size was read; that place, from after the text was refused and from after its place was made
+abbrev start : tie.After-known-told → tie.Start
+start c = c .before .before .before .before .before
 
-fits : (c : tie.After-known-told) → c .before .size .given .0 .1 .0 + c .before .size .given .0 .0 ≤ length (c .before .before .before .before .before .args .bytes .now)
+abbrev sized-refused : tie.After-refused-spiffe-id2 → tie.After-known-told
+sized-refused c = c .before .before .before .before
+
+abbrev sized-held : tie.After-place → tie.After-known-told
+sized-held c = c .before .before .before .before .before
+
+-- how many bytes the text has, where it begins, and in which bytes
+abbrev text-size : tie.After-known-told → ℕ
+text-size c = c .before .size .given .0 .0
+
+abbrev text-at : tie.After-known-told → ℕ
+text-at c = c .before .size .given .0 .1 .0
+
+abbrev input : tie.After-known-told → List ℕ
+input c = start c .args .bytes .now
+
+-- what was read
+is : (c : tie.After-known-told) → sized 2048 .dec (input c) ≡ ok (text-size c, take (text-size c) (drop (text-at c) (input c))) (text-at c + text-size c)
+is c = got (λ r. sizedRead r (input c)) (c .before .before .before .read-sized .ensures) (c .before .size .given .1)
+
+fits : (c : tie.After-known-told) → text-at c + text-size c ≤ length (input c)
 fits c = sized 2048 .within _ (is c)
 
 read-sized-requires : tie.Need-read-sized-requires
@@ -54,7 +74,7 @@ returns c =
     (via-no _ _ _ _ _ (checked-no _ _ _ (got (λ r. sizedRead r s) (c .before .before .before .before .read-sized .ensures) (c .before .before .enum-told .given .1))))
 
 add-end : tie.Need-add-end
-add-end c = record { fits = lt-of-le-of-lt (fits c) (c .before .before .before .before .before .good .0 .0) }
+add-end c = record { fits = lt-of-le-of-lt (fits c) (start c .good .0 .0) }
 
 sub-text : tie.Need-sub-text
 sub-text c = omega arith
@@ -74,11 +94,12 @@ refused-spiffe-id-requires-2 c κs = search needs
 returns-2 : tie.Need-returns-2
 unfolding spiffeId string pick
 returns-2 c =
-    let n = c .before .before .before .before .before .size .given .0 .0 in
-    let at = c .before .before .before .before .before .size .given .0 .1 .0 in
-    let s = c .before .before .before .before .before .before .before .before .before .args .bytes .now in
+    let n = text-size (sized-refused c) in
+    let at = text-at (sized-refused c) in
+    let s = input (sized-refused c) in
     outcome-no _ (c .refused-spiffe-id2 .ensures)
-    (via-no _ _ _ _ _ (checked-bad _ _ _ (is (c .before .before .before .before)) (ap require (ap isUtf8 (sym (part-is n at s)) ∙ failed (c .before .before .is-utf8 .ensures) (c .before .if1 .taken)))))
+    (via-no _ _ _ _ _ (checked-bad _ _ _ (is (sized-refused c))
+    (ap require (ap isUtf8 (sym (part-is n at s)) ∙ failed (c .before .before .is-utf8 .ensures) (c .before .if1 .taken)))))
 
 zeros2048-requires : tie.Need-zeros2048-requires
 zeros2048-requires c κs = search needs
@@ -88,23 +109,25 @@ slice-aggregate-put-bytes c = search needs
 
 put-bytes-requires : tie.Need-put-bytes-requires
 put-bytes-requires c κs =
-    let n = c .before .before .before .before .before .before .size .given .0 .0 in
-    let at = c .before .before .before .before .before .before .size .given .0 .1 .0 in
-    let s = c .before .before .before .before .before .before .before .before .before .before .args .bytes .now in
+    let n = text-size (sized-held c) in
+    let at = text-at (sized-held c) in
+    let s = input (sized-held c) in
     let z : length (c .before .zeros2048 .result) ≡ 2048 = ap length (c .before .zeros2048 .ensures) ∙ length-zeros 2048 in
-    omega (arith, length-take (at + n - at) (drop at s), z, sized-small 2048 s (is (c .before .before .before .before .before)))
+    omega (arith, length-take (at + n - at) (drop at s), z, sized-small 2048 s (is (sized-held c)))
 
 returns-3 : tie.Need-returns-3
 unfolding spiffeId string pick
 returns-3 c =
-    let n = c .before .before .before .before .before .before .before .before .size .given .0 .0 in
-    let at = c .before .before .before .before .before .before .before .before .size .given .0 .1 .0 in
-    let s = c .before .before .before .before .before .before .before .before .before .before .before .before .args .bytes .now in
+    let k = sized-held (c .before .before) in
+    let n = text-size (k) in
+    let at = text-at (k) in
+    let s = input (k) in
     let l = take n (drop at s) in
-    let h : length l ≡ n = length-take-le n (drop at s) (omega (arith, length-drop at s, fits (c .before .before .before .before .before .before .before))) in
+    let h : length l ≡ n = length-take-le n (drop at s) (omega (arith, length-drop at s, fits k)) in
     let p = c .before .put-bytes .ensures .bytes ∙ (λ i. put (part-is n at s i) 0 (c .before .before .before .zeros2048 .ensures i)) ∙ put-zeros l 2048 ∙ ap (λ m. l ++ replicate (2048 - m) 0) h in
     outcome-ok blankSpiffeId
-    (via-ok _ _ _ _ _ (checked-ok _ _ _ (is (c .before .before .before .before .before .before .before)) (ap require (ap isUtf8 (sym (part-is n at s)) ∙ held (c .before .before .before .before .before .is-utf8 .ensures) (c .before .before .before .before .if1 .left))))
+    (via-ok _ _ _ _ _ (checked-ok _ _ _ (is k)
+    (ap require (ap isUtf8 (sym (part-is n at s)) ∙ held (c .before .before .before .before .before .is-utf8 .ensures) (c .before .before .before .before .if1 .left))))
     ∙ ap (λ b. ok (record { len = n; bytes = b }) (at + n)) (sym p))
 
 pub read-spiffe-id-spec : {M : Type 1} → statement M
