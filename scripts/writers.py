@@ -6,13 +6,15 @@ Run it from the root of the repository, after a change to one of those functions
     python3 scripts/writers.py [FUNCTION ...]
 
 It writes crates/writer/proofs/encode/FUNCTION/Proof.antt. The leaves (put_be and put_bytes of layout, put_flag) and the sizes are written by hand.
-A chain is a list of puts. Each has what it writes, and how many steps more than a put of a number of the record it takes to reach:
-a field that is copied out first, a u8 or u16 that is widened, or the answer of another call is 1, a lent array is 3.
+A chain is a list of puts, of the fields of a record (scripts/fields.py). Each has what it writes, and how many steps more than a put of a number of the record
+it takes to reach: a field that is copied out first, a u8 or u16 that is widened, or the answer of another call is 1, a lent array is 3.
 """
 import os
 import re
 import subprocess
 import sys
+
+from fields import FIELDS, camel, format_of
 
 PROOFS = 'crates/writer/proofs'
 BY = 'Written by scripts/writers.py.'
@@ -72,75 +74,82 @@ long c =
 """)
 
 
+# How many bytes a number takes, and which is widened before it is put
+WIDTHS = {'u64': 8, 'epoch': 8, 'incarnation': 8, 'count': 1, 'slot_id': 2, 'kind': 1, 'phase': 1, 'reason': 1, 'step': 1}
+WIDENS = ('slot_id', 'kind', 'phase', 'reason', 'step')
+# What is made of the record that is written, and no field of it
+GROUPS = ('binding', 'result_head', 'slot_member', 'claims_request', 'claims_slot', 'claims_names', 'times', 'claims_end', 'change', 'table_head')
+
+
+def put_of(field, kind):
+    """The put of a field, as follows from its kind."""
+    value = f'(x .{field})'
+    if kind in WIDTHS:
+        return (widened if kind in WIDENS else be)(WIDTHS[kind], value)
+    if kind.startswith('array'):
+        return lent(field)
+    if kind == 'version':
+        return be(2, '1')
+    if kind == 'head':
+        return Put('put_head', 'magicAndVersion .enc tt')
+    if kind in GROUPS:
+        return Put('put_' + kind, f'{format_of(kind)} .enc ({camel(kind)}Of x)')
+    if kind == 'three_cuts':
+        return Put('put_three_cuts', f'threeCuts .enc ({field}Cuts x)', ANSWER, None, (f'{field}-cuts-requires',), (f'{field}-cuts', 'threeCuts .enc'))
+    if kind in ('members', 'slots'):
+        return Put('put_' + kind, f'{kind} (x .count) .enc {value}', COPIED)
+    if format_of(kind).startswith('opt '):
+        return Put('put_' + kind, f'{format_of(kind)} .enc (x .has_{field}, x .{field})', COPIED)
+    return Put('put_' + kind, f'{format_of(kind)} .enc {value}', COPIED)
+
+
+def record(name, type_, arg, shut, also=None, other=None):
+    """The chain of a record of scripts/fields.py. also: the second premise of a field's put; other: a field's put where its kind does not tell it."""
+    puts = []
+    for field, kind in FIELDS[name]:
+        put = (other or {}).get(field) or put_of(field, kind)
+        put.also = (also or {}).get(field)
+        puts.append(put)
+    return Chain('put_' + name, type_, arg, shut, puts, '.pre .0' if also else '.pre')
+
+
 CHAINS = [
     text('put_spiffe_id', 'SpiffeId', 2048, 'spiffeId'),
     text('put_snapshot_id', 'SnapshotId', 256, 'snapshotId'),
-    Chain('put_identity', 'VoterSlotIdentity', 'id', 'identity slotId incarnation via dep check',
-          [widened(2, '(x .slot)'), be(8, '(x .incarnation)')]),
-    Chain('put_log_id', 'VoterSlotLogId', 'id', 'logId via dep', [be(8, '(x .term)'), be(8, '(x .index)')]),
-    Chain('put_binding', 'VoterSlotMember', 't3', 'binding via dep raw',
-          [lent('key_digest'), lent('descriptor_digest'), be(8, '(x .admission_generation)')]),
-    Chain('put_member', 'VoterSlotMember', 'm', 'member via dep',
-          [Put('put_identity', 'identity .enc (x .identity)', COPIED), Put('put_binding', 'binding .enc (bindingOf x)')]),
-    Chain('put_configuration', 'VoterConfiguration', 'c', 'configuration epoch slotCount via dep check',
-          [be(8, '(x .epoch)'), be(1, '(x .count)'), Put('put_members', 'members (x .count) .enc (x .members)', COPIED, 's .pre .1')], '.pre .0'),
-    Chain('put_result_head', 'VoterReplacementResult', 't3', 'resultHead incarnation via dep check raw',
-          [lent('request_id'), lent('request_digest'), be(8, '(x .incarnation)'), be(8, '(x .revision)')]),
-    Chain('put_result', 'VoterReplacementResult', 'x', 'result epoch choice via dep check',
-          [Put('put_result_head', 'resultHead .enc (resultHeadOf x)'), be(8, '(x .configuration_epoch)'), widened(1, '(x .kind)'),
-           Put('put_log_id', 'logId .enc (x .terminal)', COPIED)]),
-    Chain('put_slot_member', 'VoterSlotRecord', 's', 'slotMember via dep',
-          [Put('put_identity', 'identity .enc (x .member .identity)', 2 * COPIED), be(8, '(x .retired_through)'),
-           Put('put_binding', 'binding .enc (bindingOf (x .member))')]),
-    Chain('put_slot', 'VoterSlotRecord', 's', 'slot choice via dep check',
-          [Put('put_slot_member', 'slotMember .enc (slotMemberOf x)'), widened(1, '(x .phase)'),
-           Put('put_optional_result', 'opt result blankVoterReplacementResult .enc (x .has_last_result, x .last_result)', COPIED)]),
-    Chain('put_claims_request', 'LostVoterAttestationV1', 't3', 'claimsRequest version via dep check raw',
-          [be(2, '1'), lent('request_id'), lent('request_digest')]),
-    Chain('put_claims_slot', 'LostVoterAttestationV1', 't3', 'claimsSlot via dep raw',
-          [lent('cluster_instance'), Put('put_identity', 'identity .enc (record { slot = x .slot; incarnation = x .expected_incarnation })'),
-           lent('old_descriptor_digest'), lent('candidate_key_digest')]),
-    Chain('put_claims_names', 'LostVoterAttestationV1', 't3', 'claimsNames via dep raw',
-          [be(8, '(x .admission_generation)'), Put('put_spiffe_id', 'spiffeId .enc (x .candidate_spiffe_id)', COPIED, 's .pre .1 .0'),
-           Put('put_spiffe_id', 'spiffeId .enc (x .controller_spiffe_id)', COPIED, 's .pre .1 .1'), lent('signing_key_digest')], '.pre .0'),
-    Chain('put_times', 'LostVoterAttestationV1', 'a', 'times via dep',
-          [be(8, '(x .observation_start_ms)'), be(8, '(x .decision_ms)'), be(8, '(x .issued_ms)'), be(8, '(x .expires_ms)')]),
-    Chain('put_claims_end', 'LostVoterAttestationV1', 't3', 'claimsEnd choice via dep check raw',
-          [widened(1, '(x .reason)', 0), lent('policy_digest'), Put('put_times', 'times .enc (timesOf x)'), lent('signature')]),
-    Chain('put_attestation', 'LostVoterAttestationV1', 'a', 'claims via dep',
-          [Put('put_claims_request', 'claimsRequest .enc (claimsRequestOf x)'), Put('put_claims_slot', 'claimsSlot .enc (claimsSlotOf x)'),
-           Put('put_claims_names', 'claimsNames .enc (claimsNamesOf x)', 0, 's .pre .1'),
-           Put('put_claims_end', 'claimsEnd .enc (claimsEndOf x)')], '.pre .0'),
+    record('identity', 'VoterSlotIdentity', 'id', 'identity slotId incarnation via dep check'),
+    record('log_id', 'VoterSlotLogId', 'id', 'logId via dep'),
+    record('binding', 'VoterSlotMember', 't3', 'binding via dep raw'),
+    record('member', 'VoterSlotMember', 'm', 'member via dep'),
+    record('configuration', 'VoterConfiguration', 'c', 'configuration epoch slotCount via dep check', {'members': 's .pre .1'}),
+    record('result_head', 'VoterReplacementResult', 't3', 'resultHead incarnation via dep check raw'),
+    record('result', 'VoterReplacementResult', 'x', 'result epoch choice via dep check'),
+    record('slot_member', 'VoterSlotRecord', 's', 'slotMember via dep', None,
+           {'identity': Put('put_identity', 'identity .enc (x .member .identity)', 2 * COPIED),
+            'binding': Put('put_binding', 'binding .enc (bindingOf (x .member))')}),
+    record('slot', 'VoterSlotRecord', 's', 'slot choice via dep check'),
+    record('claims_request', 'LostVoterAttestationV1', 't3', 'claimsRequest version via dep check raw'),
+    record('claims_slot', 'LostVoterAttestationV1', 't3', 'claimsSlot via dep raw', None,
+           {'identity': Put('put_identity', 'identity .enc (record { slot = x .slot; incarnation = x .expected_incarnation })')}),
+    record('claims_names', 'LostVoterAttestationV1', 't3', 'claimsNames via dep raw',
+           {'candidate_spiffe_id': 's .pre .1 .0', 'controller_spiffe_id': 's .pre .1 .1'}),
+    record('times', 'LostVoterAttestationV1', 'a', 'times via dep'),
+    # here the widened number takes no step more
+    record('claims_end', 'LostVoterAttestationV1', 't3', 'claimsEnd choice via dep check raw', None, {'reason': widened(1, '(x .reason)', 0)}),
+    record('attestation', 'LostVoterAttestationV1', 'a', 'claims via dep', {'names': 's .pre .1'}),
     Chain('put_boxed_attestation', 'LostVoterAttestationV1', 'a', 'attestation check',
           [be(2, '(length (claims .enc x))', ANSWER, ('attestation-size-requires',), ('attestation-size', 'uint 2 .enc')),
            Put('put_attestation', 'claims .enc x', 0, 's .pre .1')], '.pre .0', 'boxed-bytes attestation 8192'),
-    Chain('put_snapshot', 'VoterSnapshotEvidence', 't3', 'snapshot via dep raw',
-          [Put('put_log_id', 'logId .enc (x .cut)', COPIED), Put('put_snapshot_id', 'snapshotId .enc (x .snapshot_id)', COPIED, 's .pre .1'),
-           lent('digest')], '.pre .0'),
-    Chain('put_three_cuts', 'ThreeCuts', 'cuts', 'threeCuts via dep',
-          [Put('put_optional_log_id', f'optionalLogId .enc (x .{cut})', COPIED) for cut in ('first', 'second', 'third')]),
-    Chain('put_evidence', 'VoterReplacementEvidence', 'e', 'evidence via dep',
-          [Put('put_log_id', 'logId .enc (x .prepare)', COPIED),
-           Put('put_optional_snapshot', 'opt snapshot blankVoterSnapshotEvidence .enc (x .has_snapshot, x .snapshot)', COPIED, 's .pre .1'),
-           Put('put_three_cuts', 'threeCuts .enc (earlyCuts x)', ANSWER, None, ('early-cuts-requires',), ('early-cuts', 'threeCuts .enc')),
-           Put('put_three_cuts', 'threeCuts .enc (lateCuts x)', ANSWER, None, ('late-cuts-requires',), ('late-cuts', 'threeCuts .enc'))], '.pre .0'),
-    Chain('put_change', 'VoterReplacementRecord', 'x', 'change choice via dep check',
-          [Put('put_configuration', 'configuration .enc (x .predecessor)', COPIED, 's .pre .1 .0'),
-           Put('put_configuration', 'configuration .enc (x .successor)', COPIED, 's .pre .1 .1'), widened(1, '(x .phase)')], '.pre .0'),
-    Chain('put_replacement', 'VoterReplacementRecord', 'x', 'replacement via dep',
-          [be(8, '(x .expected_revision)'),
-           Put('put_boxed_attestation', 'boxed attestation 8192 .enc (x .attestation)', COPIED, '(s .pre .1 .candidate, s .pre .1 .controller)'),
-           Put('put_change', 'change .enc (changeOf x)', 0, '(s .pre .1 .predecessor, s .pre .1 .successor)'),
-           Put('put_evidence', 'evidence .enc (x .evidence)', COPIED, 's .pre .1 .snapshot')], '.pre .0'),
+    record('snapshot', 'VoterSnapshotEvidence', 't3', 'snapshot via dep raw', {'snapshot_id': 's .pre .1'}),
+    record('three_cuts', 'ThreeCuts', 'cuts', 'threeCuts via dep'),
+    record('evidence', 'VoterReplacementEvidence', 'e', 'evidence via dep', {'snapshot': 's .pre .1'}),
+    record('change', 'VoterReplacementRecord', 'x', 'change choice via dep check', {'predecessor': 's .pre .1 .0', 'successor': 's .pre .1 .1'}),
+    record('replacement', 'VoterReplacementRecord', 'x', 'replacement via dep',
+           {'attestation': '(s .pre .1 .candidate, s .pre .1 .controller)', 'change': '(s .pre .1 .predecessor, s .pre .1 .successor)',
+            'evidence': 's .pre .1 .snapshot'}),
     Chain('put_head', None, None, 'magicAndVersion via dep check raw',
           [Put('put_bytes', 'magic', 1, None, ('slice-aggregate-put-bytes',)), be(2, '1')]),
-    Chain('put_table_head', 'VoterSlotTable', 't3', 'tableHead epoch via dep check raw',
-          [lent('cluster_instance'), lent('manifest_digest'), be(8, '(x .revision)'), be(8, '(x .configuration_epoch)')]),
-    Chain('put_table', 'VoterSlotTable', 't', 'table slotCount via dep check',
-          [Put('put_head', 'magicAndVersion .enc tt'), Put('put_table_head', 'tableHead .enc (tableHeadOf x)'), be(1, '(x .count)'),
-           Put('put_slots', 'slots (x .count) .enc (x .slots)', COPIED, 's .pre .1 .count'),
-           Put('put_optional_replacement', 'opt replacement blankVoterReplacementRecord .enc (x .has_replacement, x .replacement)', COPIED,
-               's .pre .1 .replacement')], '.pre .0'),
+    record('table_head', 'VoterSlotTable', 't3', 'tableHead epoch via dep check raw'),
+    record('table', 'VoterSlotTable', 't', 'table slotCount via dep check', {'slots': 's .pre .1 .count', 'replacement': 's .pre .1 .replacement'}),
 ]
 
 # ---- what is used from where
