@@ -1,5 +1,6 @@
 -- `reader::decode::read_boxed_attestation` meets its contract. Assumes nothing.
-use Prim.Native.Nat.{_+_, _≤_}
+use Prim.Native.Nat.{ℕ, _+_, _≤_}
+use mathlib.Core.List.{List}
 use mathlib.Core.Path.{_≡_, sym, ap, _∙_}
 use native.Mathlib.Nat.{lt-of-le-of-lt}
 use native.Mathlib.Omega.{arith}
@@ -16,11 +17,28 @@ use borrow.Author.Needs.{needs}
 use Rattle.reader.proofs.decode.read_boxed_attestation.Statement.{statement}
 use Rattle.reader.proofs.decode.read_boxed_attestation.Tie as tie
 
--- the size and the bytes
-is : (c : tie.After-known-told) → sized 8192 .dec (c .before .before .before .before .before .args .bytes .now) ≡ ok (c .before .size .given .0 .0, take (c .before .size .given .0 .0) (drop (c .before .size .given .0 .1 .0) (c .before .before .before .before .before .args .bytes .now))) (c .before .size .given .0 .1 .0 + c .before .size .given .0 .0)
-is c = got (λ r. sizedRead r (c .before .before .before .before .before .args .bytes .now)) (c .before .before .before .read-sized .ensures) (c .before .size .given .1)
+-- the start, from after the size was read; that place, from after the attestation's call
+abbrev start : tie.After-known-told → tie.Start
+start c = c .before .before .before .before .before
 
-fits : (c : tie.After-known-told) → c .before .size .given .0 .1 .0 + c .before .size .given .0 .0 ≤ length (c .before .before .before .before .before .args .bytes .now)
+abbrev after-size : tie.After-read-whole-attestation → tie.After-known-told
+after-size c = c .before .before
+
+-- how many bytes the attestation has, where it begins, and in which bytes
+abbrev size : tie.After-known-told → ℕ
+size c = c .before .size .given .0 .0
+
+abbrev begin : tie.After-known-told → ℕ
+begin c = c .before .size .given .0 .1 .0
+
+abbrev input : tie.After-known-told → List ℕ
+input c = start c .args .bytes .now
+
+-- the size and the bytes
+is : (c : tie.After-known-told) → sized 8192 .dec (input c) ≡ ok (size c, take (size c) (drop (begin c) (input c))) (begin c + size c)
+is c = got (λ r. sizedRead r (input c)) (c .before .before .before .read-sized .ensures) (c .before .size .given .1)
+
+fits : (c : tie.After-known-told) → begin c + size c ≤ length (input c)
 fits c = sized 8192 .within _ (is c)
 
 read-sized-requires : tie.Need-read-sized-requires
@@ -42,11 +60,12 @@ returns : tie.Need-returns
 unfolding sized
 returns c =
     let s = c .before .before .before .before .before .before .args .bytes .now in
-    outcome-no blankLostVoterAttestationV1 (c .refused-attestation .ensures ∙ ap (λ a. outcome blankLostVoterAttestationV1 (no (numberOf a))) (c .before .why-sized .ensures ∙ ap whySized (c .before .before .enum-told .given .1)))
+    outcome-no blankLostVoterAttestationV1
+    (c .refused-attestation .ensures ∙ ap (λ a. outcome blankLostVoterAttestationV1 (no (numberOf a))) (c .before .why-sized .ensures ∙ ap whySized (c .before .before .enum-told .given .1)))
     (boxed-no-1 _ _ s (got (λ r. sizedRead r s) (c .before .before .before .before .read-sized .ensures) (c .before .before .enum-told .given .1)))
 
 add-end : tie.Need-add-end
-add-end c = record { fits = lt-of-le-of-lt (fits c) (c .before .before .before .before .before .good .0 .0) }
+add-end c = record { fits = lt-of-le-of-lt (fits c) (start c .good .0 .0) }
 
 sub-read-whole-attestation : tie.Need-sub-read-whole-attestation
 sub-read-whole-attestation c = omega arith
@@ -69,16 +88,22 @@ enum-told-3 c = search needs
 returns-2 : tie.Need-returns-2
 unfolding sized
 returns-2 c =
-    let s = c .before .before .before .before .before .before .before .before .before .args .bytes .now in
-    let p = (c .before .before .read-whole-attestation .ensures ∙ ap (λ l. outcome blankLostVoterAttestationV1 (whole attestation l)) (part-is (c .before .before .before .before .before .size .given .0 .0) (c .before .before .before .before .before .size .given .0 .1 .0) s)) in
+    let k = after-size (c .before .before) in
+    let s = input k in
+    let p = c .before .before .read-whole-attestation .ensures ∙ ap (λ l. outcome blankLostVoterAttestationV1 (whole attestation l)) (part-is (size k) (begin k) s) in
     let e = told-not blankLostVoterAttestationV1 _ p (c .enum-told3 .given .1) in
-    p ∙ ap (outcome blankLostVoterAttestationV1) (e ∙ sym (boxed-no-2 _ _ s (is (c .before .before .before .before)) e))
+    p ∙ ap (outcome blankLostVoterAttestationV1) (e ∙ sym (boxed-no-2 _ _ s (is k) e))
 
 returns-3 : tie.Need-returns-3
 unfolding sized
 returns-3 c =
-    let s = c .before .before .before .before .before .before .before .before .before .before .args .bytes .now in
-    outcome-ok blankLostVoterAttestationV1 (boxed-ok _ _ s (is (c .before .before .before .before .before)) (told blankLostVoterAttestationV1 _ (c .before .before .before .read-whole-attestation .ensures ∙ ap (λ l. outcome blankLostVoterAttestationV1 (whole attestation l)) (part-is (c .before .before .before .before .before .before .size .given .0 .0) (c .before .before .before .before .before .before .size .given .0 .1 .0) s)) (c .before .enum-told2 .given .1)))
+    let k = after-size (c .before .before .before) in
+    let s = input k in
+    outcome-ok blankLostVoterAttestationV1
+    (boxed-ok _ _ s (is k)
+    (told blankLostVoterAttestationV1 _
+    (c .before .before .before .read-whole-attestation .ensures ∙ ap (λ l. outcome blankLostVoterAttestationV1 (whole attestation l)) (part-is (size k) (begin k) s))
+    (c .before .enum-told2 .given .1)))
 
 pub read-boxed-attestation-spec : {M : Type 1} → statement M
 read-boxed-attestation-spec =

@@ -32,11 +32,17 @@ returns c = ap u8Read (c .enum-told .given .1) ∙ sym (checked-no _ _ _ (got u8
 
 returns-2 : tie.Need-returns-2
 unfolding choice pick
-returns-2 c = sym (checked-bad _ _ _ (is (c .before .before)) (ap require (not-true (leb (c .before .before .before .before .before .before .args .low) (c .before .before .number .given .0 .0) && leb (c .before .before .number .given .0 .0) (c .before .before .before .before .before .before .args .high)) (c .if1 .taken))))
+returns-2 c =
+    let k = c .before .before in
+    let a = c .before .before .before .before .before .before .args in
+    sym (checked-bad _ _ _ (is k) (ap require (not-true (leb (a .low) (k .number .given .0 .0) && leb (k .number .given .0 .0) (a .high)) (c .if1 .taken))))
 
 returns-3 : tie.Need-returns-3
 unfolding choice pick
-returns-3 c = sym (checked-ok _ _ _ (is (c .before .before)) (ap require (not-false (leb (c .before .before .before .before .before .before .args .low) (c .before .before .number .given .0 .0) && leb (c .before .before .number .given .0 .0) (c .before .before .before .before .before .before .args .high)) (c .if1 .left))))
+returns-3 c =
+    let k = c .before .before in
+    let a = c .before .before .before .before .before .before .args in
+    sym (checked-ok _ _ _ (is k) (ap require (not-false (leb (a .low) (k .number .given .0 .0) && leb (k .number .given .0 .0) (a .high)) (c .if1 .left))))
 
 pub read-choice-spec : {M : Type 1} → statement M
 read-choice-spec =
