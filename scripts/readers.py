@@ -1,10 +1,10 @@
 #!/usr/bin/env python3
 """Writes the regular proofs of the readers (crates/reader/proofs/{reader,decode}, crates/layout/proofs/{get,reading} and crates/journal/proofs/bodies).
 
-Records are read field by field: after each field a lemma says what was read so far and up to where; every need is then one line. Optional parts, the places of
-slots and members, text, and arrays of bytes have a template each, and so have the refusals that are passed on. The needs and their order are those
-that `rt dev reader` prints for a function that has no proof file: the script takes them, and nothing else, from such a file (scripts/skeletons.py) or from
-one that it filled before, and writes all the rest. A file or a need that is not there ends it.
+Records (scripts/fields.py) are read field by field: the places, values and sizes are named by the field, and after each a lemma says what was read so far and
+up to where; every need is then a line or two. Optional parts, the places of slots and members, text, and arrays of bytes have a template each, and so have
+the refusals that are passed on. The needs and their order are those that `rt dev reader` prints for a function that has no proof file: the script takes them,
+and nothing else, from such a file (scripts/skeletons.py) or from one that it filled before, and writes all the rest. A file or a need that is not there ends it.
 Run it after a change of a reader or of the format: scripts/readers.py [NAME..]
 """
 import os
@@ -82,7 +82,7 @@ class Skeleton:
         print("wrote", self.name)
 
 
-# What a field of a kind gives that comes with its answer: the type of the value, the definition of the answer and that of its refusal (None: as of a value)
+# Kinds whose value comes with the answer: its type, the definition of the answer, and the name of the call that passes a refusal on (None: `why`)
 ENUM = {
     "u64": ("ℕ", "u64Read", "U64"),
     "u16": ("ℕ", "u16Read", "U16"),
@@ -105,7 +105,7 @@ ENUM = {
 }
 # What is read and leaves no value
 MARKS = ("version", "head")
-# What is read into a place: the type of the value, and the blank
+# Kinds whose value stands next to the answer: its type, and the blank
 STRUCT = {
     "array16": ("List ℕ", "(zeros 16)"),
     "array32": ("List ℕ", "(zeros 32)"),
@@ -139,35 +139,35 @@ COUNTED = ("members", "slots")
 # Groups whose codec is no record of its own, but the fields one after the other
 GROUPS = ("tableFront",)
 
-# Readers: module, record, codec, blank or (for an enum) the answer's definition, constructor that is called. scripts/fields.py has the fields.
+# Readers: module, record (scripts/fields.py has its fields), blank or (for an enum) the answer's definition, constructor that is called
 READERS = [
-    ("reader", "identity", "identity", "=identityRead", None),
-    ("reader", "log_id", "logId", "=logIdRead", None),
-    ("reader", "three_cuts", "threeCuts", "=threeCutsRead", None),
-    ("reader", "times", "times", "=timesRead", None),
-    ("decode", "binding", "binding", "blankBinding", None),
-    ("decode", "member", "member", "blankVoterSlotMember", "member_of"),
-    ("decode", "configuration", "configuration", "blankVoterConfiguration", None),
-    ("decode", "result_head", "resultHead", "blankResultHead", None),
-    ("decode", "result", "result", "blankVoterReplacementResult", "result_of"),
-    ("decode", "slot_member", "slotMember", "blankSlotMember", "member_of"),
-    ("decode", "slot", "slot", "blankVoterSlotRecord", None),
-    ("decode", "claims_request", "claimsRequest", "blankClaimsRequest", None),
-    ("decode", "claims_slot", "claimsSlot", "blankClaimsSlot", None),
-    ("decode", "claims_names", "claimsNames", "blankClaimsNames", None),
-    ("decode", "claims_end", "claimsEnd", "blankClaimsEnd", None),
-    ("decode", "attestation", "claims", "blankLostVoterAttestationV1", "attestation_of"),
-    ("decode", "snapshot", "snapshot", "blankVoterSnapshotEvidence", None),
-    ("decode", "evidence", "evidence", "blankVoterReplacementEvidence", "evidence_of"),
-    ("decode", "change", "change", "blankChange", None),
-    ("decode", "replacement", "replacement", "blankVoterReplacementRecord", "replacement_of"),
-    ("decode", "table_head", "tableHead", "blankTableHead", None),
-    ("decode", "table_front", "tableFront", "blankTableFront", None),
-    ("bodies", "marker_body", "markerBody", "blankMarkerBody", None),
-    ("bodies", "any_identity", "anyIdentity", "=identityRead", None),
-    ("bodies", "candidate", "candidate", "blankVoterSlotMember", "member_of"),
-    ("bodies", "expected", "expected", "blankConsensusIdentity", None),
-    ("bodies", "begin_head", "beginHead", "blankBeginHead", None),
+    ("reader", "identity", "=identityRead", None),
+    ("reader", "log_id", "=logIdRead", None),
+    ("reader", "three_cuts", "=threeCutsRead", None),
+    ("reader", "times", "=timesRead", None),
+    ("decode", "binding", "blankBinding", None),
+    ("decode", "member", "blankVoterSlotMember", "member_of"),
+    ("decode", "configuration", "blankVoterConfiguration", None),
+    ("decode", "result_head", "blankResultHead", None),
+    ("decode", "result", "blankVoterReplacementResult", "result_of"),
+    ("decode", "slot_member", "blankSlotMember", "member_of"),
+    ("decode", "slot", "blankVoterSlotRecord", None),
+    ("decode", "claims_request", "blankClaimsRequest", None),
+    ("decode", "claims_slot", "blankClaimsSlot", None),
+    ("decode", "claims_names", "blankClaimsNames", None),
+    ("decode", "claims_end", "blankClaimsEnd", None),
+    ("decode", "attestation", "blankLostVoterAttestationV1", "attestation_of"),
+    ("decode", "snapshot", "blankVoterSnapshotEvidence", None),
+    ("decode", "evidence", "blankVoterReplacementEvidence", "evidence_of"),
+    ("decode", "change", "blankChange", None),
+    ("decode", "replacement", "blankVoterReplacementRecord", "replacement_of"),
+    ("decode", "table_head", "blankTableHead", None),
+    ("decode", "table_front", "blankTableFront", None),
+    ("bodies", "marker_body", "blankMarkerBody", None),
+    ("bodies", "any_identity", "=identityRead", None),
+    ("bodies", "candidate", "blankVoterSlotMember", "member_of"),
+    ("bodies", "expected", "blankConsensusIdentity", None),
+    ("bodies", "begin_head", "blankBeginHead", None),
 ]
 # Readers that pass a refusal on by the function of another
 REFUSED = {"read_candidate": "refused_member"}
@@ -238,8 +238,10 @@ class Names:
 
 
 class Reader:
-    def __init__(self, module, record, codec, blank, made):
-        self.module, self.name, self.codec, self.blank, self.made, self.fields = module, "read_" + record, codec, blank, made, FIELDS[record]
+    def __init__(self, module, record, blank, made):
+        self.module, self.name, self.blank, self.made, self.fields = module, "read_" + record, blank, made, FIELDS[record]
+        # what is read of an attestation are its claims; whether it is valid is asked later
+        self.codec = "claims" if record == "attestation" else format_of(record)
         self.enum = blank[1:] if blank.startswith("=") else None
         self.n = len(self.fields)
         calls = Names()
