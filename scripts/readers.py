@@ -392,23 +392,22 @@ def write(r):
     defs = "-- the format up to each field\n"
     for k in range(n):
         c = r.codec_of(0, "") if k == 0 else f"dep to-{r.field(k - 1)} (λ a. {r.codec_of(k, 'a .1')})"
-        defs += abbrev(f"to-{r.field(k)}", f"Codec ({r.types(k + 1)})", c)
+        defs += abbrev(f"to-{r.field(k)}", f"Codec {par(r.types(k + 1))}", c)
     defs += r.places() + r.gave()
     defs += "-- after each field: what was read so far, and up to where\n"
     for k in range(n):
-        f = r.field(k)
+        f, got = r.field(k), r.field_got(k)
+        # so many places are asked for as were counted
+        if k + 1 < n and r.kind(k + 1) in COUNTED:
+            counted = f"slotCount .dec (drop ({r.sizes(k - 1, r.last(k))}) ({r.start(k)} .args .bytes .now)) ≡ ok ({f}-value c) ({f}-size c)"
+            defs += f"-- the count by itself: so many places are read\ncounted : (c : {r.place(k)})\n    → {counted}\ncounted c =\n    {got}\n\n"
+            s.fill(kebab(r.call(k + 1)) + "-requires", "count-read _ (counted (c .before))")
+            got = "counted c"
         defs += f"got-{f} : (c : {r.place(k)})\n    → to-{f} .dec ({r.start(k)} .args .bytes .now) ≡ ok ({r.values(k)}) ({r.sizes(k)})\n"
         if k == 0:
-            defs += f"got-{f} c = {r.field_got(0)}\n\n"
+            defs += f"got-{f} c = {got}\n\n"
         else:
-            defs += f"got-{f} c =\n    dep-ok _ _ _ (got-{r.field(k - 1)} ({r.last(k)}))\n    ({r.field_got(k)})\n\n"
-    for k in range(1, n):
-        # so many places are asked for as were counted
-        if r.kind(k) in COUNTED:
-            at, f = r.place(k - 1), r.field(k - 1)
-            defs += f"counted : (c : {at})\n    → slotCount .dec (drop ({r.sizes(k - 2, r.last(k - 1))}) ({r.start(k - 1)} .args .bytes .now)) ≡ ok ({f}-value c) ({f}-size c)\n"
-            defs += f"counted c =\n    {r.field_got(k - 1)}\n\n"
-            s.fill(kebab(r.call(k)) + "-requires", "count-read _ (counted (c .before))")
+            defs += f"got-{f} c =\n    dep-ok _ _ _ (got-{r.field(k - 1)} ({r.last(k)}))\n    ({got})\n\n"
     for k in range(n):
         f = r.field(k)
         w, wd, passed = r.refusal(k)
@@ -439,7 +438,8 @@ def write(r):
     whole = r.whole("ok", f"got-{r.field(end)} {par(back(m + extra(r)))}")
     if r.made:
         whole += f"\n    ∙ ap (λ v. ok {made_value(r)} ({r.sizes(end, back(m))})) (sym (c .{kebab(r.made)} .ensures))"
-    s.fill(f"returns-{n + 1}", f"sym ({whole})" if r.enum else f"outcome-ok _ ({whole})", r.unfolded())
+    body = f"sym ({whole})" if r.enum else f"outcome-ok _ ({whole})"
+    s.fill(f"returns-{n + 1}", "\n    " + body if r.made else body, r.unfolded())
     s.write(header(r, defs + s.text(), s.own()), defs)
 
 

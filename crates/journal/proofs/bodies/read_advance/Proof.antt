@@ -1,4 +1,6 @@
 -- `journal::bodies::read_advance` meets its contract. Assumes nothing.
+use Prim.Native.Nat.{ℕ}
+use mathlib.Core.List.{List}
 use mathlib.Core.Path.{_≡_, sym, ap, _∙_}
 use mathlib.Core.Bool.{cond}
 use borrow.Author.Needs.{needs}
@@ -16,9 +18,16 @@ use Rattle.journal.specs.Replay.Asking.{bad, asks}
 use Rattle.journal.proofs.bodies.read_advance.Statement.{statement}
 use Rattle.journal.proofs.bodies.read_advance.Tie as tie
 
+-- the call that reads what names the request, from after it; the bytes
+abbrev called : tie.After-known-told → tie.After-read-marker-body
+called c = c .before .before .before .before
+
+abbrev input : tie.After-known-told → List ℕ
+input c = called c .before .before .args .body .now
+
 -- what names the request
-named : (c : tie.After-known-told) → markerBody .dec (c .before .before .before .before .before .before .args .body .now) ≡ ok (c .before .before .before .before .read-marker-body .result .value) (c .before .named-to .given .0 .0)
-named c = told blankMarkerBody _ (c .before .before .before .before .read-marker-body .ensures) (c .before .named-to .given .1)
+named : (c : tie.After-known-told) → markerBody .dec (input c) ≡ ok (called c .read-marker-body .result .value) (c .before .named-to .given .0 .0)
+named c = told blankMarkerBody _ (called c .read-marker-body .ensures) (c .before .named-to .given .1)
 
 read-marker-body-requires : tie.Need-read-marker-body-requires
 read-marker-body-requires c κs = search needs
@@ -61,9 +70,10 @@ advance-of-requires c κs = search needs
 
 returns-2 : tie.Need-returns-2
 returns-2 c =
-    let s = c .before .before .before .before .before .before .before .before .before .before .before .args .body .now in
+    let k = c .before .before .before .before .before in
+    let r = c .before .before .before .read-step in
     (λ i. cond (c .before .is-whole .ensures i) (asks (command (advanceControl (c .advance-of .ensures i)) (c .advance-of .ensures i .cut))) bad)
-    ∙ advance-asks s (c .before .before .before .read-step .result .answer) (named (c .before .before .before .before .before)) (c .before .before .before .read-step .ensures ∙ ap (λ l. outcome blankVoterReplacementStep (decMap (stepBody .dec) stepOf l)) (rest s _))
+    ∙ advance-asks (input k) (r .result .answer) (named k) (r .ensures ∙ ap (λ l. outcome blankVoterReplacementStep (decMap (stepBody .dec) stepOf l)) (rest (input k) _))
 
 pub read-advance-spec : {M : Type 1} → statement M
 read-advance-spec =

@@ -14,7 +14,7 @@ use Rattle.journal.proofs.bodies.read_any_identity.Statement.{statement
 use Rattle.journal.proofs.bodies.read_any_identity.Tie as tie
 
 -- the format up to each field
-abbrev to-slot : Codec (ℕ)
+abbrev to-slot : Codec ℕ
 to-slot = uint 2
 
 abbrev to-incarnation : Codec (ℕ × ℕ)

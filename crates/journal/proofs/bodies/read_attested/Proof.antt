@@ -13,6 +13,13 @@ use Rattle.journal.specs.BodiesLaws.{attested-refused, attested-asks, su
 use Rattle.journal.proofs.bodies.read_attested.Statement.{statement}
 use Rattle.journal.proofs.bodies.read_attested.Tie as tie
 
+-- the attestation's decoding, from after it was accepted; that place, from the first digest's call
+abbrev decoded : tie.Else1 → tie.After-decode-lost-voter-attestation
+decoded c = c .before .before
+
+abbrev accepted-at : tie.After-read-array32 → tie.Else1
+accepted-at c = c .before .before
+
 decode-lost-voter-attestation-requires : tie.Need-decode-lost-voter-attestation-requires
 decode-lost-voter-attestation-requires c κs = search needs
 
@@ -25,9 +32,10 @@ refused-begin-requires c κs = search needs
 returns : tie.Need-returns
 unfolding beginAskingBy
 returns c =
+    let d = c .before .before .before .decode-lost-voter-attestation in
     let s = c .before .before .before .before .before .before .args in
     ap (λ a. beginAskingBy a (c .refused-begin .result .value)) (c .refused-begin .ensures)
-    ∙ attested-refused (s .head) (s .attestation .now) (s .supplied .now) (c .before .before .before .decode-lost-voter-attestation .result .answer) (c .before .before .before .decode-lost-voter-attestation .result .attestation) (c .before .before .before .decode-lost-voter-attestation .ensures) (failed (c .before .before .accepted .ensures) (c .before .if1 .taken))
+    ∙ attested-refused (s .head) (s .attestation .now) (s .supplied .now) (d .result .answer) (d .result .attestation) (d .ensures) (failed (c .before .before .accepted .ensures) (c .before .if1 .taken))
 
 read-array32-requires : tie.Need-read-array32-requires
 read-array32-requires c κs = search needs
@@ -50,11 +58,15 @@ begin-of-requires c κs = search needs
 returns-2 : tie.Need-returns-2
 unfolding beginAskingBy
 returns-2 c =
-    let s = c .before .before .before .before .before .before .before .before .before .before .before .before .args in
-    attested-asks (s .head) (s .attestation .now) (s .supplied .now) (c .before .before .before .before .before .before .before .before .before .decode-lost-voter-attestation .result .answer) (c .before .before .before .before .before .before .before .before .before .decode-lost-voter-attestation .result .attestation) (c .begin-of .ensures)
-    (supplied-read (s .supplied .now) (omega arith) (c .before .before .before .before .before .read-array32 .ensures))
-    (supplied-read (drop 32 (s .supplied .now)) (omega (arith, length-drop 32 (s .supplied .now))) (c .before .before .read-array322 .ensures ∙ ap (λ l. outcome (zeros 32) (raw 32 .dec l)) (rest (s .supplied .now) 32)))
-    (c .before .before .before .before .before .before .before .before .before .decode-lost-voter-attestation .ensures) (held (c .before .before .before .before .before .before .before .before .accepted .ensures) (c .before .before .before .before .before .before .before .if1 .left))
+    let r = c .before .before .before .before .before in
+    let k = accepted-at r in
+    let d = decoded k .decode-lost-voter-attestation in
+    let s = decoded k .before .before .before .args in
+    attested-asks (s .head) (s .attestation .now) (s .supplied .now) (d .result .answer) (d .result .attestation) (c .begin-of .ensures)
+    (supplied-read (s .supplied .now) (omega arith) (r .read-array32 .ensures))
+    (supplied-read (drop 32 (s .supplied .now)) (omega (arith, length-drop 32 (s .supplied .now)))
+    (c .before .before .read-array322 .ensures ∙ ap (λ l. outcome (zeros 32) (raw 32 .dec l)) (rest (s .supplied .now) 32)))
+    (d .ensures) (held (k .before .accepted .ensures) (k .if1 .left))
 
 pub read-attested-spec : {M : Type 1} → statement M
 read-attested-spec =

@@ -21,7 +21,7 @@ use Rattle.journal.proofs.bodies.read_begin_head.Statement.{statement}
 use Rattle.journal.proofs.bodies.read_begin_head.Tie as tie
 
 -- the format up to each field
-abbrev to-cut : Codec (VoterSlotLogId)
+abbrev to-cut : Codec VoterSlotLogId
 to-cut = logId
 
 abbrev to-expected-revision : Codec (VoterSlotLogId × ℕ)

@@ -18,7 +18,7 @@ use Rattle.journal.proofs.bodies.read_candidate.Statement.{statement}
 use Rattle.journal.proofs.bodies.read_candidate.Tie as tie
 
 -- the format up to each field
-abbrev to-identity : Codec (VoterSlotIdentity)
+abbrev to-identity : Codec VoterSlotIdentity
 to-identity = anyIdentity
 
 abbrev to-binding : Codec (VoterSlotIdentity × Binding)
@@ -141,7 +141,8 @@ member-of-requires c κs = search needs
 
 returns-3 : tie.Need-returns-3
 unfolding candidate
-returns-3 c = outcome-ok _ (via-ok _ _ _ _ _ (got-binding (c .before))
+returns-3 c =
+    outcome-ok _ (via-ok _ _ _ _ _ (got-binding (c .before))
     ∙ ap (λ v. ok v (size-to-binding (c .before))) (sym (c .member-of .ensures)))
 
 pub read-candidate-spec : {M : Type 1} → statement M

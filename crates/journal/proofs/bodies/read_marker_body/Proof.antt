@@ -19,7 +19,7 @@ use Rattle.journal.proofs.bodies.read_marker_body.Statement.{statement}
 use Rattle.journal.proofs.bodies.read_marker_body.Tie as tie
 
 -- the format up to each field
-abbrev to-cut : Codec (VoterSlotLogId)
+abbrev to-cut : Codec VoterSlotLogId
 to-cut = logId
 
 abbrev to-request-id : Codec (VoterSlotLogId × List ℕ)

@@ -19,7 +19,7 @@ use Rattle.reader.proofs.decode.read_attestation.Statement.{statement}
 use Rattle.reader.proofs.decode.read_attestation.Tie as tie
 
 -- the format up to each field
-abbrev to-request : Codec (ClaimsRequest)
+abbrev to-request : Codec ClaimsRequest
 to-request = claimsRequest
 
 abbrev to-slot : Codec (ClaimsRequest × ClaimsSlot)
@@ -284,7 +284,8 @@ attestation-of-requires c κs = search needs
 
 returns-5 : tie.Need-returns-5
 unfolding claims
-returns-5 c = outcome-ok _ (via-ok _ _ _ _ _ (got-end (c .before))
+returns-5 c =
+    outcome-ok _ (via-ok _ _ _ _ _ (got-end (c .before))
     ∙ ap (λ v. ok v (size-to-end (c .before))) (sym (c .attestation-of .ensures)))
 
 pub read-attestation-spec : {M : Type 1} → statement M

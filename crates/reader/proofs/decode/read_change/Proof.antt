@@ -16,7 +16,7 @@ use Rattle.reader.proofs.decode.read_change.Statement.{statement}
 use Rattle.reader.proofs.decode.read_change.Tie as tie
 
 -- the format up to each field
-abbrev to-predecessor : Codec (VoterConfiguration)
+abbrev to-predecessor : Codec VoterConfiguration
 to-predecessor = configuration
 
 abbrev to-successor : Codec (VoterConfiguration × VoterConfiguration)

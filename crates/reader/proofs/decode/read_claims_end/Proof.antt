@@ -18,7 +18,7 @@ use Rattle.reader.proofs.decode.read_claims_end.Statement.{statement}
 use Rattle.reader.proofs.decode.read_claims_end.Tie as tie
 
 -- the format up to each field
-abbrev to-reason : Codec (ℕ)
+abbrev to-reason : Codec ℕ
 to-reason = choice 1 2
 
 abbrev to-policy-digest : Codec (ℕ × List ℕ)

@@ -19,7 +19,7 @@ use Rattle.reader.proofs.decode.read_claims_names.Statement.{statement}
 use Rattle.reader.proofs.decode.read_claims_names.Tie as tie
 
 -- the format up to each field
-abbrev to-admission-generation : Codec (ℕ)
+abbrev to-admission-generation : Codec ℕ
 to-admission-generation = uint 8
 
 abbrev to-candidate-spiffe-id : Codec (ℕ × SpiffeId)

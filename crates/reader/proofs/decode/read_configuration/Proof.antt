@@ -19,7 +19,7 @@ use Rattle.reader.proofs.decode.read_configuration.Statement.{statement
 use Rattle.reader.proofs.decode.read_configuration.Tie as tie
 
 -- the format up to each field
-abbrev to-epoch : Codec (ℕ)
+abbrev to-epoch : Codec ℕ
 to-epoch = epoch
 
 abbrev to-count : Codec (ℕ × ℕ)
@@ -99,13 +99,19 @@ got-epoch : (c : tie.After-known-told)
     → to-epoch .dec (start-epoch (called-epoch c) .args .bytes .now) ≡ ok (epoch-value c) (epoch-size c)
 got-epoch c = got u64Read (called-epoch c .read-epoch .ensures) (c .before .epoch-read .given .1)
 
+-- the count by itself: so many places are read
+counted : (c : tie.After-known-told2)
+    → slotCount .dec (drop (epoch-size (after-epoch (called-count c))) (start-count (called-count c) .args .bytes .now)) ≡ ok (count-value c) (count-size c)
+counted c =
+    got u8Read
+    (called-count c .read-count .ensures ∙ ap (slotCount .dec) (rest (start-count (called-count c) .args .bytes .now) _))
+    (c .before .count-read .given .1)
+
 got-count : (c : tie.After-known-told2)
     → to-count .dec (start-count (called-count c) .args .bytes .now) ≡ ok (values-to-count c) (size-to-count c)
 got-count c =
     dep-ok _ _ _ (got-epoch (after-epoch (called-count c)))
-    (got u8Read
-    (called-count c .read-count .ensures ∙ ap (slotCount .dec) (rest (start-count (called-count c) .args .bytes .now) _))
-    (c .before .count-read .given .1))
+    (counted c)
 
 got-members : (c : tie.After-members)
     → to-members .dec (start-members (called-members c) .args .bytes .now) ≡ ok (values-to-members c) (size-to-members c)
@@ -114,13 +120,6 @@ got-members c =
     (told blankVoterSlotMembers _
     (called-members c .read-members .ensures ∙ ap (λ l. outcome blankVoterSlotMembers (members (count-value (after-count (called-members c))) .dec l)) (rest (start-members (called-members c) .args .bytes .now) _))
     (c .before .before .members-to .given .1))
-
-counted : (c : tie.After-known-told2)
-    → slotCount .dec (drop (epoch-size (after-epoch (called-count c))) (start-count (called-count c) .args .bytes .now)) ≡ ok (count-value c) (count-size c)
-counted c =
-    got u8Read
-    (called-count c .read-count .ensures ∙ ap (slotCount .dec) (rest (start-count (called-count c) .args .bytes .now) _))
-    (c .before .count-read .given .1)
 
 read-epoch-requires : tie.Need-read-epoch-requires
 read-epoch-requires c κs = search needs

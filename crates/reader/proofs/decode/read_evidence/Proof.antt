@@ -20,7 +20,7 @@ use Rattle.reader.proofs.decode.read_evidence.Statement.{statement}
 use Rattle.reader.proofs.decode.read_evidence.Tie as tie
 
 -- the format up to each field
-abbrev to-prepare : Codec (VoterSlotLogId)
+abbrev to-prepare : Codec VoterSlotLogId
 to-prepare = logId
 
 abbrev to-snapshot : Codec (VoterSlotLogId × (Bool × VoterSnapshotEvidence))
@@ -285,7 +285,8 @@ evidence-of-requires c κs = search needs
 
 returns-5 : tie.Need-returns-5
 unfolding evidence
-returns-5 c = outcome-ok _ (via-ok _ _ _ _ _ (got-late (c .before))
+returns-5 c =
+    outcome-ok _ (via-ok _ _ _ _ _ (got-late (c .before))
     ∙ ap (λ v. ok v (size-to-late (c .before))) (sym (c .evidence-of .ensures)))
 
 pub read-evidence-spec : {M : Type 1} → statement M

@@ -17,7 +17,7 @@ use Rattle.reader.proofs.decode.read_member.Statement.{statement}
 use Rattle.reader.proofs.decode.read_member.Tie as tie
 
 -- the format up to each field
-abbrev to-identity : Codec (VoterSlotIdentity)
+abbrev to-identity : Codec VoterSlotIdentity
 to-identity = identity
 
 abbrev to-binding : Codec (VoterSlotIdentity × Binding)
@@ -140,7 +140,8 @@ member-of-requires c κs = search needs
 
 returns-3 : tie.Need-returns-3
 unfolding member
-returns-3 c = outcome-ok _ (via-ok _ _ _ _ _ (got-binding (c .before))
+returns-3 c =
+    outcome-ok _ (via-ok _ _ _ _ _ (got-binding (c .before))
     ∙ ap (λ v. ok v (size-to-binding (c .before))) (sym (c .member-of .ensures)))
 
 pub read-member-spec : {M : Type 1} → statement M

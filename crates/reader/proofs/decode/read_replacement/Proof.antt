@@ -20,7 +20,7 @@ use Rattle.reader.proofs.decode.read_replacement.Statement.{statement}
 use Rattle.reader.proofs.decode.read_replacement.Tie as tie
 
 -- the format up to each field
-abbrev to-expected-revision : Codec (ℕ)
+abbrev to-expected-revision : Codec ℕ
 to-expected-revision = uint 8
 
 abbrev to-attestation : Codec (ℕ × LostVoterAttestationV1)
@@ -285,7 +285,8 @@ replacement-of-requires c κs = search needs
 
 returns-5 : tie.Need-returns-5
 unfolding replacement
-returns-5 c = outcome-ok _ (via-ok _ _ _ _ _ (got-evidence (c .before))
+returns-5 c =
+    outcome-ok _ (via-ok _ _ _ _ _ (got-evidence (c .before))
     ∙ ap (λ v. ok v (size-to-evidence (c .before))) (sym (c .replacement-of .ensures)))
 
 pub read-replacement-spec : {M : Type 1} → statement M

@@ -17,7 +17,7 @@ use Rattle.reader.proofs.decode.read_result.Statement.{statement}
 use Rattle.reader.proofs.decode.read_result.Tie as tie
 
 -- the format up to each field
-abbrev to-head : Codec (ResultHead)
+abbrev to-head : Codec ResultHead
 to-head = resultHead
 
 abbrev to-configuration-epoch : Codec (ResultHead × ℕ)
@@ -282,7 +282,8 @@ result-of-requires c κs = search needs
 
 returns-5 : tie.Need-returns-5
 unfolding result
-returns-5 c = outcome-ok _ (via-ok _ _ _ _ _ (got-terminal (c .before))
+returns-5 c =
+    outcome-ok _ (via-ok _ _ _ _ _ (got-terminal (c .before))
     ∙ ap (λ v. ok v (size-to-terminal (c .before))) (sym (c .result-of .ensures)))
 
 pub read-result-spec : {M : Type 1} → statement M

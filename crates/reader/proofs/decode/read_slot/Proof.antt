@@ -19,7 +19,7 @@ use Rattle.reader.proofs.decode.read_slot.Statement.{statement}
 use Rattle.reader.proofs.decode.read_slot.Tie as tie
 
 -- the format up to each field
-abbrev to-head : Codec (SlotMember)
+abbrev to-head : Codec SlotMember
 to-head = slotMember
 
 abbrev to-phase : Codec (SlotMember × ℕ)

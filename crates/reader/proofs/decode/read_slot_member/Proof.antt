@@ -17,7 +17,7 @@ use Rattle.reader.proofs.decode.read_slot_member.Statement.{statement}
 use Rattle.reader.proofs.decode.read_slot_member.Tie as tie
 
 -- the format up to each field
-abbrev to-identity : Codec (VoterSlotIdentity)
+abbrev to-identity : Codec VoterSlotIdentity
 to-identity = identity
 
 abbrev to-retired-through : Codec (VoterSlotIdentity × ℕ)
@@ -211,7 +211,8 @@ member-of-requires c κs = search needs
 
 returns-4 : tie.Need-returns-4
 unfolding slotMember
-returns-4 c = outcome-ok _ (via-ok _ _ _ _ _ (got-binding (c .before))
+returns-4 c =
+    outcome-ok _ (via-ok _ _ _ _ _ (got-binding (c .before))
     ∙ ap (λ v. ok (record { member = v; «retired_through» = retired-through-value (after-retired-through (called-binding (c .before))) }) (size-to-binding (c .before))) (sym (c .member-of .ensures)))
 
 pub read-slot-member-spec : {M : Type 1} → statement M

@@ -19,7 +19,7 @@ use Rattle.reader.proofs.decode.read_snapshot.Statement.{statement}
 use Rattle.reader.proofs.decode.read_snapshot.Tie as tie
 
 -- the format up to each field
-abbrev to-cut : Codec (VoterSlotLogId)
+abbrev to-cut : Codec VoterSlotLogId
 to-cut = logId
 
 abbrev to-snapshot-id : Codec (VoterSlotLogId × SnapshotId)

@@ -131,13 +131,19 @@ got-head c =
     (called-head c .read-table-head .ensures ∙ ap (λ l. outcome blankTableHead (tableHead .dec l)) (rest (start-head (called-head c) .args .bytes .now) _))
     (c .before .before .head-to .given .1))
 
+-- the count by itself: so many places are read
+counted : (c : tie.After-known-told3)
+    → slotCount .dec (drop (size-to-head (after-head (called-count c))) (start-count (called-count c) .args .bytes .now)) ≡ ok (count-value c) (count-size c)
+counted c =
+    got u8Read
+    (called-count c .read-count .ensures ∙ ap (slotCount .dec) (rest (start-count (called-count c) .args .bytes .now) _))
+    (c .before .count-read .given .1)
+
 got-count : (c : tie.After-known-told3)
     → to-count .dec (start-count (called-count c) .args .bytes .now) ≡ ok (values-to-count c) (size-to-count c)
 got-count c =
     dep-ok _ _ _ (got-head (after-head (called-count c)))
-    (got u8Read
-    (called-count c .read-count .ensures ∙ ap (slotCount .dec) (rest (start-count (called-count c) .args .bytes .now) _))
-    (c .before .count-read .given .1))
+    (counted c)
 
 got-slots : (c : tie.After-slots)
     → to-slots .dec (start-slots (called-slots c) .args .bytes .now) ≡ ok (values-to-slots c) (size-to-slots c)
@@ -146,13 +152,6 @@ got-slots c =
     (told blankVoterSlotRecords _
     (called-slots c .read-slots .ensures ∙ ap (λ l. outcome blankVoterSlotRecords (slots (count-value (after-count (called-slots c))) .dec l)) (rest (start-slots (called-slots c) .args .bytes .now) _))
     (c .before .before .slots-to .given .1))
-
-counted : (c : tie.After-known-told3)
-    → slotCount .dec (drop (size-to-head (after-head (called-count c))) (start-count (called-count c) .args .bytes .now)) ≡ ok (count-value c) (count-size c)
-counted c =
-    got u8Read
-    (called-count c .read-count .ensures ∙ ap (slotCount .dec) (rest (start-count (called-count c) .args .bytes .now) _))
-    (c .before .count-read .given .1)
 
 read-head-requires : tie.Need-read-head-requires
 read-head-requires c κs = search needs

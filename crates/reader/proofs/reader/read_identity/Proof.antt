@@ -13,7 +13,7 @@ use Rattle.reader.proofs.reader.read_identity.Statement.{statement}
 use Rattle.reader.proofs.reader.read_identity.Tie as tie
 
 -- the format up to each field
-abbrev to-slot : Codec (ℕ)
+abbrev to-slot : Codec ℕ
 to-slot = slotId
 
 abbrev to-incarnation : Codec (ℕ × ℕ)

@@ -14,7 +14,7 @@ use Rattle.reader.proofs.reader.read_log_id.Statement.{statement}
 use Rattle.reader.proofs.reader.read_log_id.Tie as tie
 
 -- the format up to each field
-abbrev to-term : Codec (ℕ)
+abbrev to-term : Codec ℕ
 to-term = uint 8
 
 abbrev to-index : Codec (ℕ × ℕ)

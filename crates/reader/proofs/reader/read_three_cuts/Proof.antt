@@ -14,7 +14,7 @@ use Rattle.reader.proofs.reader.read_three_cuts.Statement.{statement}
 use Rattle.reader.proofs.reader.read_three_cuts.Tie as tie
 
 -- the format up to each field
-abbrev to-first : Codec (OptionalLogId)
+abbrev to-first : Codec OptionalLogId
 to-first = optionalLogId
 
 abbrev to-second : Codec (OptionalLogId × OptionalLogId)

@@ -14,7 +14,7 @@ use Rattle.reader.proofs.reader.read_times.Statement.{statement}
 use Rattle.reader.proofs.reader.read_times.Tie as tie
 
 -- the format up to each field
-abbrev to-observation-start-ms : Codec (ℕ)
+abbrev to-observation-start-ms : Codec ℕ
 to-observation-start-ms = uint 8
 
 abbrev to-decision-ms : Codec (ℕ × ℕ)
