@@ -159,12 +159,14 @@ fn pick_id(test: bool, one: u64, other: u64) -> u64
     other
 }
 
-// Whether the sets are this one alone.
+// Whether the sets are this one alone. Their number is tested first: ids are compared each with each.
 pub fn is_one_set(sets: &[u64], counts: &[usize], ids: &[u64]) -> bool
     ensures { λ r. ⌜ r ≡ isOneSet (now (sets .entry)) (now (counts .entry)) (now (ids .entry)) ⌝ }
 {
-    let same = is_same(sets, ids);
-    (counts.len() == 1) & same
+    if counts.len() != 1 {
+        return false;
+    }
+    is_same(sets, ids)
 }
 
 // Whether the sets are these two.
