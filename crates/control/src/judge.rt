@@ -4,8 +4,9 @@
 // Ported from crates/opc-consensus/src/voter_slots/control.rs of openpacketcore-sdk, commit
 // 717de332e7, Apache-2.0 (see NOTICE). Changed: a step is judged before anything is made, and what the
 // successor check would find in the changed table stands here as tests of the evidence
-// (specs/Judgement.antt). A judge makes all its tests before it picks the first refusal: a call after
-// many early returns counts as cold to the compiler, which then copies the table for it.
+// (specs/Judgement.antt). But for `judge_advance` a judge makes all its tests before it picks the first
+// refusal: a call after many early returns counts as cold to the compiler, which then copies the table
+// for it.
 ghost use mathlib.Core.Path.{_≡_};
 ghost use mathlib.Core.Bool.{cond, false, not, _||_};
 ghost use Rattle.identity.specs.declared.answer.Answer.the-variants.{InvalidTransition};
@@ -152,7 +153,8 @@ fn same_digest(t: VoterSlotTable, request_digest: [u8; 32]) -> bool
     same32(open, request_digest)
 }
 
-// `advance`. The revision is tested before all else, also where nothing would change.
+// `advance`. The revision is tested before all else, also where nothing would change. The slots are
+// searched for a receipt only where no request is open: the search takes longer than most steps.
 pub fn judge_advance(t: VoterSlotTable, c: VoterAdvance) -> Judged
     ensures { λ r. ⌜ verdictOf r ≡ judgeAdvance t (c .«request_id») (c .«request_digest») (c .step) (c .cut) ⌝ }
 {
@@ -160,14 +162,17 @@ pub fn judge_advance(t: VoterSlotTable, c: VoterAdvance) -> Judged
     let request_digest = c.request_digest;
     let step = c.step;
     let cut = c.cut;
-    let open = judge_open(t, request_id, request_digest, step, cut);
+    if t.revision == u64::MAX {
+        return Judged::Refuse(Answer::RevisionExhausted);
+    }
+    if t.has_replacement {
+        return judge_open(t, request_id, request_digest, step, cut);
+    }
     let completed = is_completed(t, request_id, request_digest);
-    let closed = keep_if(
+    keep_if(
         (step.kind == FINALIZE) & completed,
         Judged::Refuse(Answer::StaleIncarnation),
-    );
-    let judged = either(t.has_replacement, open, closed);
-    refuse_if(t.revision == u64::MAX, Answer::RevisionExhausted, judged)
+    )
 }
 
 // Whether a slot has the completed receipt of that request. All nine places are passed, so that no
