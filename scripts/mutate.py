@@ -87,11 +87,15 @@ class Source:
     def __init__(self, crates):
         self.structs, self.enums, self.aliases, self.constants, self.values = {}, {}, {}, {}, {}
         self.signatures, self.functions, self.texts, self.scope = {}, [], {}, {}
+        self.public, self.whole = {}, []
         for crate in crates:
             folder = f'crates/{crate}/src'
             for name in sorted(os.listdir(folder)):
                 with open(f'{folder}/{name}') as file:
                     self.module(crate, f'{folder}/{name}', file.read())
+        for scope, module in self.whole:
+            for name in self.public.get(module, []):
+                scope.setdefault(name, name)
         self.calls = {}
         for crate in crates:
             self.calls.update(reaches([f for f in self.functions if f.crate == crate]))
@@ -129,6 +133,10 @@ class Source:
                         if tokens[k].text == 'as':
                             scope[tokens[k + 1].text] = tokens[k - 1].text
                             scope.pop(tokens[k - 1].text, None)
+                    # a module that is imported whole: what it declares is added when all modules are read
+                    if tokens[end - 1].text == '*':
+                        names = [t.text for t in tokens[i + 1:end] if t.kind == 'name']
+                        self.whole.append((scope, '::'.join([crate] + names[1:] if names[0] == 'crate' else names)))
                 i = end + 1
             elif word == 'const' or word == 'type':
                 name, end, depth = tokens[i + 1].text, i, 0
@@ -142,6 +150,8 @@ class Source:
                     self.constants.setdefault(name, self.type_text(tokens, i + 3, equals))
                     self.values.setdefault(name, self.type_text(tokens, equals + 1, end))
                     scope[name] = name
+                    if tokens[i - 1].text == 'pub':
+                        self.public.setdefault(prefix, []).append(name)
                 else:
                     self.aliases[name] = self.type_text(tokens, equals + 1, end)
                 i = end + 1
@@ -156,6 +166,8 @@ class Source:
                 owner, owner_end = tokens[i + 1].text, closing(tokens, i + 2)
                 i += 3
             elif word == 'fn':
+                if not owner and tokens[i - 1].text == 'pub':
+                    self.public.setdefault(prefix, []).append(tokens[i + 1].text)
                 i = self.function(crate, path, prefix, owner, tokens, i, scope)
             else:
                 i += 1
