@@ -19,7 +19,7 @@ because it calls another changed function is checked again without that one. A m
 one of that function takes its place. All is done on a copy in target/mutate; the crates must be proved before (`rt check`).
 
 Mutants that are let through are checked once more, those of a crate together and from nothing, by `rt check`. Then each is built into the
-programs replay and cases, and what they write is held to what the gate holds it to (their files 'stdout', and scripts/replays.py).
+programs replay, cases and call_cases, and what they write is held to what the gate holds it to (their files 'stdout', and scripts/replays.py).
 The results are target/mutate/CRATE.tsv, one line a mutant, and the tables that are printed at the end; target/mutate/log has what the prover said.
 """
 import os
@@ -835,7 +835,7 @@ def caught(room, source, m):
     """Which run of the gate shows that a program is wrong that was let through: the programs' stored output, or the stored logs."""
     room.write(applied(source, [m]))
     try:
-        for name in ('replay', 'cases'):
+        for name in ('replay', 'cases', 'call_cases'):
             program = os.path.abspath(f'{ROOM}/target/run/{name}')
             built = subprocess.run([sys.executable, os.path.abspath('scripts/unproved.py'), 'program', name, program], cwd=ROOM, check=False,
                                    stdout=subprocess.PIPE, stderr=subprocess.STDOUT)

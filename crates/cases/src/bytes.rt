@@ -1,11 +1,11 @@
 // The replies about bytes: reading a table or an attestation, and writing a table.
-use crate::reply::Reply;
-use crate::reply::number;
 use codec::codec::*;
 use identity::answer::Answer;
 use identity::answer::accepted;
 use layout::reading::Extent;
 use layout::reading::why;
+use questions::reply::Reply;
+use questions::reply::number;
 use raw::crc::crc32;
 use raw::number::be32;
 use raw::table::flags_are_bools;

@@ -1,30 +1,27 @@
-// Answers questions about single calls, from standard input to standard output, one line for each.
-// oracle/FORMAT.md has the format; `oracle cases` answers the same questions by the original.
+// Answers questions about text, identifiers, bytes and tables, from standard input to standard output,
+// one line for each. oracle/FORMAT.md has the format; `oracle cases` answers the same questions by the
+// original. `call_cases` has the questions about commands, observations and the retired test: a check
+// loads the proofs of all that is called, and those of one program for all are too many.
 mod bytes;
-mod calls;
-mod line;
-mod question;
 mod reply;
 
-use line::Line;
-use question::Question;
-use question::put_mark;
-use question::question_of;
-use raw::number::be32;
-use reply::Reply;
-use reply::put_reply;
+use questions::input::Next;
+use questions::input::next_question;
+use questions::question::Question;
+use questions::question::question_of;
+use questions::reply::Reply;
+use questions::reply::begin;
+use questions::reply::report;
 use reply::reply_to;
 
-// The largest body of a question.
-const LIMIT: usize = 70000;
-
 fn main() {
+    // As long as the largest body of a question.
     let mut body = [0u8; 70000];
-    io::write_all(1, b"cases 1\n");
+    begin();
     run(&mut body);
 }
 
-// One question after another. The turns are counted down, since nothing says that the input ends.
+// One question after another. The turns are counted, since nothing says that the input ends.
 fn run(body: &mut [u8; 70000]) {
     let mut number: u64 = 1;
     let mut more = true;
@@ -35,45 +32,12 @@ fn run(body: &mut [u8; 70000]) {
 }
 
 // One question: whether to go on.
-fn turn(number: u64, body: &mut [u8; 70000]) -> bool {
-    let mut head = [0u8; 6];
-    let got = io::read_full(0, &mut head);
-    if got == 0 {
+fn turn(number: u64, body: &mut [u8]) -> bool {
+    let Next::Asked(mark, size) = next_question(number, body) else {
         return false;
-    }
-    let question = mark_of(&head, got);
-    if got < 6 {
-        report(number, question, Reply::Malformed);
-        return false;
-    }
-    let size = be32(&head, 2) as usize;
-    if LIMIT < size {
-        report(number, question, Reply::Malformed);
-        return false;
-    }
-    if fill(body, size) < size {
-        report(number, question, Reply::Malformed);
-        return false;
-    }
-    report(number, question, ask(question, body, size));
+    };
+    report(number, mark, ask(question_of(mark), body, size));
     true
-}
-
-// The question that the head names. With one byte of it there is no mark.
-fn mark_of(head: &[u8; 6], got: usize) -> Question {
-    if got < 2 {
-        return Question::Unknown;
-    }
-    question_of(head[0], head[1])
-}
-
-// Reads n bytes to the start of body: how many came.
-fn fill(body: &mut [u8], n: usize) -> usize {
-    if n <= body.len() {
-        io::read_full(0, &mut body[..n])
-    } else {
-        0
-    }
 }
 
 // The reply to a question whose body is the first n bytes.
@@ -83,10 +47,4 @@ fn ask(question: Question, body: &[u8], n: usize) -> Reply {
     } else {
         Reply::Malformed
     }
-}
-
-// The line of one question.
-fn report(number: u64, question: Question, reply: Reply) {
-    let line = put_mark(line::new().number(number).byte(b' '), question);
-    put_reply(line.byte(b' '), reply).byte(b'\n').write();
 }

@@ -1,15 +1,13 @@
-// The reply to each question, and how it is printed.
+// The reply to each question.
 use crate::bytes::read_attestation;
 use crate::bytes::read_table;
 use crate::bytes::write_table;
-use crate::calls::called;
-use crate::calls::retired;
-use crate::line::Line;
-use crate::question::Question;
-use identity::answer::Answer;
 use identity::identity::NumberResult;
 use identity::identity::VoterSlotIdentity;
 use identity::identity::VoterSlotIdentityResult;
+use questions::question::Question;
+use questions::reply::Reply;
+use questions::reply::number;
 use raw::number::be16;
 use raw::number::be32;
 use raw::number::be64;
@@ -18,19 +16,6 @@ use raw::table::lay_pieces;
 use raw::table::table_of;
 use records::successor::validate_successor_of;
 use records::validation::validate_table;
-
-pub enum Reply {
-    YesNo(bool),
-    // An answer alone, with one number, and with two.
-    Number(u64),
-    Pair(u64, u64),
-    Triple(u64, u64, u64),
-    // A table that was read: its revision, the count of its bytes, their checksum, and the checksum of
-    // its raw form.
-    Table(u64, u64, u64, u64),
-    // The body is not of the question's form: 33.
-    Malformed,
-}
 
 pub fn reply_to(question: Question, body: &[u8]) -> Reply {
     match question {
@@ -43,9 +28,6 @@ pub fn reply_to(question: Question, body: &[u8]) -> Reply {
         Question::Validity => validity(body),
         Question::Writing => write_table(body),
         Question::Successor => successor(body),
-        Question::Retired => retired(body),
-        Question::Command => called(body, false),
-        Question::Observation => called(body, true),
         _ => reply_to_numbers(question, body),
     }
 }
@@ -112,10 +94,6 @@ fn reply_to_numbers(question: Question, body: &[u8]) -> Reply {
     }
 }
 
-pub fn number(answer: Answer) -> u64 {
-    identity::answer::number(answer) as u64
-}
-
 fn node_id(slot: u16, incarnation: u64) -> Reply {
     match VoterSlotIdentity::new(slot, incarnation) {
         VoterSlotIdentityResult::Ok(identity) => pair(identity.node_id()),
@@ -138,34 +116,5 @@ fn triple(result: VoterSlotIdentityResult) -> Reply {
             identity.incarnation,
         ),
         VoterSlotIdentityResult::Err(answer) => Reply::Triple(number(answer), 0, 0),
-    }
-}
-
-// The line with the reply.
-pub fn put_reply(line: Line, reply: Reply) -> Line {
-    match reply {
-        Reply::YesNo(yes) => put_yes_no(line, yes),
-        Reply::Number(a) => line.number(a),
-        Reply::Pair(a, b) => line.number(a).byte(b' ').number(b),
-        Reply::Triple(a, b, c) => line.number(a).byte(b' ').number(b).byte(b' ').number(c),
-        Reply::Table(a, b, c, d) => put_table(line, a, b, c, d),
-        Reply::Malformed => line.number(33),
-    }
-}
-
-fn put_table(line: Line, revision: u64, count: u64, checksum: u64, raw_checksum: u64) -> Line {
-    let first = line.text(b"0 ").number(revision).byte(b' ').number(count);
-    first
-        .byte(b' ')
-        .number(checksum)
-        .byte(b' ')
-        .number(raw_checksum)
-}
-
-fn put_yes_no(line: Line, yes: bool) -> Line {
-    if yes {
-        line.text(b"yes")
-    } else {
-        line.text(b"no")
     }
 }

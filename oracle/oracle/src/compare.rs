@@ -18,23 +18,41 @@ type LogRecord = (Mark, Vec<u8>);
 /// Whether all agreed, and what was found.
 pub type Outcome = Result<(bool, String), String>;
 
+/// The port's programs that answer questions: `cases` and `call_cases`.
+pub type Programs<'a> = [&'a Path; 2];
+
 /// Compares `count` generated questions.
-pub fn questions(program: &Path, seed: u64, count: usize, kind: &str) -> Outcome {
+pub fn questions(programs: Programs, seed: u64, count: usize, kind: &str) -> Outcome {
     if kind == "log" {
         return Err("logs are compared with --replay".to_owned());
     }
     let file =
         generate::generate(seed, count, kind).ok_or_else(|| format!("unknown kind: {kind}"))?;
-    file_of_questions(program, &file)
+    file_of_questions(programs, &file)
 }
 
-/// Compares the questions of a file.
-pub fn file_of_questions(program: &Path, file: &[u8]) -> Outcome {
+/// Compares the questions of a file, each with the program that answers it.
+pub fn file_of_questions(programs: Programs, file: &[u8]) -> Outcome {
+    let mut count = 0;
+    for (program, part) in programs.into_iter().zip(format::for_each_program(file)) {
+        if let Some(report) = difference_of_questions(program, &part)? {
+            return Ok((false, report));
+        }
+        count += format::items(&part).len();
+    }
+    Ok((true, format!("{count} questions compared, no difference")))
+}
+
+/// The first difference on questions that the program answers. A program that is asked nothing need
+/// not be there.
+fn difference_of_questions(program: &Path, file: &[u8]) -> Result<Option<String>, String> {
+    if file.is_empty() {
+        return Ok(None);
+    }
     let expected = cases::answers(file);
     let given = run(program, file)?;
     let Some(index) = first_difference(&expected, &given) else {
-        let count = expected.lines().count() - 1;
-        return Ok((true, format!("{count} questions compared, no difference")));
+        return Ok(None);
     };
     let mut report = difference(&expected, &given, index);
     // Line 0 is the headline, so line N is the answer to question N.
@@ -44,7 +62,7 @@ pub fn file_of_questions(program: &Path, file: &[u8]) -> Outcome {
     if let Some(Item::Whole(mark, body)) = asked {
         report += &smallest_question(program, mark, body);
     }
-    Ok((false, report))
+    Ok(Some(report))
 }
 
 /// Compares generated logs until `count` records were played. The seeds of the logs follow one

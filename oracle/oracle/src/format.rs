@@ -14,6 +14,12 @@ pub const HIGHER_MARKS: [Mark; 8] = [
     *b"TR", *b"AR", *b"VT", *b"WR", *b"SC", *b"RT", *b"CM", *b"OV",
 ];
 
+/// The questions that the port's program `call_cases` answers; `cases` answers all others.
+const CALL_MARKS: [Mark; 3] = [*b"RT", *b"CM", *b"OV"];
+
+/// The bytes of a mark and a size.
+const HEAD: usize = 6;
+
 /// A larger body is treated as cut short.
 pub const MAX_BODY: usize = 70_000;
 
@@ -62,6 +68,23 @@ fn whole_item(bytes: &[u8]) -> Option<(Item<'_>, &[u8])> {
     }
     let (body, rest) = rest.split_at_checked(size)?;
     Some((Item::Whole(*mark, body), rest))
+}
+
+/// The file in two, each in its order: the questions for the port's program `cases`, and those for
+/// `call_cases`. What is cut short stays at the end of its part.
+pub fn for_each_program(file: &[u8]) -> [Vec<u8>; 2] {
+    let mut parts = [Vec::new(), Vec::new()];
+    let mut at = 0;
+    for item in items(file) {
+        let (mark, end) = match item {
+            Item::Whole(mark, body) => (Some(mark), at + HEAD + body.len()),
+            Item::CutShort(mark) => (mark, file.len()),
+        };
+        let is_call = mark.is_some_and(|mark| CALL_MARKS.contains(&mark));
+        parts[usize::from(is_call)].extend_from_slice(&file[at..end]);
+        at = end;
+    }
+    parts
 }
 
 /// Puts one question after the others.
@@ -167,6 +190,25 @@ mod tests {
         assert_eq!(items(&file[..9]), [whole[0], Item::CutShort(Some(*b"XX"))]);
         assert_eq!(items(&file[..13]), [whole[0], Item::CutShort(Some(*b"XX"))]);
         assert_eq!(items(b""), []);
+    }
+
+    #[test]
+    fn each_program_gets_its_questions() {
+        let mut file = Vec::new();
+        for (mark, body) in [(*b"OV", "a"), (*b"U8", "b"), (*b"XX", ""), (*b"RT", "c")] {
+            put_question(&mut file, mark, body.as_bytes());
+        }
+        let [cases, calls] = for_each_program(&file);
+        assert_eq!(
+            (&cases[..], &calls[..]),
+            (&file[7..20], &[&file[..7], &file[20..]].concat()[..])
+        );
+        let [cases, calls] = for_each_program(&file[..24]);
+        assert_eq!(
+            (&cases[..], &calls[..]),
+            (&file[7..20], &[&file[..7], &file[20..24]].concat()[..])
+        );
+        assert_eq!(for_each_program(&file[..8]), [&file[7..8], &file[..7]]);
     }
 
     #[test]

@@ -46,8 +46,8 @@ const USAGE: &str = "usage:
   oracle generate SEED COUNT KIND > questions-or-log
   oracle histogram < answers-or-lines
   oracle show < questions-or-log
-  oracle compare --cases PROGRAM SEED COUNT KIND
-  oracle compare --cases PROGRAM --fixed
+  oracle compare --cases PROGRAM CALLS SEED COUNT KIND
+  oracle compare --cases PROGRAM CALLS --fixed
   oracle compare --replay PROGRAM SEED COUNT
   oracle samples FOLDER
   oracle ordered > OrderBytes.antt
@@ -85,8 +85,8 @@ fn run(words: &[&str]) -> Result<ExitCode, String> {
             let (seed, count) = (number(seed)?, number(count)? as usize);
             print(&generate::generate(seed, count, kind).ok_or_else(|| unknown_kind(kind))?)
         }
-        ["compare", "--cases", program, "--fixed"] => report(compare::file_of_questions(
-            Path::new(program),
+        ["compare", "--cases", program, calls, "--fixed"] => report(compare::file_of_questions(
+            [program, calls].map(Path::new),
             &fixed::questions(),
         )?),
         ["compare", "--replay", program, seed, count] => report(compare::logs(
@@ -94,9 +94,10 @@ fn run(words: &[&str]) -> Result<ExitCode, String> {
             number(seed)?,
             number(count)? as usize,
         )?),
-        ["compare", "--cases", program, seed, count, kind] => {
+        ["compare", "--cases", program, calls, seed, count, kind] => {
             let (seed, count) = (number(seed)?, number(count)? as usize);
-            report(compare::questions(Path::new(program), seed, count, kind)?)
+            let programs = [program, calls].map(Path::new);
+            report(compare::questions(programs, seed, count, kind)?)
         }
         ["samples", folder] => stored::write(Path::new(folder)).map(|()| ExitCode::SUCCESS),
         ["ordered"] => print(ordered::text().as_bytes()),

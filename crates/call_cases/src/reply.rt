@@ -1,6 +1,4 @@
 // The replies about calls on raw tables: the retired test, commands and observations.
-use crate::reply::Reply;
-use crate::reply::number;
 use codec::codec::DecodedAttestation;
 use codec::codec::decode_lost_voter_attestation;
 use control::apply::apply_control;
@@ -10,6 +8,9 @@ use control::retired::Retirement;
 use control::retired::is_retired;
 use identity::answer::Answer;
 use identity::answer::accepted;
+use questions::question::Question;
+use questions::reply::Reply;
+use questions::reply::number;
 use raw::crc::crc32;
 use raw::number::be16;
 use raw::number::be64;
@@ -22,8 +23,17 @@ use raw::write::put_table;
 use records::records::VoterSlotLogId;
 use records::records::VoterSlotTable;
 
+pub fn reply_to(question: Question, body: &[u8]) -> Reply {
+    match question {
+        Question::Retired => retired(body),
+        Question::Command => called(body, false),
+        Question::Observation => called(body, true),
+        _ => Reply::Malformed,
+    }
+}
+
 // The body is a node id and one raw table.
-pub fn retired(body: &[u8]) -> Reply {
+fn retired(body: &[u8]) -> Reply {
     let mut raw = [0u8; 8062];
     let place = lay_pieces(&mut raw, body, 8);
     if !(place.whole & (place.at == body.len())) {
@@ -40,7 +50,7 @@ pub fn retired(body: &[u8]) -> Reply {
 }
 
 // The body is a record and one raw table.
-pub fn called(body: &[u8], is_observation: bool) -> Reply {
+fn called(body: &[u8], is_observation: bool) -> Reply {
     let end = 4 + be16(body, 2) as usize;
     let mut raw = [0u8; 8062];
     let place = lay_pieces(&mut raw, body, end);

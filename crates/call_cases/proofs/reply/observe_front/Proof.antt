@@ -1,9 +1,9 @@
--- `cases::calls::observe_front` is safe. Assumes nothing.
+-- `call_cases::reply::observe_front` is safe. Assumes nothing.
 use native.Mathlib.Omega.{arith}
 use lib.ListN.{length-take}
 use borrow.Author.Needs.{needs}
-use Rattle.cases.proofs.calls.observe_front.Statement.{statement}
-use Rattle.cases.proofs.calls.observe_front.Tie as tie
+use Rattle.call_cases.proofs.reply.observe_front.Statement.{statement}
+use Rattle.call_cases.proofs.reply.observe_front.Tie as tie
 
 set-count-requires : tie.Need-set-count-requires
 set-count-requires c κs = search needs

@@ -1,9 +1,9 @@
--- `cases::line::write_front` is safe. Assumes nothing.
+-- `questions::line::write_front` is safe. Assumes nothing.
 use native.Mathlib.Omega.{arith}
 use lib.ListN.{length-take}
 use borrow.Author.Needs.{needs}
-use Rattle.cases.proofs.line.write_front.Statement.{statement}
-use Rattle.cases.proofs.line.write_front.Tie as tie
+use Rattle.questions.proofs.line.write_front.Statement.{statement}
+use Rattle.questions.proofs.line.write_front.Tie as tie
 
 slice-aggregate-write-all : tie.Need-slice-aggregate-write-all
 slice-aggregate-write-all c = simp length-take (omega arith)

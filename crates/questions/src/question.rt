@@ -1,6 +1,12 @@
 // The kinds of questions and their marks.
 use crate::line::Line;
 
+// The two bytes that name a question's kind.
+pub struct Mark {
+    pub first: u8,
+    pub second: u8,
+}
+
 pub enum Question {
     Utf8,
     Name,
@@ -26,7 +32,11 @@ pub enum Question {
 }
 
 // The question that a mark names.
-pub fn question_of(first: u8, second: u8) -> Question {
+pub fn question_of(mark: Mark) -> Question {
+    named(mark.first, mark.second)
+}
+
+fn named(first: u8, second: u8) -> Question {
     match first {
         b'U' => when(second == b'8', Question::Utf8),
         b'N' => named_n(second),
@@ -91,29 +101,10 @@ fn named_i(second: u8) -> Question {
     }
 }
 
-// The line with the question's mark.
-pub fn put_mark(line: Line, question: Question) -> Line {
-    match question {
-        Question::Utf8 => line.text(b"U8"),
-        Question::Name => line.text(b"NM"),
-        Question::SnapshotId => line.text(b"SI"),
-        Question::StrictName => line.text(b"SN"),
-        Question::Control => line.text(b"CC"),
-        Question::Whitespace => line.text(b"WS"),
-        Question::Slot => line.text(b"SL"),
-        Question::Incarnation => line.text(b"IN"),
-        Question::Next => line.text(b"NX"),
-        Question::Epoch => line.text(b"EP"),
-        Question::NodeId => line.text(b"ND"),
-        Question::Identity => line.text(b"ID"),
-        Question::TableBytes => line.text(b"TR"),
-        Question::AttestationBytes => line.text(b"AR"),
-        Question::Validity => line.text(b"VT"),
-        Question::Writing => line.text(b"WR"),
-        Question::Successor => line.text(b"SC"),
-        Question::Retired => line.text(b"RT"),
-        Question::Command => line.text(b"CM"),
-        Question::Observation => line.text(b"OV"),
+// The line with a mark: `??` for one that names no question.
+pub fn put_mark(line: Line, mark: Mark) -> Line {
+    match question_of(mark) {
         Question::Unknown => line.text(b"??"),
+        _ => line.byte(mark.first).byte(mark.second),
     }
 }

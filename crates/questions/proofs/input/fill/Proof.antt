@@ -1,9 +1,9 @@
--- `cases::fill` is safe. Assumes nothing.
+-- `questions::input::fill` is safe. Assumes nothing.
 use native.Mathlib.Omega.{arith}
 use lib.ListN.{length-take}
 use borrow.Author.Needs.{needs}
-use Rattle.cases.proofs.fill.Statement.{statement}
-use Rattle.cases.proofs.fill.Tie as tie
+use Rattle.questions.proofs.input.fill.Statement.{statement}
+use Rattle.questions.proofs.input.fill.Tie as tie
 
 slice-relend-prefix-read-full : tie.Need-slice-relend-prefix-read-full
 slice-relend-prefix-read-full c = search needs

@@ -1,9 +1,9 @@
--- `cases::line::Line::text` is safe and ends. Assumes nothing.
+-- `questions::line::Line::text` is safe and ends. Assumes nothing.
 use Prim.Native.Nat.{_≤_, _-_}
 use lib.ListN.{length}
 use borrow.Author.Needs.{needs}
-use Rattle.cases.proofs.line.Line.text.Statement.{statement}
-use Rattle.cases.proofs.line.Line.text.Tie as tie
+use Rattle.questions.proofs.line.Line.text.Statement.{statement}
+use Rattle.questions.proofs.line.Line.text.Tie as tie
 
 abbrev Inv-loop : tie.InvT-loop
 Inv-loop s next₀ i₀ next i = i ≤ length s
