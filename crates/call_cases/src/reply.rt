@@ -15,11 +15,12 @@ use raw::crc::crc32;
 use raw::number::be16;
 use raw::number::be64;
 use raw::number::byte;
-use raw::record::*;
+use raw::offsets::TABLE_SIZE;
 use raw::table::flags_are_bools;
 use raw::table::lay_pieces;
 use raw::table::table_of;
 use raw::write::put_table;
+use raw_calls::record::*;
 use records::records::VoterSlotLogId;
 use records::records::VoterSlotTable;
 
@@ -34,7 +35,7 @@ pub fn reply_to(question: Question, body: &[u8]) -> Reply {
 
 // The body is a node id and one raw table.
 fn retired(body: &[u8]) -> Reply {
-    let mut raw = [0u8; 8062];
+    let mut raw = [0u8; TABLE_SIZE];
     let place = lay_pieces(&mut raw, body, 8);
     if !(place.whole & (place.at == body.len())) {
         return Reply::Malformed;
@@ -52,7 +53,7 @@ fn retired(body: &[u8]) -> Reply {
 // The body is a record and one raw table.
 fn called(body: &[u8], is_observation: bool) -> Reply {
     let end = 4 + be16(body, 2) as usize;
-    let mut raw = [0u8; 8062];
+    let mut raw = [0u8; TABLE_SIZE];
     let place = lay_pieces(&mut raw, body, end);
     if !(place.whole & (place.at == body.len())) {
         return Reply::Malformed;
@@ -208,7 +209,7 @@ fn nodes_after(sets: Laid) -> Laid {
 
 // The answer, and of the table its revision and the checksum of its raw form.
 fn given_back(answer: Answer, table: VoterSlotTable) -> Reply {
-    let mut raw = [0u8; 8062];
+    let mut raw = [0u8; TABLE_SIZE];
     put_table(&mut raw, table);
     Reply::Triple(number(answer), table.revision, crc32(&raw) as u64)
 }

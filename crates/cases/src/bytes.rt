@@ -8,6 +8,7 @@ use questions::reply::Reply;
 use questions::reply::number;
 use raw::crc::crc32;
 use raw::number::be32;
+use raw::offsets::TABLE_SIZE;
 use raw::table::flags_are_bools;
 use raw::table::lay_pieces;
 use raw::table::table_of;
@@ -49,7 +50,7 @@ fn restarted(table: VoterSlotTable) -> VoterSlotTable {
 }
 
 fn raw_checksum(table: VoterSlotTable) -> u64 {
-    let mut raw = [0u8; 8062];
+    let mut raw = [0u8; TABLE_SIZE];
     put_table(&mut raw, table);
     crc32(&raw) as u64
 }
@@ -81,7 +82,7 @@ fn raw_attestation_checksum(attestation: LostVoterAttestationV1) -> u64 {
 // The body is a buffer's length and one raw table.
 pub fn write_table(body: &[u8]) -> Reply {
     let length = be32(body, 0) as usize;
-    let mut raw = [0u8; 8062];
+    let mut raw = [0u8; TABLE_SIZE];
     let place = lay_pieces(&mut raw, body, 4);
     if !(place.whole & (place.at == body.len())) {
         return Reply::Malformed;

@@ -11,6 +11,7 @@ use questions::reply::number;
 use raw::number::be16;
 use raw::number::be32;
 use raw::number::be64;
+use raw::offsets::TABLE_SIZE;
 use raw::table::flags_are_bools;
 use raw::table::lay_pieces;
 use raw::table::table_of;
@@ -34,7 +35,7 @@ pub fn reply_to(question: Question, body: &[u8]) -> Reply {
 
 // The answer of the test for validity. The body is one raw table.
 fn validity(body: &[u8]) -> Reply {
-    let mut raw = [0u8; 8062];
+    let mut raw = [0u8; TABLE_SIZE];
     let place = lay_pieces(&mut raw, body, 0);
     if !(place.whole & (place.at == body.len())) {
         return Reply::Malformed;
@@ -47,8 +48,8 @@ fn validity(body: &[u8]) -> Reply {
 
 // The answer of the successor check. The body is the new raw table and the old one.
 fn successor(body: &[u8]) -> Reply {
-    let mut new = [0u8; 8062];
-    let mut old = [0u8; 8062];
+    let mut new = [0u8; TABLE_SIZE];
+    let mut old = [0u8; TABLE_SIZE];
     let first = lay_pieces(&mut new, body, 0);
     if !first.whole {
         return Reply::Malformed;

@@ -1,12 +1,12 @@
--- `raw::record::copy_ids` is safe and ends: what it fills is as long as before, and the numbers left to read lie within the longest body. Assumes nothing.
+-- `raw_calls::record::copy_ids` is safe and ends: what it fills is as long as before, and the numbers left to read lie within the longest body. Assumes nothing.
 use mathlib.Core.Path.{_≡_}
 use Prim.Native.Nat.{_+_, _*_, _-_, _≤_}
 use lib.ListN.{length}
 use native.Mathlib.Omega.{arith}
 use borrow.Author.Tests.{ltb-true}
 use borrow.Author.Needs.{needs}
-use Rattle.raw.proofs.record.copy_ids.Statement.{statement}
-use Rattle.raw.proofs.record.copy_ids.Tie as tie
+use Rattle.raw_calls.proofs.record.copy_ids.Statement.{statement}
+use Rattle.raw_calls.proofs.record.copy_ids.Tie as tie
 
 abbrev Inv-loop : tie.InvT-loop
 Inv-loop ids₀ start end body at i₀ j₀ ids i j = (length ids ≡ length ids₀) × ((j + 8 * (end - i) ≤ 70000) × (end ≤ 140000))

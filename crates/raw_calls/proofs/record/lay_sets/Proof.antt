@@ -1,12 +1,12 @@
--- `raw::record::lay_sets` is safe and ends: it counts the sets, of which there are fewer than 256. Assumes nothing.
+-- `raw_calls::record::lay_sets` is safe and ends: it counts the sets, of which there are fewer than 256. Assumes nothing.
 use mathlib.Core.Path.{_≡_}
 use Prim.Native.Nat.{_-_, _<_}
 use lib.ListN.{length}
 use native.Mathlib.Omega.{arith}
 use borrow.Author.Tests.{ltb-true}
 use borrow.Author.Needs.{needs}
-use Rattle.raw.proofs.record.lay_sets.Statement.{statement}
-use Rattle.raw.proofs.record.lay_sets.Tie as tie
+use Rattle.raw_calls.proofs.record.lay_sets.Statement.{statement}
+use Rattle.raw_calls.proofs.record.lay_sets.Tie as tie
 
 abbrev Inv-loop : tie.InvT-loop
 Inv-loop sets₀ counts₀ body count laid₀ i₀ sets counts laid i = (length sets ≡ length sets₀) × ((length counts ≡ length counts₀) × (count < 256))

@@ -2,15 +2,15 @@
 // program". `is_..` tells whether a record's body is of its form, `.._of` reads one that is: the value
 // may still be one that the call refuses.
 ghost use Prim.Native.Nat.{_+_, _*_, _-_, _<_, _≤_};
-use crate::number::be16;
-use crate::number::be64;
-use crate::number::byte;
-use crate::offsets::LOG_ID_SIZE;
-use crate::offsets::MEMBER_SIZE;
-use crate::table::*;
 use control::control::*;
 use identity::identity::ConsensusIdentity;
 use identity::text::MAX_VOTER_SNAPSHOT_ID_BYTES;
+use raw::number::be16;
+use raw::number::be64;
+use raw::number::byte;
+use raw::offsets::LOG_ID_SIZE;
+use raw::offsets::MEMBER_SIZE;
+use raw::table::*;
 use records::blank::*;
 use records::records::*;
 
