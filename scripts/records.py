@@ -46,6 +46,7 @@ def structs_of(text):
 below = read('crates/identity/src/identity.rt')
 lengths = read('crates/identity/src/text.rt')
 here = read(CRATE + '/src/records.rt')
+LENGTHS = re.findall(r'^use identity::text::(\w+);$', here, re.M)
 CONSTANTS = dict(re.findall(r'^pub const (\w+): usize = (\d+);$', lengths + here, re.M))
 ALIASES = dict(re.findall(r'^pub type (\w+) = (.+);$', below, re.M))
 FROM_BELOW = [s for s in structs_of(below) if re.search(r': \[?%s\b' % s[0], here)]
@@ -67,7 +68,7 @@ class Field:
         elif written == 'bool':
             self.kind = 'bool'
         elif array and array.group(1) == 'u8':
-            self.kind, self.size = 'bytes', size
+            self.kind, self.size, self.length = 'bytes', size, array.group(2)
         elif array and array.group(1) in declared and size == PLACES:
             self.kind, self.struct = 'nine', array.group(1)
         elif written in declared:
@@ -645,7 +646,7 @@ def blank_code_value(field):
     return {
         'number': lambda: '0',
         'bool': lambda: 'false',
-        'bytes': lambda: '[0; %d]' % field.size,
+        'bytes': lambda: '[0; %s]' % field.length,
         'nine': lambda: '[%s; %s]' % (snake(field.struct), PLACES_NAME),
         'struct': lambda: snake(field.struct),
     }[field.kind]()
@@ -664,7 +665,7 @@ use lib.ListN.{replicate}
 // %s
 ghost use mathlib.Core.Path.{_≡_};
 ghost use Rattle.records.specs.Blank.{%s};
-%s''' % (BY, all_of('blank'), use_rattle(NAMES))]
+%s%s''' % (BY, all_of('blank'), use_rattle(NAMES), ''.join('use identity::text::%s;\n' % name for name in LENGTHS))]
     for name, fields in RECORDS.items():
         spec.append('unfoldable pub blank{0} : {0}\n{1}'.format(
             name, clause('blank' + name, record(['%s = %s' % (field.quoted(), blank_value(field)) for field in fields]))))

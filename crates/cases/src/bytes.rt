@@ -8,6 +8,7 @@ use questions::reply::Reply;
 use questions::reply::number;
 use raw::crc::crc32;
 use raw::number::be32;
+use raw::offsets::ATTESTATION_SIZE;
 use raw::offsets::TABLE_SIZE;
 use raw::table::flags_are_bools;
 use raw::table::lay_pieces;
@@ -16,6 +17,9 @@ use raw::write::put_attestation;
 use raw::write::put_table;
 use records::records::LostVoterAttestationV1;
 use records::records::VoterSlotTable;
+
+// The bytes of the largest table (`ends`).
+const LARGEST_TABLE: usize = 8072;
 
 // The longest buffer that a question may ask for.
 const LONGEST_BUFFER: usize = 70000;
@@ -29,7 +33,7 @@ pub fn read_table(body: &[u8]) -> Reply {
         return Reply::Number(number(answer));
     }
     let table = decoded.table;
-    let mut buffer = [0u8; 8072];
+    let mut buffer = [0u8; LARGEST_TABLE];
     let written = encode_voter_slot_table(&mut buffer, table);
     let Extent::To(count) = written else {
         return Reply::Malformed;
@@ -44,7 +48,7 @@ pub fn read_table(body: &[u8]) -> Reply {
 }
 
 fn restarted(table: VoterSlotTable) -> VoterSlotTable {
-    let mut buffer = [0u8; 8072];
+    let mut buffer = [0u8; LARGEST_TABLE];
     let decoded = restart(&mut buffer, table);
     decoded.table
 }
@@ -74,7 +78,7 @@ pub fn read_attestation(body: &[u8]) -> Reply {
 }
 
 fn raw_attestation_checksum(attestation: LostVoterAttestationV1) -> u64 {
-    let mut raw = [0u8; 4423];
+    let mut raw = [0u8; ATTESTATION_SIZE];
     put_attestation(&mut raw, 0, attestation);
     crc32(&raw) as u64
 }
@@ -94,7 +98,7 @@ pub fn write_table(body: &[u8]) -> Reply {
 }
 
 fn written(table: VoterSlotTable, length: usize) -> Reply {
-    let mut buffer = [0u8; 70000];
+    let mut buffer = [0u8; LONGEST_BUFFER];
     let written = encode_to_front(&mut buffer, length, table);
     let Extent::To(count) = written else {
         return Reply::Triple(number(why(written)), 0, 0);

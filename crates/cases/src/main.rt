@@ -5,6 +5,7 @@
 mod bytes;
 mod reply;
 
+use questions::input::LONGEST_BODY;
 use questions::input::Next;
 use questions::input::next_question;
 use questions::question::Question;
@@ -15,14 +16,13 @@ use questions::reply::report;
 use reply::reply_to;
 
 fn main() {
-    // As long as the largest body of a question.
-    let mut body = [0u8; 70000];
+    let mut body = [0u8; LONGEST_BODY];
     begin();
     run(&mut body);
 }
 
 // One question after another. The turns are counted, since nothing says that the input ends.
-fn run(body: &mut [u8; 70000]) {
+fn run(body: &mut [u8; LONGEST_BODY]) {
     let mut number: u64 = 1;
     let mut more = true;
     while more && number < u64::MAX {

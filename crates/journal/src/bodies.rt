@@ -19,6 +19,7 @@ ghost use Rattle.journal.specs.declared.replay.Mark.the-variants.{Ad, Bg
 ghost use Rattle.journal.specs.Bodies.{advanceAsking, advanceBy, attestedAsking, beginAsking, beginBy, blankBeginHead, blankMarkerBody, isWhole, markerAsking, partless, suppliedBody};
 ghost use Rattle.journal.specs.Records.{anyIdentity, beginHead, candidate, expected, markerBody, sizedBytes, snapshotPart, stepBody};
 ghost use Rattle.journal.specs.Replay.{asking, snapshotIdOf, snapshotOf, stepOf};
+use crate::record::MOST_BODY;
 use codec::codec::decode_lost_voter_attestation;
 use control::begin::VoterBegin;
 use control::control::*;
@@ -137,7 +138,7 @@ fn is_whole(to: Extent, len: usize) -> bool
 fn read_any_snapshot_id(bytes: &[u8]) -> SnapshotIdRead
     ensures { λ r. ⌜ (report (r .answer), r .value) ≡ outcome blankSnapshotId (decMap (sizedBytes .dec) snapshotIdOf (now (bytes .entry))) ⌝ }
 {
-    let size = read_sized(bytes, 65535);
+    let size = read_sized(bytes, MOST_BODY);
     let SizedRead::Read(len, at) = size else {
         return refused_snapshot_id(why_sized(size));
     };
@@ -512,7 +513,7 @@ pub fn read_begin(body: &[u8]) -> BeginRead
     let Extent::To(at) = head_to else {
         return refused_begin(Asks::Bad, head);
     };
-    let size = read_sized(&body[at..], 65535);
+    let size = read_sized(&body[at..], MOST_BODY);
     let SizedRead::Read(len, from) = size else {
         return refused_begin(Asks::Bad, head);
     };

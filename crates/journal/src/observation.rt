@@ -30,12 +30,17 @@ pub struct ObservationRead {
     pub nodes: usize,
 }
 
-// Reads a body into the lent arrays. A body of 65,535 bytes has at most 8,189 ids in its sets and
-// nodes together, and 255 sets, so that no test for room is needed.
+// Room for the ids of any body: one of 65,535 bytes has at most 8,189 in its sets and nodes together.
+pub const MOST_IDS: usize = 8192;
+
+// Most sets: their count has 8 bits.
+pub const MOST_SETS: usize = 255;
+
+// Reads a body into the lent arrays. They have room for any, so that no test for it is needed.
 pub fn read_observation(
     body: &[u8],
-    ids: &mut [u64; 8192],
-    counts: &mut [usize; 255],
+    ids: &mut [u64; MOST_IDS],
+    counts: &mut [usize; MOST_SETS],
 ) -> ObservationRead
     requires { ⌜ length (now body) ≤ 65535 ⌝ }
     ensures { λ r. ⌜ (observationAsking r (now (ids .exit)) (now (counts .exit)) ≡ asking Ob (now (body .entry))) × ((r .ids + r .nodes ≤ 8192) × (r .sets ≤ 255)) ⌝ }

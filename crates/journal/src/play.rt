@@ -15,6 +15,8 @@ ghost use Rattle.journal.specs.RunHistory.{LineOfRun};
 ghost use Rattle.journal.specs.Step.{ValidStanding};
 use crate::line::LONGEST_LINE;
 use crate::line::put_line;
+use crate::observation::MOST_IDS;
+use crate::observation::MOST_SETS;
 use crate::record::Record;
 use crate::record::record_at;
 use crate::replay::Mark;
@@ -189,12 +191,12 @@ fn with_table(place: Place, table: VoterSlotTable) -> Opened
 }
 
 // Places for the ids and the counts of an observation. Nobody reads what they hold at first.
-fn no_ids() -> [u64; 8192] {
-    [0; 8192]
+fn no_ids() -> [u64; MOST_IDS] {
+    [0; MOST_IDS]
 }
 
-fn no_counts() -> [usize; 255] {
-    [0; 255]
+fn no_counts() -> [usize; MOST_SETS] {
+    [0; MOST_SETS]
 }
 
 // The line of a record, where there is one, and the place after it.

@@ -14,6 +14,9 @@ use layout::reading::U16Read;
 // Bytes before the body: the mark and the size.
 pub const HEAD: usize = 2 + 2;
 
+// Most bytes of a body: its size has 16 bits.
+pub const MOST_BODY: usize = 65535;
+
 // What stands at a place of the bytes: a whole record, one that ends the reading, or none, which
 // takes no bytes.
 pub struct Record {

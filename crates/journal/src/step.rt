@@ -14,8 +14,7 @@ ghost use Rattle.journal.specs.declared.replay.Mark.the-variants.{Ad, Bg
 ghost use Rattle.journal.specs.Replay.{asking};
 ghost use Rattle.journal.specs.Step.{HoldsAdvance, HoldsBegin, Makes, answerOfCalled, changes, checkedCall, commandVerdict, cutAt, madeBy, numbered, observationVerdict, routeOfCalled, routeOfObservation};
 use crate::bodies::*;
-use crate::observation::ObservationRead;
-use crate::observation::read_observation;
+use crate::observation::*;
 use crate::replay::Mark;
 use control::begin::VoterBegin;
 use control::begin::begin_table;
@@ -145,8 +144,8 @@ pub fn judge_begin_body(t: VoterSlotTable, body: &[u8]) -> Judged
 pub fn judge_observation_body(
     t: VoterSlotTable,
     body: &[u8],
-    ids: &mut [u64; 8192],
-    counts: &mut [usize; 255],
+    ids: &mut [u64; MOST_IDS],
+    counts: &mut [usize; MOST_SETS],
 ) -> Observed
     requires { ⌜ (validate t ≡ Accepted) × (length (now body) ≤ 65535) ⌝ }
     ensures { λ v. ⌜ numbered (verdictOfObserved v) ≡ observationVerdict t (asking Ob (now (body .entry))) ⌝ }

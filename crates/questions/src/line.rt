@@ -1,12 +1,18 @@
+// More than any line of the programs has.
+const LINE_SIZE: usize = 96;
+
+// Most digits of a number.
+const MOST_DIGITS: usize = 20;
+
 // A line of output, put together before it is written.
 pub struct Line {
-    pub bytes: [u8; 96],
+    pub bytes: [u8; LINE_SIZE],
     pub at: usize,
 }
 
 pub fn new() -> Line {
     Line {
-        bytes: [0; 96],
+        bytes: [0; LINE_SIZE],
         at: 0,
     }
 }
@@ -15,7 +21,7 @@ impl Line {
     // The line with a byte more. One that is full stays as it is; no line of this program is as long.
     pub fn byte(self, b: u8) -> Line {
         let at = self.at;
-        if 96 <= at {
+        if LINE_SIZE <= at {
             return self;
         }
         let mut next = self;
@@ -36,7 +42,7 @@ impl Line {
 
     // The line with a number in decimal.
     pub fn number(self, n: u64) -> Line {
-        let mut digits = [0u8; 20];
+        let mut digits = [0u8; MOST_DIGITS];
         let k = io::decimal(n, &mut digits);
         self.text(&digits[..k])
     }

@@ -4,6 +4,8 @@ ghost use mathlib.Core.Path.{_≡_};
 ghost use Rattle.records.specs.Blank.{blankVoterSlotIdentity, blankSpiffeId, blankSnapshotId, blankVoterSlotLogId, blankOptionalLogId, blankVoterSlotMember, blankVoterReplacementResult, blankVoterSlotRecord, blankVoterSnapshotEvidence, blankVoterConfiguration, blankLostVoterAttestationV1, blankVoterReplacementEvidence, blankVoterReplacementRecord, blankVoterSlotTable};
 use crate::records::*;
 use identity::identity::VoterSlotIdentity;
+use identity::text::MAX_VOTER_SNAPSHOT_ID_BYTES;
+use identity::text::MAX_VOTER_SPIFFE_ID_BYTES;
 
 pub fn blank_voter_slot_identity() -> VoterSlotIdentity
     ensures { λ r. ⌜ r ≡ blankVoterSlotIdentity ⌝ }
@@ -19,7 +21,7 @@ pub fn blank_spiffe_id() -> SpiffeId
 {
     SpiffeId {
         len: 0,
-        bytes: [0; 2048],
+        bytes: [0; MAX_VOTER_SPIFFE_ID_BYTES],
     }
 }
 
@@ -28,7 +30,7 @@ pub fn blank_snapshot_id() -> SnapshotId
 {
     SnapshotId {
         len: 0,
-        bytes: [0; 256],
+        bytes: [0; MAX_VOTER_SNAPSHOT_ID_BYTES],
     }
 }
 

@@ -13,12 +13,10 @@ use control::judge::Judged;
 use identity::answer::Answer;
 use identity::answer::accepted;
 use journal::bodies::*;
+use journal::record::MOST_BODY;
 use journal::replay::Mark;
 use journal::step::*;
 use records::records::VoterSlotTable;
-
-// Most bytes of a body: its size has 16 bits.
-pub const MOST_BODY: usize = 65535;
 
 // The marks of commands, each as the 16-bit number that its two bytes are.
 pub const MARKER_MARK: u32 = 19787;

@@ -30,8 +30,8 @@ use identity::answer::Answer;
 use identity::answer::accepted;
 use identity::answer::number;
 use journal::bodies::*;
-use journal::observation::ObservationRead;
-use journal::observation::read_observation;
+use journal::observation::*;
+use journal::record::MOST_BODY;
 use journal::replay::Mark;
 use journal::step::*;
 use records::records::VoterSlotTable;
@@ -190,8 +190,8 @@ pub fn observe_at(table: VoterSlotTable, body: &[u8]) -> Afterwards
     if MOST_BODY < body.len() {
         return stay(table, Answer::BadRecord);
     }
-    let mut ids = [0u64; 8192];
-    let mut counts = [0usize; 255];
+    let mut ids = [0u64; MOST_IDS];
+    let mut counts = [0usize; MOST_SETS];
     observe_body(table, body, &mut ids, &mut counts)
 }
 
@@ -199,8 +199,8 @@ pub fn observe_at(table: VoterSlotTable, body: &[u8]) -> Afterwards
 fn observe_body(
     table: VoterSlotTable,
     body: &[u8],
-    ids: &mut [u64; 8192],
-    counts: &mut [usize; 255],
+    ids: &mut [u64; MOST_IDS],
+    counts: &mut [usize; MOST_SETS],
 ) -> Afterwards
     requires { ⌜ length (now body) ≤ 65535 ⌝ }
     ensures { λ r. ⌜ (r .result, r .table) ≡ askedAt (asking Ob (now (body .entry))) table ⌝ }

@@ -13,7 +13,10 @@ use control::retired::is_retired_in;
 use identity::answer::Answer;
 use identity::answer::accepted;
 use identity::answer::number;
+use journal::observation::MOST_IDS;
+use journal::observation::MOST_SETS;
 use journal::observation::read_observation;
+use journal::record::MOST_BODY;
 use journal::step::Called;
 use journal::step::judge_observation_body;
 
@@ -85,8 +88,8 @@ pub extern "C" fn voter_slots_observe(table: &[u8], body: &[u8], out: &mut [u8])
     if MOST_BODY < body.len() {
         return refused(Answer::BadRecord);
     }
-    let mut ids = [0u64; 8192];
-    let mut counts = [0usize; 255];
+    let mut ids = [0u64; MOST_IDS];
+    let mut counts = [0usize; MOST_SETS];
     let decoded = decode_voter_slot_table(table);
     let answer = decoded.answer;
     if !accepted(answer) {
