@@ -11,13 +11,13 @@ use questions::input::next_question;
 use questions::question::Question;
 use questions::question::question_of;
 use questions::reply::Reply;
-use questions::reply::begin;
+use questions::reply::print_heading;
 use questions::reply::report;
 use reply::reply_to;
 
 fn main() {
     let mut body = [0u8; LONGEST_BODY];
-    begin();
+    print_heading();
     run(&mut body);
 }
 

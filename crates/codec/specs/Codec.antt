@@ -1,5 +1,5 @@
--- What reading gives, and the bytes that are written: `decode_voter_slot_table`,
--- `decode_lost_voter_attestation` of codec.rs, in their order.
+-- What reading gives, what writing leaves, and a restart: `decode_voter_slot_table`,
+-- `decode_lost_voter_attestation` and `encode_voter_slot_table` of codec.rs.
 -- Document 01, "Refusals from the input": 5 for too many bytes first, the field's own number, 6 for
 -- bytes left over, then validity's.
 -- Assumes nothing.
@@ -8,7 +8,7 @@ use mathlib.Core.List.{List, _++_}
 use lib.ListN.{length, take, drop}
 use lib.Dec.{leb}
 use Rattle.identity.specs.Answer.{numberOf}
-use Rattle.format.specs.Res.{Res, andThen}
+use Rattle.format.specs.Res.{Res, andThen, tooLarge}
 use Rattle.format.specs.Res.Res.{ok, no}
 use Rattle.format.specs.Combinators.{gate}
 use Rattle.format.specs.Num.{pick}
@@ -26,7 +26,7 @@ maxTableBytes = 65536
 
 -- at most so many bytes, refused by 5
 unfoldable pub bounded : {A : Type 0} → ℕ → List ℕ → Res A → Res A
-bounded bound bs r = pick (leb (length bs) bound) r (no 5)
+bounded bound bs r = pick (leb (length bs) bound) r (no tooLarge)
 
 -- `decode_voter_slot_table`: the bound, the fields, nothing left over, and then validity.
 unfoldable pub decodeVoterSlotTable : List ℕ → Res VoterSlotTable

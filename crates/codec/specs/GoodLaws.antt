@@ -1,6 +1,6 @@
 -- The formats hold what the types hold, the representability check passes and validity accepts:
 -- `table .Good t`, format by format, leaves first.
--- Each name here is a step of a proof; what is right is said in Format, Representable and
+-- Each name here is a step of a proof; what is right is said in Layout, Representable and
 -- Validation.
 -- Assumes nothing.
 use Prim.Native.Nat.{ℕ, zero, suc, _+_, _-_, _^_, _≤_, _<_, zero-le}

@@ -1,6 +1,6 @@
 -- A value that a format holds (`Good`) has the bounds of its types: each number fits, each array
 -- has its length. For `read-held` of CodecLaws.
--- Each name here is a step of a proof; what is right is said in Format and Held.
+-- Each name here is a step of a proof; what is right is said in Layout and Held.
 -- Assumes nothing.
 use Prim.Native.Nat.{ℕ, zero, suc, _-_, _^_, _≤_, _<_}
 use native.Mathlib.Omega.{arith}

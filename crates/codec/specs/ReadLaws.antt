@@ -1,6 +1,6 @@
 -- What the formats hold passes the representability check: so what was read can be written, format
 -- by format, leaves first.
--- Each name here is a step of a proof; what is right is said in Format and Representable.
+-- Each name here is a step of a proof; what is right is said in Layout and Representable.
 -- Assumes nothing.
 use Prim.Native.Nat.{ℕ, _+_, _-_, _≤_, _<_}
 use native.Mathlib.Omega.{arith}

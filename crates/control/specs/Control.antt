@@ -387,30 +387,30 @@ isCompleted t id digest = not (allBelow (λ i. not (isReceiptOf id digest (slotA
 
 -- no request is open: a Finalize of a completed request again 0, anything else 13
 abbrev pub advanceClosed : VoterSlotTable → (id digest : List ℕ) → VoterReplacementStep → Decision
-advanceClosed t id digest s = cond (eqb (s .kind) finalizeKind && isCompleted t id digest) keep (refuse StaleIncarnation)
+advanceClosed t id digest step = cond (eqb (step .kind) finalizeKind && isCompleted t id digest) keep (refuse StaleIncarnation)
 
 -- the step, by its kind
 unfoldable pub takeStep : VoterSlotTable → VoterReplacementStep → VoterSlotLogId → Decision
-takeStep t s cut =
-    cond (eqb (s .kind) recordSnapshotKind) (recordSnapshot t (s .snapshot) cut)
-    (cond (eqb (s .kind) recordCaughtUpKind) (recordCaughtUp t (s .«caught_up») cut)
-    (cond (eqb (s .kind) recordContinuationKind) (recordContinuation t cut)
-    (cond (eqb (s .kind) fenceKind) (fence t cut) (finalize t cut))))
+takeStep t step cut =
+    cond (eqb (step .kind) recordSnapshotKind) (recordSnapshot t (step .snapshot) cut)
+    (cond (eqb (step .kind) recordCaughtUpKind) (recordCaughtUp t (step .«caught_up») cut)
+    (cond (eqb (step .kind) recordContinuationKind) (recordContinuation t cut)
+    (cond (eqb (step .kind) fenceKind) (fence t cut) (finalize t cut))))
 
 -- the open request against the command: 13 other id; 14 other digest; 25 a cut not past prepare
 unfoldable pub advanceOpen : VoterSlotTable → (id digest : List ℕ) → VoterReplacementStep → VoterSlotLogId → Decision
-advanceOpen t id digest s cut =
+advanceOpen t id digest step cut =
     let op = t .replacement in
     cond (not (eqBytes (op .attestation .«request_id») id)) (refuse StaleIncarnation)
     (cond (not (eqBytes (op .attestation .«request_digest») digest)) (refuse IdempotencyConflict)
     (cond (leb (cut .index) (op .evidence .prepare .index) || ltb (cut .term) (op .evidence .prepare .term)) (refuse InvalidTransition)
-    (takeStep t s cut)))
+    (takeStep t step cut)))
 
 -- "Advance tests a full revision (2^64 − 1) first, idle repeats included"
 unfoldable pub advance : VoterSlotTable → (id digest : List ℕ) → VoterReplacementStep → VoterSlotLogId → Decision
-advance t id digest s cut =
+advance t id digest step cut =
     cond (eqb (t .revision) full) (refuse RevisionExhausted)
-    (cond (t .«has_replacement») (advanceOpen t id digest s cut) (advanceClosed t id digest s))
+    (cond (t .«has_replacement») (advanceOpen t id digest step cut) (advanceClosed t id digest step))
 
 -- ---- Marker
 

@@ -53,7 +53,7 @@ pub fn judge_begin(t: VoterSlotTable, b: VoterBegin) -> Judged
     let change = change_if(later, Judged::Begin);
     let fresh = or_refuse(check, change);
     let again = or_refuse(valid, Judged::Keep);
-    judge_known(t, r, again, fresh)
+    judge_known_request(t, r, again, fresh)
 }
 
 // What follows an answer that is no refusal.
@@ -76,7 +76,7 @@ fn first_refusal(answer: Answer, next: Answer) -> Answer
 }
 
 // A request that the open one or a receipt has: again, or 14 with another digest. Else a fresh one.
-fn judge_known(
+fn judge_known_request(
     t: VoterSlotTable,
     r: VoterReplacementRequest,
     again: Judged,

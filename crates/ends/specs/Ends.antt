@@ -66,8 +66,8 @@ abbrev pub others : {A : Type 0} → (ℕ → A) → List A
 others f = f 2 ∷ f 3 ∷ f 4 ∷ f 5 ∷ f 6 ∷ f 7 ∷ f 8 ∷ f 9 ∷ []
 
 -- Each slot has a receipt of its second incarnation.
-abbrev pub receiptOf : ℕ → VoterReplacementResult
-receiptOf slot =
+abbrev pub receiptIn : ℕ → VoterReplacementResult
+receiptIn slot =
     record {
       «request_id» = replicate 16 slot;
       «request_digest» = replicate 32 slot;
@@ -80,7 +80,7 @@ receiptOf slot =
 
 abbrev pub slotOf : ℕ → ℕ → VoterSlotRecord
 slotOf own slot =
-    record { member = memberOf own slot; «retired_through» = own - 1; phase = voting; «has_last_result» = true; «last_result» = receiptOf slot }
+    record { member = memberOf own slot; «retired_through» = own - 1; phase = voting; «has_last_result» = true; «last_result» = receiptIn slot }
 
 abbrev pub configurationOf : ℕ → ℕ → VoterConfiguration
 configurationOf epoch own = record { epoch = epoch; members = memberOf own 1 ∷ others (memberOf 2); count = 9 }
@@ -117,8 +117,8 @@ longAttestation =
 abbrev pub longSnapshot : VoterSnapshotEvidence
 longSnapshot = record { cut = cut 2; «snapshot_id» = longSnapshotId; digest = replicate 32 0 }
 
-abbrev pub present : ℕ → OptionalLogId
-present index = record { «is_some» = true; cut = cut index }
+abbrev pub presentIndex : ℕ → OptionalLogId
+presentIndex index = record { «is_some» = true; cut = cut index }
 
 abbrev pub longEvidence : VoterReplacementEvidence
 longEvidence =
@@ -126,12 +126,12 @@ longEvidence =
       prepare = cut 1;
       «has_snapshot» = true;
       snapshot = longSnapshot;
-      learner = present 3;
-      «caught_up» = present 4;
-      continuation = present 5;
-      fence = present 6;
-      joint = present 7;
-      uniform = present 8;
+      learner = presentIndex 3;
+      «caught_up» = presentIndex 4;
+      continuation = presentIndex 5;
+      fence = presentIndex 6;
+      joint = presentIndex 7;
+      uniform = presentIndex 8;
     }
 
 abbrev pub longReplacement : VoterReplacementRecord

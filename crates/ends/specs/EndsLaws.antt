@@ -24,7 +24,7 @@ use Rattle.codec.specs.Codec.{tableBytes}
 use Rattle.writer.specs.Size.{slotsSize, evidenceSize, replacementSize, tableSize}
 use Rattle.codec.specs.FitsLaws.{table-fits}
 use Rattle.writer.specs.SizeLaws.{table-long}
-use Rattle.ends.specs.Ends.{memberOf, cut, smallest, others, receiptOf, slotOf, configurationOf, longName, longAttestation, present, longEvidence, largest}
+use Rattle.ends.specs.Ends.{memberOf, cut, smallest, others, receiptIn, slotOf, configurationOf, longName, longAttestation, presentIndex, longEvidence, largest}
 use Rattle.records.specs.declared.records.VoterSlotTable.{VoterSlotTable}
 
 pub smallest-valid : validate smallest ≡ Accepted
@@ -51,7 +51,7 @@ module _ (own slot : ℕ) (o : own < 10) (s : slot < 10) where
         «admission_generation» = omega arith;
       }
 
-  receipt-held : HeldVoterReplacementResult (receiptOf slot)
+  receipt-held : HeldVoterReplacementResult (receiptIn slot)
   receipt-held =
       record {
         «request_id» = held-bytes 16 slot (omega arith);
@@ -107,7 +107,7 @@ attestation-held =
       signature = zeros-held 64;
     }
 
-present-held : (index : ℕ) → index < 10 → HeldOptionalLogId (present index)
+present-held : (index : ℕ) → index < 10 → HeldOptionalLogId (presentIndex index)
 present-held index h = record { cut = record { term = lit< tt; index = omega arith } }
 
 evidence-held : HeldVoterReplacementEvidence longEvidence

@@ -1,5 +1,6 @@
--- Codecs: a writer and a reader of one form, with the laws that tie them, and the ways to make one
--- of others.
+-- Byte formats (the type `Codec`): a writer and a reader of one form, with the laws that tie them, and
+-- the ways to make one of others. Document 01: "A refused field ends the reading with that field's own
+-- number."
 -- Assumes nothing.
 use Prim.Native.Nat.{ℕ, zero, suc, _+_, _-_, _≤_, _<_, zero-le}
 use native.Mathlib.Omega.{arith}

@@ -1,4 +1,5 @@
--- Numbers, big-endian at any width, and bytes as they stand.
+-- Numbers, big-endian at any width, and bytes as they stand. Document 01: "Integers in bytes are
+-- big-endian".
 -- Assumes nothing.
 use Prim.Native.Nat.{ℕ, zero, suc, _+_, _*_, _/_, _%_, _^_, _≤_, _<_}
 use native.Mathlib.Omega.{arith}

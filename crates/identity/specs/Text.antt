@@ -92,9 +92,12 @@ unfoldable pub every : (ℕ → Bool) → List ℕ → Bool
 every p [] = true
 every p (b ∷ s) = p b && every p s
 
+abbrev pub maxTrustDomainBytes : ℕ
+maxTrustDomainBytes = 255
+
 -- "a trust domain of 1 to 255 bytes"
 abbrev pub isTrustDomain : List ℕ → Bool
-isTrustDomain d = (leb 1 (length d) && leb (length d) 255) && every isDomainByte d
+isTrustDomain d = (leb 1 (length d) && leb (length d) maxTrustDomainBytes) && every isDomainByte d
 
 -- "each a slash and one or more of .."
 abbrev pub isSegment : List ℕ → Bool
@@ -132,5 +135,5 @@ abbrev pub nextPart : Part → ℕ → Part
 nextPart part b =
     cond (eqb b slash) (record { good = part .good && ltb 0 (part .run); «in_domain» = false; run = 0 })
     (cond (part .«in_domain»)
-    (record { good = part .good && (isDomainByte b && ltb (part .run) 255); «in_domain» = true; run = part .run + 1 })
+    (record { good = part .good && (isDomainByte b && ltb (part .run) maxTrustDomainBytes); «in_domain» = true; run = part .run + 1 })
     (record { good = part .good && isSegmentByte b; «in_domain» = false; run = part .run + 1 }))

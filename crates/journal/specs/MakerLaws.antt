@@ -23,7 +23,7 @@ use Rattle.journal.specs.declared.replay.Mark.the-variants.{Ad, Bg, Ob}
 use Rattle.journal.specs.declared.step.Called.{Called}
 use Rattle.journal.specs.declared.step.Called.the-variants.{Command, Observation}
 use Rattle.journal.specs.Replay.{asking}
-use Rattle.journal.specs.Step.{HoldsAdvance, HoldsBegin, Makes, changes, commandIn, commandVerdict, cutAt, isMade, madeBy, madeByCommand, madeByObservation, markOfMove, observationVerdict, routeOfCalled, routeOfObservation}
+use Rattle.journal.specs.Step.{HoldsAdvance, HoldsBegin, Makes, isChanging, commandIn, commandVerdict, cutAt, isMade, madeBy, madeByCommand, madeByObservation, markOfMove, observationVerdict, routeOfCalled, routeOfObservation}
 use Rattle.journal.specs.Step.Numbered.{movesBy}
 use Rattle.journal.specs.StepLaws.{AdvanceNeed, BeginNeed, advance-need, begin-need, cut-is, observation-room, unchanged}
 
@@ -168,7 +168,7 @@ some-addition (moves addsLearner) = refl
 some-addition (moves addsJoint) = refl
 some-addition (moves addsUniform) = refl
 
-pub some-maker : (called : Called) → ltb 0 (routeOfCalled called) ≡ changes called
+pub some-maker : (called : Called) → ltb 0 (routeOfCalled called) ≡ isChanging called
 some-maker (Command judged) = some-move (verdictOf judged)
 some-maker (Observation observed) = some-addition (verdictOfObserved observed)
 

@@ -1,5 +1,6 @@
--- A log played in pieces: what `play` gives of the bytes that are there, from any valid table or none. A program with little memory plays piece after piece; that the lines are
--- those of `replay` of all the bytes, however they are cut, is proved (PlayLaws).
+-- A log played in pieces: what `play` gives of the bytes that are there, from any valid table or
+-- none. Document 01, section "Replay program". That the lines are those of `replay` of all the bytes,
+-- however they are cut, is proved (PieceLaws).
 -- Assumes nothing.
 use Prim.Native.Nat.{ℕ, zero, suc, _+_, _*_, _-_, _/_, _<_, _≤_, min}
 use mathlib.Core.Path.{_≡_}

@@ -1,5 +1,5 @@
--- Laws of a log that is played in pieces: the record at a place, one more turn of a loop over the records, the whole of `play`, and that pieces one after another print
--- `replay` of all the bytes.
+-- Laws of a log that is played in pieces: the record at a place, one more turn of a loop over the
+-- records, the whole of `play`.
 -- Assumes nothing.
 use Prim.Native.Nat.{ℕ, zero, suc, _+_, _-_, _/_, _^_, _<_, _≤_, min}
 use native.Mathlib.Omega.{arith}

@@ -1,9 +1,9 @@
 -- The replay program: document 01, section "Replay program". From the bytes of standard input to
 -- the bytes of standard output: `replay`.
---     entries    the records that the bytes are, or the broken one that ends them; no table plays a
--- part in it step       one record at the table that stands, or at none: the answer, and the table
--- that stands afterwards run        a list of records, from any table or none;  line  what is
--- printed of one Assumes nothing.
+-- `entries`: the records that the bytes are, or the broken one that ends them; no table plays a part
+-- in it. `step`: one record at the table that stands, or at none: the answer, and the table
+-- afterwards. `run`: a list of records, from any table or none. `line`: what is printed of one.
+-- Assumes nothing.
 use Prim.Native.Nat.{ℕ, zero, suc, _+_, _/_, _%_}
 use mathlib.Core.Bool.{cond}
 use mathlib.Core.List.{List, [], _∷_, _++_, flatten, map}

@@ -170,6 +170,6 @@ isMade (refuses answer) = false
 isMade kept = false
 isMade (moves m) = true
 
-abbrev pub changes : Called → Bool
-changes (Command judged) = isMade (verdictOf judged)
-changes (Observation observed) = isMade (verdictOfObserved observed)
+abbrev pub isChanging : Called → Bool
+isChanging (Command judged) = isMade (verdictOf judged)
+isChanging (Observation observed) = isMade (verdictOfObserved observed)

@@ -68,7 +68,7 @@ use Rattle.journal.specs.Replay.Asked.{command, observation}
 use Rattle.journal.specs.Replay.Asking.{bad, refused, asks}
 use Rattle.journal.specs.Replay.Entry.{framed}
 use Rattle.journal.specs.Replay.Standing.{stands}
-use Rattle.journal.specs.Step.{Judges, Makes, ValidStanding, answerOfCalled, beginVerdict, changes, checkedCall, cutAt, cutBy, isMade, commandIn, commandVerdict, madeBy, madeByCommand, madeByObservation, markOfMove, numbered, observationVerdict}
+use Rattle.journal.specs.Step.{Judges, Makes, ValidStanding, answerOfCalled, beginVerdict, isChanging, checkedCall, cutAt, cutBy, isMade, commandIn, commandVerdict, madeBy, madeByCommand, madeByObservation, markOfMove, numbered, observationVerdict}
 use Rattle.journal.specs.Step.Numbered.{refusedBy, movesBy}
 
 -- ---- the command of a body passes the representability check where the part does that it uses
@@ -470,7 +470,7 @@ module _ (t : VoterSlotTable) (body : List ℕ) where
       by (no k) e h = absurd (let z : _≡_ {A = ℕ} 0 1 = cc in omega arith)
 
 -- ---- where there is none, the table stays
-pub unchanged : (t : VoterSlotTable) (body : List ℕ) (called : Called) → changes called ≡ false → t ≡ madeBy t body called
+pub unchanged : (t : VoterSlotTable) (body : List ℕ) (called : Called) → isChanging called ≡ false → t ≡ madeBy t body called
 unfolding madeByCommand madeByObservation
 unchanged t body (Command judged) = by (verdictOf judged)
   where

@@ -12,7 +12,7 @@ ghost use Rattle.control.specs.Verdicts.{verdictOf};
 ghost use Rattle.control.specs.ObserveSight.{verdictOfObserved, weighed};
 ghost use Rattle.journal.specs.declared.replay.Mark.the-variants.{Ad, Bg, Mk, Ob};
 ghost use Rattle.journal.specs.Replay.{asking};
-ghost use Rattle.journal.specs.Step.{HoldsAdvance, HoldsBegin, Makes, answerOfCalled, changes, checkedCall, commandVerdict, cutAt, madeBy, numbered, observationVerdict, routeOfCalled, routeOfObservation};
+ghost use Rattle.journal.specs.Step.{HoldsAdvance, HoldsBegin, Makes, answerOfCalled, isChanging, checkedCall, commandVerdict, cutAt, madeBy, numbered, observationVerdict, routeOfCalled, routeOfObservation};
 use crate::bodies::*;
 use crate::observation::*;
 use crate::replay::Mark;
@@ -80,7 +80,7 @@ fn route_of_observation(observed: Observed) -> u64
 
 // Whether the table changes.
 pub fn is_change(called: Called) -> bool
-    ensures { λ r. ⌜ r ≡ changes called ⌝ }
+    ensures { λ r. ⌜ r ≡ isChanging called ⌝ }
 {
     0 < route_of_called(called)
 }

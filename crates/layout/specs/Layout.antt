@@ -26,7 +26,7 @@ use Rattle.format.specs.Through.{boxed}
 use Rattle.records.specs.Blank.{blankVoterSlotLogId, blankVoterSlotMember, blankVoterReplacementResult, blankVoterSlotRecord, blankVoterSnapshotEvidence, blankVoterReplacementRecord}
 use Rattle.records.specs.Equality.{eqBytes}
 use Rattle.records.specs.EqualityLaws.{eqBytes-true}
-use Rattle.records.specs.Records.{pending, voting, prepared, uniform, completed, superseded, storageLost, timeBoundLoss}
+use Rattle.records.specs.Records.{maxFixedVoterSlots, pending, voting, prepared, uniform, completed, superseded, storageLost, timeBoundLoss}
 use Rattle.records.specs.Validation.{validCount, validAttestation}
 use Rattle.records.specs.declared.records.SpiffeId.{SpiffeId}
 use Rattle.records.specs.declared.records.SnapshotId.{SnapshotId}
@@ -60,6 +60,7 @@ use Rattle.layout.specs.declared.parts.TableHead.{TableHead}
 abbrev pub require : Bool → ℕ
 require t = pick t 0 malformed
 
+-- 1, 2: "slot 0; incarnation 0 or above 2^47"; an epoch of 0 is 6.
 unfoldable pub slotId : Codec ℕ
 slotId = check (uint 2) (λ x. numberOf (validateSlotId x))
 
@@ -129,7 +130,7 @@ unfoldable pub member : Codec VoterSlotMember
 member = via (dep identity (λ i. binding)) (λ p. memberOf (p .0) (p .1)) (λ m. (m .identity, bindingOf m)) (λ a g. refl)
 
 unfoldable pub members : ℕ → Codec (List VoterSlotMember)
-members n = padded (vec member blankVoterSlotMember n) n 9 blankVoterSlotMember (vec-long member blankVoterSlotMember n)
+members n = padded (vec member blankVoterSlotMember n) n maxFixedVoterSlots blankVoterSlotMember (vec-long member blankVoterSlotMember n)
 
 unfoldable pub configuration : Codec VoterConfiguration
 configuration =
@@ -168,7 +169,7 @@ slot =
     (λ s. ((slotMemberOf s, s .phase), (s .«has_last_result», s .«last_result»))) (λ a g. refl)
 
 unfoldable pub slots : ℕ → Codec (List VoterSlotRecord)
-slots n = padded (vec slot blankVoterSlotRecord n) n 9 blankVoterSlotRecord (vec-long slot blankVoterSlotRecord n)
+slots n = padded (vec slot blankVoterSlotRecord n) n maxFixedVoterSlots blankVoterSlotRecord (vec-long slot blankVoterSlotRecord n)
 
 -- ---- an attestation
 
@@ -294,6 +295,7 @@ tableHead =
 abbrev pub tableFront : Codec TableFront
 tableFront = dep (dep (dep magicAndVersion (λ a. tableHead)) (λ a. slotCount)) (λ p. slots (p .1))
 
+-- The bytes of a table, whole; its validity is tested after them (codec).
 unfoldable pub table : Codec VoterSlotTable
 table =
     via (dep tableFront (λ a. opt replacement blankVoterReplacementRecord))

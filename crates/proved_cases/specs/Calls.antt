@@ -169,10 +169,10 @@ pub data Response : Type 0 where
   makes : Act → VoterSlotTable → Response
 
 -- each call a row, on the table that the one before it leaves
-abbrev pub line : VoterSlotTable → List Response → List Row
-line t [] = []
-line t (gives act number ∷ responses) = is-outcome (does act t) number t ∷ line t responses
-line t (makes act next ∷ responses) = is-outcome (does act t) 0 next ∷ line next responses
+abbrev pub rowsOf : VoterSlotTable → List Response → List Row
+rowsOf t [] = []
+rowsOf t (gives act number ∷ responses) = is-outcome (does act t) number t ∷ rowsOf t responses
+rowsOf t (makes act next ∷ responses) = is-outcome (does act t) 0 next ∷ rowsOf next responses
 
 -- ---- request 21: slot 2 of three, in incarnation 2; from its Begin to Finalize
 
@@ -265,8 +265,8 @@ isFenced =
     blankOptionalLogId)
 
 -- the epoch is still that of the predecessor
-abbrev pub isJoint : VoterSlotTable
-isJoint =
+abbrev pub isJointTable : VoterSlotTable
+isJointTable =
     openFirst 9 1 voting joint
     (evidenceWith (cut 2 10) true (snapshotAt (cut 2 10)) (present (cut 2 12)) (present (cut 2 16)) (present (cut 2 18)) (present (cut 2 19)) (present (cut 2 21))
     blankOptionalLogId)
@@ -278,8 +278,8 @@ isUniform =
     (evidenceWith (cut 2 10) true (snapshotAt (cut 2 10)) (present (cut 2 12)) (present (cut 2 16)) (present (cut 2 18)) (present (cut 2 19)) (present (cut 2 21))
     (present (cut 2 22)))
 
-abbrev pub receiptOf : (id incarnation revision epoch kind : ℕ) → VoterSlotLogId → VoterReplacementResult
-receiptOf id incarnation revision epoch kind terminal =
+abbrev pub receiptWith : (id incarnation revision epoch kind : ℕ) → VoterSlotLogId → VoterReplacementResult
+receiptWith id incarnation revision epoch kind terminal =
     record {
       «request_id» = replicate 16 id;
       «request_digest» = key id;
@@ -292,7 +292,7 @@ receiptOf id incarnation revision epoch kind terminal =
 
 -- slot 2 with the receipt of its Finalize at revision 11
 abbrev pub replacedSlot : VoterSlotRecord
-replacedSlot = slotWith (memberOf 2 2 9 5) 1 voting true (receiptOf 21 2 11 2 completed (cut 2 23))
+replacedSlot = slotWith (memberOf 2 2 9 5) 1 voting true (receiptWith 21 2 11 2 completed (cut 2 23))
 
 -- at that revision
 abbrev pub isFinalizedAt : ℕ → VoterSlotTable
@@ -352,7 +352,7 @@ bothNext = 1 ∷ 2 ∷ 3 ∷ 131074 ∷ []
 -- Begin that superseded it, the table's epoch.
 abbrev pub openSecond : (revision slotPhase phase : ℕ) → VoterReplacementEvidence → VoterSlotTable
 openSecond revision slotPhase phase evidence =
-    openWith revision 1 (around (slotWith (memberOf 2 3 10 6) 2 slotPhase true (receiptOf 21 2 5 1 superseded (cut 2 14))))
+    openWith revision 1 (around (slotWith (memberOf 2 3 10 6) 2 slotPhase true (receiptWith 21 2 5 1 superseded (cut 2 14))))
     (operationOf 4 (attest 22 2 2 9 10 6) (memberOf 2 3 10 6) phase evidence)
 
 abbrev pub isSuperseded : VoterSlotTable
@@ -373,7 +373,7 @@ hasSecondLearner =
 -- the receipt of 22 has taken the place of that of 21
 abbrev pub isSupersededAgain : VoterSlotTable
 isSupersededAgain =
-    openWith 8 1 (around (slotWith (memberOf 2 4 11 7) 3 pending true (receiptOf 22 3 8 1 superseded (cut 2 18))))
+    openWith 8 1 (around (slotWith (memberOf 2 4 11 7) 3 pending true (receiptWith 22 3 8 1 superseded (cut 2 18))))
     (operationOf 7 (attest 24 2 3 10 11 7) (memberOf 2 4 11 7) prepared (prepareAt (cut 2 18)))
 
 -- ---- Fenced, with no continuation

@@ -39,18 +39,18 @@ abbrev entry : ℕ → ℕ → List ℕ → List ℕ
 entry a b body = (a ∷ b ∷ (length body / 256) ∷ (length body % 256) ∷ []) ++ body
 
 -- a valid table of revision 1 and epoch 1: `OPVI`, version 1, and after the count the slots
-abbrev tableBytes : ℕ → List ℕ → List ℕ
-tableBytes count slots = (79 ∷ 80 ∷ 86 ∷ 73 ∷ 0 ∷ 1 ∷ []) ++ digest 7 ++ digest 6 ++ wide 1 ++ wide 1 ++ (count ∷ []) ++ slots ++ (0 ∷ [])
+abbrev bytesOfTable : ℕ → List ℕ → List ℕ
+bytesOfTable count slots = (79 ∷ 80 ∷ 86 ∷ 73 ∷ 0 ∷ 1 ∷ []) ++ digest 7 ++ digest 6 ++ wide 1 ++ wide 1 ++ (count ∷ []) ++ slots ++ (0 ∷ [])
 
 -- a slot in its first incarnation, voting, with no receipt
 abbrev slotBytes : ℕ → List ℕ
 slotBytes slot = (0 ∷ slot ∷ []) ++ wide 1 ++ wide 0 ++ digest slot ++ digest slot ++ wide 1 ++ (2 ∷ 0 ∷ [])
 
 abbrev tb : List ℕ
-tb = entry 84 66 (tableBytes 1 (slotBytes 1))
+tb = entry 84 66 (bytesOfTable 1 (slotBytes 1))
 
 abbrev tbOfThree : List ℕ
-tbOfThree = entry 84 66 (tableBytes 3 (slotBytes 1 ++ slotBytes 2 ++ slotBytes 3))
+tbOfThree = entry 84 66 (bytesOfTable 3 (slotBytes 1 ++ slotBytes 2 ++ slotBytes 3))
 
 -- at a cut of term 1, for the request 21
 abbrev named : ℕ → List ℕ

@@ -149,8 +149,8 @@ successor = record { epoch = 515; members = firstMember ∷ secondMember ∷ thi
 abbrev pub snapshotName : SnapshotId
 snapshotName = record { len = 4; bytes = (0x73 ∷ 0x6E ∷ 0x61 ∷ 0x70 ∷ []) ++ filled 252 0 }
 
-abbrev pub present : ℕ → ℕ → OptionalLogId
-present term index = record { «is_some» = true; cut = cut term index }
+abbrev pub presentCut : ℕ → ℕ → OptionalLogId
+presentCut term index = record { «is_some» = true; cut = cut term index }
 
 abbrev pub orderedEvidence : VoterReplacementEvidence
 orderedEvidence =
@@ -158,12 +158,12 @@ orderedEvidence =
       prepare = cut 332 342;
       «has_snapshot» = true;
       snapshot = record { cut = cut 611 621; «snapshot_id» = snapshotName; digest = filled 32 0x74 };
-      learner = present 612 622;
-      «caught_up» = present 613 623;
-      continuation = present 614 624;
-      fence = present 615 625;
-      joint = present 616 626;
-      uniform = present 617 627;
+      learner = presentCut 612 622;
+      «caught_up» = presentCut 613 623;
+      continuation = presentCut 614 624;
+      fence = presentCut 615 625;
+      joint = presentCut 616 626;
+      uniform = presentCut 617 627;
     }
 
 abbrev pub orderedRequest : VoterReplacementRecord

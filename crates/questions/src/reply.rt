@@ -23,7 +23,7 @@ pub fn number(answer: Answer) -> u64 {
 }
 
 // The first line, before the line of any question.
-pub fn begin() {
+pub fn print_heading() {
     io::write_all(1, b"cases 1\n");
 }
 

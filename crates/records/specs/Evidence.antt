@@ -60,6 +60,8 @@ inOrder continuation other isSnapshot =
     not (other .«is_some»)
     || cond (leb (other .cut .index) (continuation .index)) (follows continuation (other .cut) isSnapshot) (follows (other .cut) continuation false)
 
+-- The continuation, where there is one: after prepare, before the fence, and in order with the
+-- snapshot, the learner and the mark.
 unfoldable pub validContinuation : VoterReplacementEvidence → Bool
 validContinuation e =
     let c = e .continuation .cut in

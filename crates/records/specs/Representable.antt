@@ -1,6 +1,7 @@
 -- The representability check (document 01, "Refusals from the input"), part by part. A call gives
 -- 30 to "one that the Rust types cannot hold, count above 9, text length above its field, nonzero
--- filler behind a count or in an absent part" Assumes nothing.
+-- filler behind a count or in an absent part".
+-- Assumes nothing.
 use Prim.Native.Nat.{ℕ}
 use mathlib.Core.Bool.{Bool, true, cond, _&&_}
 use mathlib.Core.List.{List}
@@ -101,6 +102,7 @@ representableReplacement r =
     and leb (r .phase) uniform
     and representableEvidence (r .evidence)
 
+-- 30 of a whole table
 unfoldable pub representable : VoterSlotTable → Bool
 representable t =
     isConfigurationEpoch (t .«configuration_epoch»)

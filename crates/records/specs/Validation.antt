@@ -98,6 +98,8 @@ abbrev pub distinctResults : VoterSlotRecord → VoterSlotRecord → Bool
 distinctResults a b =
     not (a .«has_last_result» and b .«has_last_result» and eqBytes (a .«last_result» .«request_id») (b .«last_result» .«request_id»))
 
+-- "odd count, 1 to 9, slot numbers strictly rising. Revision above 0"; each slot is valid, and no two
+-- have a receipt of one request.
 unfoldable pub validSlots : VoterSlotTable → Bool
 validSlots t =
     validCount (t .count)
@@ -124,9 +126,11 @@ validOperationHead t op =
     and eqb (op .successor .count) (t .count)
     and eqb (op .predecessor .epoch + 1) (op .successor .epoch)
 
+-- The table's epoch is the predecessor's, and from Uniform on the successor's.
 unfoldable pub isCurrentEpoch : VoterSlotTable → VoterReplacementRecord → Bool
 isCurrentEpoch t op = eqb (t .«configuration_epoch») (cond (eqb (op .phase) uniform) (op .successor .epoch) (op .predecessor .epoch))
 
+-- The open request by itself, and against the table's head and epoch.
 unfoldable pub validOperation : VoterSlotTable → VoterReplacementRecord → Bool
 validOperation t op =
     validAttestation (op .attestation)
@@ -209,6 +213,8 @@ validateMembers t (suc n) =
 abbrev pub hasTarget : VoterSlotTable → Bool
 hasTarget t = not (allBelow (λ i. not (eqb (slotAt t i .member .identity .slot) (t .replacement .attestation .slot))) (t .count))
 
+-- `validate_operation`: 6, then the first refusal of the slots (3 among them), then 6 where no slot is
+-- the target.
 unfoldable pub validateOperation : VoterSlotTable → Answer
 validateOperation t =
     requireOf (validOperation t (t .replacement))

@@ -35,7 +35,7 @@ use Rattle.journal.specs.Replay.{Asked, Asking, Standing, advanceAsked, answere
 use Rattle.journal.specs.Replay.Asking.{bad, refused, asks}
 use Rattle.journal.specs.Replay.Entry.{framed}
 use Rattle.journal.specs.Replay.Standing.{absent, stands}
-use Rattle.journal.specs.Step.{Judges, answerOfCalled, changes, isMade, madeBy}
+use Rattle.journal.specs.Step.{Judges, answerOfCalled, isChanging, isMade, madeBy}
 use Rattle.journal.specs.StepLaws.{step-called}
 use Rattle.voter_slots.specs.Calls.{askedOf, commandOf, isFormed, markedCommand, mostBody, observationOf, settled}
 use Rattle.voter_slots.specs.Export.{ReadAs, leaves, withTable, written}
@@ -146,7 +146,7 @@ observed-by kept h = absurd (false≢true h)
 observed-by (moves m) h = refl
 
 -- a change is accepted
-pub change-accepted : (c : Called) → changes c ≡ true → isAccepted (answerOfCalled c) ≡ true
+pub change-accepted : (c : Called) → isChanging c ≡ true → isAccepted (answerOfCalled c) ≡ true
 change-accepted (Command judged) h = change-by (verdictOf judged) h
 change-accepted (Observation observed) h = observed-by (verdictOfObserved observed) h
 

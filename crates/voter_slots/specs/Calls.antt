@@ -1,5 +1,6 @@
--- The service's boundary, of a table and what is asked of it: what `voter_slots_apply` and `voter_slots_observe` give, and what they leave in the bytes lent.
--- The order of refusals: 33; the table reader's number; the attestation reader's; 30; 31; the call; 32 last.
+-- The service's boundary, of a table and what is asked of it: what `voter_slots_apply` and
+-- `voter_slots_observe` give, and what they leave in the bytes lent. The order of refusals: 33; the
+-- table reader's number; the attestation reader's; 30; 31; the call; 32 last.
 -- Assumes nothing.
 use Prim.Native.Nat.{ℕ}
 use mathlib.Core.Bool.{Bool, cond, false, true}

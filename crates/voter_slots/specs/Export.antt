@@ -1,5 +1,6 @@
--- The service's boundary, of a table alone: what `voter_slots_read`, `voter_slots_write` and `voter_slots_retired` give, and what they leave in the bytes lent.
--- The order of refusals: the table reader's number; the call; 32 last. A call that is refused leaves every lent byte as it was.
+-- The service's boundary, of a table alone: what `voter_slots_read`, `voter_slots_write` and
+-- `voter_slots_retired` give, and what they leave in the bytes lent. The order of refusals: the table
+-- reader's number; the call; 32 last. A call that is refused leaves every lent byte as it was.
 -- Assumes nothing.
 use Prim.Native.Nat.{ℕ}
 use mathlib.Core.Path.{_≡_}
@@ -21,8 +22,8 @@ abbrev pub noPhase : ℕ
 noPhase = 255
 
 -- refused by a number: every other number as of no table
-abbrev pub refusedBy : ℕ → VoterSlotsResult
-refusedBy n = record { answer = n; slots = 0; count = 0; revision = 0; epoch = 0; «open_slot» = 0; «open_phase» = noPhase }
+abbrev pub refusedResult : ℕ → VoterSlotsResult
+refusedResult n = record { answer = n; slots = 0; count = 0; revision = 0; epoch = 0; «open_slot» = 0; «open_phase» = noPhase }
 
 -- accepted: what a service asks of the table, and how many bytes it takes
 abbrev pub resultOf : VoterSlotTable → ℕ → VoterSlotsResult
@@ -45,7 +46,7 @@ ReadAs bs t = _≡_ {A = ℕ × VoterSlotTable} (decoded blankVoterSlotTable (de
 
 unfoldable pub readBy : ℕ → Res VoterSlotTable → VoterSlotsResult
 readBy len (ok t n) = resultOf t len
-readBy len (no k) = refusedBy k
+readBy len (no k) = refusedResult k
 
 -- `voter_slots_read`
 abbrev pub readOf : List ℕ → VoterSlotsResult
@@ -55,7 +56,7 @@ readOf bs = readBy (length bs) (decodeVoterSlotTable bs)
 
 -- refused: not a byte is written
 abbrev pub leaves : ℕ → List ℕ → VoterSlotsResult × List ℕ
-leaves k out = (refusedBy k, out)
+leaves k out = (refusedResult k, out)
 
 unfoldable pub writtenBy : VoterSlotTable → List ℕ → Res (List ℕ) → VoterSlotsResult × List ℕ
 writtenBy t out (ok after n) = (resultOf t n, after)

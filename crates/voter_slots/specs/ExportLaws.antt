@@ -32,7 +32,7 @@ use Rattle.control.specs.RetiredLaws.{test-says}
 use Rattle.control.specs.declared.retired.Retirement.the-variants.{NotRetired, Retired}
 use Rattle.journal.specs.RefusalLaws.{table-refused}
 use Rattle.voter_slots.specs.declared.result.VoterSlotsResult.{VoterSlotsResult}
-use Rattle.voter_slots.specs.Export.{ReadAs, leaves, readBy, readOf, refusedBy, resultOf, retiredBy, retiredOf, withTable, writeOf, writtenBy, written}
+use Rattle.voter_slots.specs.Export.{ReadAs, leaves, readBy, readOf, refusedResult, resultOf, retiredBy, retiredOf, withTable, writeOf, writtenBy, written}
 
 -- ---- what was read
 
@@ -73,7 +73,7 @@ pub read-ok : (bs : List ℕ) (t : VoterSlotTable) → ReadAs bs t → resultOf 
 unfolding readBy
 read-ok bs t e = ap (readBy (length bs)) (sym (read-as bs t e .1))
 
-pub read-no : (bs : List ℕ) {k : ℕ} → decodeVoterSlotTable bs ≡ no k → refusedBy k ≡ readOf bs
+pub read-no : (bs : List ℕ) {k : ℕ} → decodeVoterSlotTable bs ≡ no k → refusedResult k ≡ readOf bs
 unfolding readBy
 read-no bs e = ap (readBy (length bs)) (sym e)
 

@@ -23,11 +23,11 @@ use Rattle.journal.specs.Replay.Asked.{command, observation}
 use Rattle.journal.specs.Replay.Asking.{bad, refused, asks}
 use Rattle.voter_slots.specs.declared.result.VoterSlotsResult.{VoterSlotsResult}
 use Rattle.voter_slots.specs.Calls.{commandOf, observationOf}
-use Rattle.voter_slots.specs.Export.{refusedBy, resultOf, written}
+use Rattle.voter_slots.specs.Export.{refusedResult, resultOf, written}
 
 -- refused: the table stays as it was lent
 abbrev pub stays : ℕ → VoterSlotTable → VoterSlotsResult × VoterSlotTable
-stays k t = (refusedBy k, t)
+stays k t = (refusedResult k, t)
 
 -- ---- reading
 
@@ -49,7 +49,7 @@ tableWriteOf t out = written t out
 
 -- what a call gives, with its table; `count` is 0: no byte of a table is read or written
 abbrev pub told : Answer × VoterSlotTable → VoterSlotsResult × VoterSlotTable
-told r = (cond (isAccepted (r .0)) (resultOf (r .1) 0) (refusedBy (numberOf (r .0))), r .1)
+told r = (cond (isAccepted (r .0)) (resultOf (r .1) 0) (refusedResult (numberOf (r .0))), r .1)
 
 -- 33; the attestation reader's number; the call
 unfoldable pub askedAt : Asking → VoterSlotTable → VoterSlotsResult × VoterSlotTable

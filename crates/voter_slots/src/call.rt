@@ -75,7 +75,7 @@ fn is_begin(body: &[u8]) -> bool
     }
 }
 
-pub fn judge_command(table: VoterSlotTable, asks: Mark, body: &[u8]) -> Called
+pub fn judge_body(table: VoterSlotTable, asks: Mark, body: &[u8]) -> Called
     requires { ⌜ (validate table ≡ Accepted) × (asks ≡ Ob → ⊥) ⌝ }
     ensures { λ r. ⌜ Judges table asks (now (body .entry)) r ⌝ }
 {

@@ -91,12 +91,12 @@ pub fn apply_to(table: VoterSlotTable, mark: u32, body: &[u8]) -> Afterwards
     if !accepted(validate_table(table)) {
         return stay(table, refuse_command(is_representable(table), asks, body));
     }
-    let called = judge_command(table, asks, body);
-    carry_out(table, body, called)
+    let called = judge_body(table, asks, body);
+    carry_out_at(table, body, called)
 }
 
 // What was judged of a valid table is made.
-fn carry_out(table: VoterSlotTable, body: &[u8], called: Called) -> Afterwards
+fn carry_out_at(table: VoterSlotTable, body: &[u8], called: Called) -> Afterwards
     requires { ⌜ (Makes table (now body) called) × ((validate table ≡ Accepted) × (validate (madeBy table (now body) called) ≡ Accepted)) ⌝ }
     ensures { λ r. ⌜ (r .result, r .table) ≡ told (answerOfCalled called, madeBy table (now (body .entry)) called) ⌝ }
 {

@@ -77,7 +77,7 @@ pub extern "C" fn voter_slots_apply(
         return refused(later(is_formed(asks, body), answer));
     }
     let before = decoded.table;
-    finish(table, before, body, judge_command(before, asks, body), out)
+    finish(table, before, body, judge_body(before, asks, body), out)
 }
 
 // Applies an observation to a table, and writes the table afterwards.

@@ -6,7 +6,7 @@ ghost use Rattle.identity.specs.declared.answer.Answer.the-variants.{Accepted};
 ghost use Rattle.records.specs.Blank.{blankVoterSlotTable};
 ghost use Rattle.records.specs.Validation.{validate};
 ghost use Rattle.codec.specs.Codec.{decoded, decodeVoterSlotTable};
-ghost use Rattle.voter_slots.specs.Export.{refusedBy, resultOf, written};
+ghost use Rattle.voter_slots.specs.Export.{refusedResult, resultOf, written};
 use identity::answer::Answer;
 use identity::answer::number;
 use layout::put::put_bytes;
@@ -33,7 +33,7 @@ pub struct VoterSlotsResult {
 }
 
 pub fn refused(answer: Answer) -> VoterSlotsResult
-    ensures { λ r. ⌜ r ≡ refusedBy (numberOf answer) ⌝ }
+    ensures { λ r. ⌜ r ≡ refusedResult (numberOf answer) ⌝ }
 {
     VoterSlotsResult {
         answer: number(answer) as u32,

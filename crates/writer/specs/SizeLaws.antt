@@ -1,6 +1,6 @@
 -- How long the bytes of each format are: as Size says, of a value that the types hold and whose
 -- lengths fit their fields.
--- Each name here is a step of a proof; what is written is said in Format, and the sizes in Size.
+-- Each name here is a step of a proof; what is written is said in Layout, and the sizes in Size.
 -- Assumes nothing.
 use Prim.Native.Nat.{ℕ, zero, suc, _+_, _*_, _≤_, _<_}
 use native.Mathlib.Omega.{arith}

@@ -13,7 +13,7 @@ use Rattle.journal.specs.declared.replay.Mark.the-variants.{Ob}
 use Rattle.journal.specs.Replay.{asking}
 use Rattle.journal.specs.StepLaws.{made-valid, makes}
 use Rattle.voter_slots.specs.declared.result.VoterSlotsResult.{VoterSlotsResult}
-use Rattle.voter_slots.specs.Export.{ReadAs, refusedBy}
+use Rattle.voter_slots.specs.Export.{ReadAs, refusedResult}
 use Rattle.voter_slots.specs.Calls.{askedOf, commandOf, isFormed}
 use Rattle.voter_slots.specs.CallLaws.{asked-ok, command-only, refused-is}
 use Rattle.voter_slots.specs.ExportLaws.{is-read, is-refused, read-accepted}
@@ -42,19 +42,19 @@ returns c =
     let d = c .before .before .before .before .before .decode-voter-slot-table in
     let f = c .before .before .is-formed .ensures ∙ ap (λ (m : Mark). isFormed (asking m (s .body .now))) (c .before .before .before .before .before .before .command-of .ensures) in
     let a = c .before .later .ensures ∙ ap (λ (b : Bool). cond b (d .result .answer) BadRecord) f in
-    ap (λ (r : VoterSlotsResult). (r, s .out .now)) (c .refused .ensures ∙ ap refusedBy (ap numberOf a))
+    ap (λ (r : VoterSlotsResult). (r, s .out .now)) (c .refused .ensures ∙ ap refusedResult (ap numberOf a))
     ∙ refused-is (asking (commandOf (s .mark) (length (s .body .now))) (s .body .now)) (s .table .now) (s .out .now) (d .result .answer)
     (is-refused (s .table .now) (d .result .answer) (d .result .table) (d .ensures) (failed (c .before .before .before .before .accepted .ensures) (c .before .before .before .if1 .taken)))
 
-judge-command-requires : tie.Need-judge-command-requires
-judge-command-requires c κs = (read-accepted (c .before .before .before .before .before .before .before .before .args .table .now) (c .before .before .before .decode-voter-slot-table .result .table) (bytes (c .before .before .before .before .before .before .before)) (read (c .before)), only (c .before .before .before .before))
+judge-body-requires : tie.Need-judge-body-requires
+judge-body-requires c κs = (read-accepted (c .before .before .before .before .before .before .before .before .args .table .now) (c .before .before .before .decode-voter-slot-table .result .table) (bytes (c .before .before .before .before .before .before .before)) (read (c .before)), only (c .before .before .before .before))
 
 finish-requires : tie.Need-finish-requires
 finish-requires c κs =
     let s = c .before .before .before .before .before .before .before .before .before .before .args in
     let t = c .before .before .before .before .before .decode-voter-slot-table .result .table in
     let m = c .before .before .before .before .before .before .command-of .result in
-    let j = c .before .judge-command in
+    let j = c .before .judge-body in
     let e = read (c .before .before .before) in
     (e, (makes t m (s .body .now) (j .result) (j .ensures), made-valid t (read-accepted (s .table .now) t (bytes (c .before .before .before .before .before .before .before .before .before)) e) m (s .body .now) (j .result) (j .ensures)))
 
@@ -63,7 +63,7 @@ returns-2 c =
     let s = c .before .before .before .before .before .before .before .before .before .before .before .before .before .args in
     let t = c .before .before .before .before .before .before .before .before .decode-voter-slot-table .result .table in
     let m = c .before .before .before .before .before .before .before .before .before .command-of in
-    let j = c .before .before .before .before .judge-command in
+    let j = c .before .before .before .before .judge-body in
     c .before .before .finish .ensures
     ∙ asked-ok (s .table .now) t (m .result) (s .body .now) (s .out .now) (j .result) (bytes (c .before .before .before .before .before .before .before .before .before .before .before .before)) (read (c .before .before .before .before .before .before)) (j .ensures)
     ∙ ap (λ (k : Mark). askedOf (asking k (s .body .now)) (s .table .now) (s .out .now)) (m .ensures)
@@ -97,7 +97,7 @@ voter-slots-apply-spec =
     later-requires
     refused-requires
     returns
-    judge-command-requires
+    judge-body-requires
     finish-requires
     same-length
     returns-2)

@@ -12,7 +12,7 @@ use Rattle.journal.specs.declared.replay.Mark.{Mark}
 use Rattle.journal.specs.Replay.{asking}
 use Rattle.journal.specs.StepLaws.{made-valid, makes}
 use Rattle.voter_slots.specs.declared.result.VoterSlotsResult.{VoterSlotsResult}
-use Rattle.voter_slots.specs.Export.{ReadAs, refusedBy}
+use Rattle.voter_slots.specs.Export.{ReadAs, refusedResult}
 use Rattle.journal.specs.declared.replay.Mark.the-variants.{Ob}
 use Rattle.journal.specs.declared.step.Called.the-variants.{Observation}
 use Rattle.voter_slots.specs.Calls.{askedOf, isFormed, observationOf}
@@ -46,7 +46,7 @@ returns-2 c =
     let r = c .before .before .read-observation in
     let f = formed-is (r .result .formed) _ (r .ensures .0) in
     let a = c .before .later .ensures ∙ ap (λ (b : Bool). cond b (d .result .answer) BadRecord) f in
-    ap (λ (r : VoterSlotsResult). (r, s .out .now)) (c .refused2 .ensures ∙ ap refusedBy (ap numberOf a))
+    ap (λ (r : VoterSlotsResult). (r, s .out .now)) (c .refused2 .ensures ∙ ap refusedResult (ap numberOf a))
     ∙ refused-is (asking Ob (s .body .now)) (s .table .now) (s .out .now) (d .result .answer)
     (is-refused (s .table .now) (d .result .answer) (d .result .table) (d .ensures) (failed (c .before .before .before .before .before .before .accepted .ensures) (c .before .before .before .before .before .if2 .taken)))
     ∙ ap (λ (k : Mark). askedOf (asking k (s .body .now)) (s .table .now) (s .out .now)) (sym (fits (c .before .before .before .before .before .before .before .before)))

@@ -23,12 +23,12 @@ or-refuse-requires c κs = search needs
 or-refuse-requires-2 : tie.Need-or-refuse-requires-2
 or-refuse-requires-2 c κs = search needs
 
-judge-known-requires : tie.Need-judge-known-requires
-judge-known-requires c κs = search needs
+judge-known-request-requires : tie.Need-judge-known-request-requires
+judge-known-request-requires c κs = search needs
 
 returns : tie.Need-returns
 unfolding judgeBegin judgeRepeated beginCheck
-returns c = simp ((c .judge-known .ensures), (c .before .before .or-refuse .ensures), (c .before .or-refuse2 .ensures), (c .before .before .before .change-if .ensures), (c .before .before .before .before .is-later .ensures), (c .before .before .before .before .before .begin-check .ensures), (c .before .before .before .before .before .before .validate-request .ensures))
+returns c = simp ((c .judge-known-request .ensures), (c .before .before .or-refuse .ensures), (c .before .or-refuse2 .ensures), (c .before .before .before .change-if .ensures), (c .before .before .before .before .is-later .ensures), (c .before .before .before .before .before .begin-check .ensures), (c .before .before .before .before .before .before .validate-request .ensures))
 
 pub judge-begin-spec : {M : Type 1} → statement M
 judge-begin-spec =
@@ -40,5 +40,5 @@ judge-begin-spec =
     change-if-requires
     or-refuse-requires
     or-refuse-requires-2
-    judge-known-requires
+    judge-known-request-requires
     returns)

@@ -7,7 +7,7 @@ use Rattle.records.specs.declared.records.VoterSlotTable.{VoterSlotTable}
 use Rattle.journal.specs.Step.{answerOfCalled, madeBy}
 use Rattle.journal.specs.StepLaws.{unchanged}
 use Rattle.voter_slots.specs.declared.result.VoterSlotsResult.{VoterSlotsResult}
-use Rattle.voter_slots.specs.Export.{refusedBy, written}
+use Rattle.voter_slots.specs.Export.{refusedResult, written}
 use Rattle.voter_slots.specs.CallLaws.{change-accepted, settles, settles-not}
 use borrow.Author.Needs.{needs}
 use Rattle.voter_slots.proofs.call.finish.Statement.{statement}
@@ -28,7 +28,7 @@ returns-2 : tie.Need-returns-2
 returns-2 c =
     let s = c .before .before .before .before .before .before .before .before .before .args in
     let a = c .before .before .before .answer-of-called .ensures in
-    ap (λ (r : VoterSlotsResult). (r, s .out .now)) (c .refused .ensures ∙ ap refusedBy (ap numberOf a))
+    ap (λ (r : VoterSlotsResult). (r, s .out .now)) (c .refused .ensures ∙ ap refusedResult (ap numberOf a))
     ∙ settles-not (answerOfCalled (s .called)) (madeBy (s .table) (s .body .now) (s .called)) (s .out .now)
     (ap isAccepted (sym a) ∙ failed (c .before .before .accepted .ensures) (c .before .if2 .taken))
 

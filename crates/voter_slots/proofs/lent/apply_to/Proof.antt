@@ -38,22 +38,22 @@ returns c =
     ∙ (refusal-is (s .table) (ap isAccepted (sym (c .before .before .before .before .before .validate-table .ensures)) ∙ failed (c .before .before .before .before .accepted .ensures) (c .before .before .before .if1 .taken)) (m .result) (s .body .now) (only (c .before .before .before .before .before .before))
     ∙ ap (λ (k : Mark). askedAt (asking k (s .body .now)) (s .table)) (m .ensures)))
 
-judge-command-requires : tie.Need-judge-command-requires
-judge-command-requires c κs = (valid c, only (c .before .before .before))
+judge-body-requires : tie.Need-judge-body-requires
+judge-body-requires c κs = (valid c, only (c .before .before .before))
 
-carry-out-requires : tie.Need-carry-out-requires
-carry-out-requires c κs =
+carry-out-at-requires : tie.Need-carry-out-at-requires
+carry-out-at-requires c κs =
     let s = c .before .before .before .before .before .before .args in
     let m = c .before .before .before .before .command-of .result in
-    let j = c .judge-command in
+    let j = c .judge-body in
     (makes (s .table) m (s .body .now) (j .result) (j .ensures), (valid (c .before), made-valid (s .table) (valid (c .before)) m (s .body .now) (j .result) (j .ensures)))
 
 returns-2 : tie.Need-returns-2
 returns-2 c =
     let s = c .before .before .before .before .before .before .before .args in
     let m = c .before .before .before .before .before .command-of in
-    let j = c .before .judge-command in
-    c .carry-out .ensures
+    let j = c .before .judge-body in
+    c .carry-out-at .ensures
     ∙ (carried (s .table) (m .result) (s .body .now) (j .result) (valid (c .before .before)) (j .ensures) ∙ ap (λ (k : Mark). askedAt (asking k (s .body .now)) (s .table)) (m .ensures))
 
 command-of-requires : tie.Need-command-of-requires
@@ -82,6 +82,6 @@ apply-to-spec =
     refuse-command-requires
     stay-requires
     returns
-    judge-command-requires
-    carry-out-requires
+    judge-body-requires
+    carry-out-at-requires
     returns-2)

@@ -4,7 +4,7 @@ use Rattle.identity.specs.Answer.{isAccepted, numberOf}
 use Rattle.records.specs.ValidationLaws.{failed, held, is-accepted}
 use Rattle.records.specs.Validation.{validate}
 use Rattle.voter_slots.specs.declared.result.VoterSlotsResult.{VoterSlotsResult}
-use Rattle.voter_slots.specs.Export.{refusedBy}
+use Rattle.voter_slots.specs.Export.{refusedResult}
 use Rattle.voter_slots.specs.LentLaws.{unwritten}
 use borrow.Author.Needs.{needs}
 use Rattle.voter_slots.proofs.lent.write_lent.Statement.{statement}
@@ -14,7 +14,7 @@ returns : tie.Need-returns
 returns c =
     let s = c .before .before .before .before .before .args in
     let v = c .before .before .before .validate-table .ensures in
-    ap (λ (r : VoterSlotsResult). (r, s .out .now)) (c .refused .ensures ∙ ap refusedBy (ap numberOf v))
+    ap (λ (r : VoterSlotsResult). (r, s .out .now)) (c .refused .ensures ∙ ap refusedResult (ap numberOf v))
     ∙ unwritten (s .table) (s .out .now) (ap isAccepted (sym v) ∙ failed (c .before .before .accepted .ensures) (c .before .if1 .taken))
 
 write-table-requires : tie.Need-write-table-requires

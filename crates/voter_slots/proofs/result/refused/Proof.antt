@@ -1,12 +1,12 @@
 -- `voter_slots::result::refused` meets its contract. Assumes nothing.
 use mathlib.Core.Path.{ap}
-use Rattle.voter_slots.specs.Export.{refusedBy}
+use Rattle.voter_slots.specs.Export.{refusedResult}
 use borrow.Author.Needs.{needs}
 use Rattle.voter_slots.proofs.result.refused.Statement.{statement}
 use Rattle.voter_slots.proofs.result.refused.Tie as tie
 
 returns : tie.Need-returns
-returns c = ap refusedBy (c .number .ensures)
+returns c = ap refusedResult (c .number .ensures)
 
 number-requires : tie.Need-number-requires
 number-requires c κs = search needs

@@ -1,12 +1,12 @@
--- `voter_slots::call::judge_command` meets its contract. Assumes nothing.
+-- `voter_slots::call::judge_body` meets its contract. Assumes nothing.
 use mathlib.Core.Path.{sym, ap, _∙_}
 use Rattle.journal.specs.declared.replay.Mark.{Mark}
 use Rattle.journal.specs.Replay.{asking}
 use Rattle.journal.specs.Step.{commandVerdict}
 use Rattle.voter_slots.proofs.Marks.{other}
 use borrow.Author.Needs.{needs}
-use Rattle.voter_slots.proofs.call.judge_command.Statement.{statement}
-use Rattle.voter_slots.proofs.call.judge_command.Tie as tie
+use Rattle.voter_slots.proofs.call.judge_body.Statement.{statement}
+use Rattle.voter_slots.proofs.call.judge_body.Tie as tie
 
 returns : tie.Need-returns
 returns c =
@@ -47,8 +47,8 @@ enum-told-3 c = search needs
 judge-begin-body-requires : tie.Need-judge-begin-body-requires
 judge-begin-body-requires c κs = search needs
 
-pub judge-command-spec : {M : Type 1} → statement M
-judge-command-spec =
+pub judge-body-spec : {M : Type 1} → statement M
+judge-body-spec =
     tie.close
     (tie.spec
     enum-told

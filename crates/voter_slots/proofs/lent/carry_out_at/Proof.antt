@@ -1,4 +1,4 @@
--- `voter_slots::lent::carry_out` meets its contract. Assumes nothing.
+-- `voter_slots::lent::carry_out_at` meets its contract. Assumes nothing.
 use Prim.Native.Nat.{_≤_}
 use mathlib.Core.Path.{sym, ap, subst, _∙_}
 use Rattle.records.specs.ValidationLaws.{failed, held}
@@ -11,8 +11,8 @@ use Rattle.voter_slots.specs.Export.{resultOf}
 use Rattle.voter_slots.specs.Lent.{told}
 use Rattle.voter_slots.specs.LentLaws.{tells, tells-not, valid-count}
 use borrow.Author.Needs.{needs}
-use Rattle.voter_slots.proofs.lent.carry_out.Statement.{statement}
-use Rattle.voter_slots.proofs.lent.carry_out.Tie as tie
+use Rattle.voter_slots.proofs.lent.carry_out_at.Statement.{statement}
+use Rattle.voter_slots.proofs.lent.carry_out_at.Tie as tie
 
 is-change-requires : tie.Need-is-change-requires
 is-change-requires c κs = search needs
@@ -56,8 +56,8 @@ returns-3 c =
     let u = unchanged (s .table) (s .body .now) (s .called) (sym (c .before .before .before .before .before .is-change .ensures) ∙ c .before .before .before .before .if1 .left) in
     ap (λ (r : VoterSlotsResult). (r, s .table)) (c .result-of2 .ensures) ∙ tells (c .before .before .before .answer-of-called .result) (s .table) (held (c .before .before .accepted .ensures) (c .before .if2 .left)) ∙ (λ i. told (a i, u i))
 
-pub carry-out-spec : {M : Type 1} → statement M
-carry-out-spec =
+pub carry-out-at-spec : {M : Type 1} → statement M
+carry-out-at-spec =
     tie.close
     (tie.spec
     is-change-requires

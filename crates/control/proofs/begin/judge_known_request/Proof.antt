@@ -1,4 +1,4 @@
--- `control::begin::judge_known` meets its contract: the open request, or else the receipt that was found. Assumes nothing.
+-- `control::begin::judge_known_request` meets its contract: the open request, or else the receipt that was found. Assumes nothing.
 use mathlib.Core.Bool.{cond, _&&_, _||_}
 use mathlib.Core.Path.{ap, _∙_}
 use borrow.Author.Needs.{needs}
@@ -6,8 +6,8 @@ use Rattle.records.proofs.Held.{held-voter-slot-table}
 use Rattle.control.specs.BeginJudgeLaws.{known-judged}
 use Rattle.control.specs.Verdicts.{verdictOf}
 use Rattle.control.specs.Judgement.{Move, Verdict}
-use Rattle.control.proofs.begin.judge_known.Statement.{statement}
-use Rattle.control.proofs.begin.judge_known.Tie as tie
+use Rattle.control.proofs.begin.judge_known_request.Statement.{statement}
+use Rattle.control.proofs.begin.judge_known_request.Tie as tie
 
 same16-requires : tie.Need-same16-requires
 same16-requires c κs = search needs
@@ -35,8 +35,8 @@ returns c =
     ∙ (ap (λ (v : Verdict Move). cond is-known v (verdictOf (s .args .fresh))) (c .before .before .either .ensures)
     ∙ known-judged t nine (a .«request_id») (a .«request_digest») _ _ _ _ _ _ (c .before .before .before .before .before .before .before .before .same16 .ensures) (c .before .before .before .before .before .before .same32 .ensures) (c .before .before .before .before .before .find-receipt .ensures))
 
-pub judge-known-spec : {M : Type 1} → statement M
-judge-known-spec =
+pub judge-known-request-spec : {M : Type 1} → statement M
+judge-known-request-spec =
     tie.close
     (tie.spec
     same16-requires
