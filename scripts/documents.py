@@ -14,7 +14,7 @@ import os
 import re
 import sys
 
-PAGES = ['README.md'] + sorted(page for page in glob.glob('docs/*.md') if page != 'docs/01-scope.md')
+PAGES = ['README.md', 'fuzz/README.md'] + sorted(page for page in glob.glob('docs/*.md') + glob.glob('oracle/*.md') if page != 'docs/01-scope.md')
 LINE, PARAGRAPH = 100, 6
 ENDINGS = ('.antt', '.rt', '.rs', '.py', '.md', '.txt', '.log', '.lines', '.h', '.c', '.edit', '.svg', '.toml')
 # Files of the original, which are named as document 01 names them, and one that the kit writes.
@@ -79,13 +79,13 @@ def promises(page):
 
 
 def files(page):
-    """Each file that is named is there: from the root, from crates/, from docs/, or somewhere by its bare name."""
+    """Each file that is named is there: from the root, from crates/, from docs/, from the page's folder, or somewhere by its bare name."""
     for number, line in enumerate(read(page).split('\n'), 1):
         for name in quoted(line):
             named = re.fullmatch(r'[\w./-]+', name) and (name.endswith(ENDINGS) or re.match(r'(bin|scripts|docs|samples)/\w', name))
             if not named or name.startswith(('../', 'target/')) or 'NAME' in name or name in ELSEWHERE:
                 continue
-            if any(os.path.exists(os.path.join(folder, name)) for folder in ('.', 'crates', 'docs', 'scripts')):
+            if any(os.path.exists(os.path.join(folder, name)) for folder in ('.', 'crates', 'docs', 'scripts', os.path.dirname(page))):
                 continue
             if not glob.glob(f'crates/*/**/{name}', recursive=True) + glob.glob(f'oracle/**/{name}', recursive=True):
                 fault(page, number, f'{name} is not there')
