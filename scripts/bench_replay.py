@@ -1,10 +1,12 @@
 #!/usr/bin/env python3
-"""Times the replay program next to the original on the same logs, and shows its memory on a long one: bin/bench-replay runs it.
+"""Times the replay program next to the original on the same logs, and shows its memory on a long
+one: bin/bench-replay runs it.
 
     python3 scripts/bench_replay.py PROGRAM ORACLE [RUNS]
 
-The programs run in turns, from a file into /dev/null. Rates are by the median of the user time; the last column has the
-ratio by user and system time too. The log of a gigabyte comes through a pipe and is not stored.
+The programs run in turns, from a file into /dev/null. Rates are by the median of the user time; the
+last column has the ratio by user and system time too. The log of a gigabyte comes through a pipe
+and is not stored.
 """
 import os
 import statistics

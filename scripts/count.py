@@ -1,12 +1,16 @@
 #!/usr/bin/env python3
-"""Counts the instructions of each command, observation and retired test of the port, and says how many such calls a second a quarter of one core sustains.
+"""Counts the instructions of each command, observation and retired test of the port, and says how
+many such calls a second a quarter of one core sustains.
 
-Run it from the root of the repository, after the libraries and the oracle were built (oracle/README.md, `bench-control`):
+Run it from the root of the repository, after the libraries and the oracle were built
+(oracle/README.md, `bench-control`):
 
     python3 scripts/count.py target/control/support.so target/control/thin.so
 
-It runs `oracle once-control` under valgrind's callgrind, which counts what is done between the entry of a call and its return, copies by the C library included. CYCLES a second, a
-quarter of them, and PER_CYCLE instructions in each are what the last column assumes: one is a cautious floor, below what the timed calls reach (docs/PERFORMANCE.md).
+It runs `oracle once-control` under valgrind's callgrind, which counts what is done between the
+entry of a call and its return, copies by the C library included. CYCLES a second, a quarter of
+them, and PER_CYCLE instructions in each are what the last column assumes: one is a cautious floor,
+below what the timed calls reach (docs/PERFORMANCE.md).
 """
 import glob
 import os
@@ -18,7 +22,8 @@ import tempfile
 CALLS = ['x_begin', 'x_advance', 'x_marker', 'x_apply', 'x_observe', 'x_retired']
 CYCLES = 2.1e9
 PER_CYCLE = 1
-# The C library copies and clears by vectors: callgrind counts a repeated instruction once for each byte.
+# The C library copies and clears by vectors: callgrind counts a repeated instruction once for each
+# byte.
 COPIES = 'glibc.cpu.x86_rep_movsb_threshold=1000000000:glibc.cpu.x86_rep_stosb_threshold=1000000000'
 
 if len(sys.argv) != 3:

@@ -1,13 +1,17 @@
 #!/usr/bin/env python3
-"""Tests the documents against the tree: scripts/generated runs it in each run of bin/test. It takes less than a second.
+"""Tests the documents against the tree: scripts/generated runs it in each run of bin/test. It takes
+less than a second.
 
     python3 scripts/documents.py
 
-- docs/REVIEW.md: each definition that a row names stands in the file that the row names. A row is | rule | files | definitions |; where it has
-  several files, the definitions of each are set apart by a semicolon. A file without a folder is in the folder of the file before it.
+- docs/REVIEW.md: each definition that a row names stands in the file that the row names. A row has
+  the rule, the files and the definitions; where it has several files, the definitions of each are
+  set apart by a semicolon. A file without a folder is in the folder of the file before it. Tables
+  of two columns are not tested.
 - docs/PROMISES.md: each name in backquotes stands somewhere in the crates.
 - every page: each file that it names in backquotes is there.
-- every page: a line of prose has at most 100 characters and a paragraph at most six lines. Tables, code and headings are free.
+- every page: a line of prose has at most 100 characters and a paragraph at most six lines. Tables,
+  code and headings are free.
 """
 import glob
 import os
@@ -79,7 +83,8 @@ def promises(page):
 
 
 def files(page):
-    """Each file that is named is there: from the root, from crates/, from docs/, from the page's folder, or somewhere by its bare name."""
+    """Each file that is named is there: from the root, from crates/, from docs/, from the page's
+    folder, or somewhere by its bare name."""
     for number, line in enumerate(read(page).split('\n'), 1):
         for name in quoted(line):
             named = re.fullmatch(r'[\w./-]+', name) and (name.endswith(ENDINGS) or re.match(r'(bin|scripts|docs|samples)/\w', name))

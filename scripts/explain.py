@@ -4,8 +4,9 @@
     python3 scripts/explain.py PROGRAM [FILE]             as `bin/replay --explain [FILE]` does
     python3 scripts/explain.py --phases PROGRAM [FILE]    the phases alone, as `oracle phases` prints them
 
-The answers and revisions are the program's. The records are read here, and the phase follows from the answers: a table
-carries its own, and a record that raises the revision has one phase that it can lead to. docs/REPLAY.md has the format.
+The answers and revisions are the program's. The records are read here, and the phase follows from
+the answers: a table carries its own, and a record that raises the revision has one phase that it
+can lead to. docs/REPLAY.md has the format.
 """
 import struct
 import subprocess
@@ -61,7 +62,8 @@ class Fields:
 
 
 def records(log):
-    """The records of a log: mark, body, and how the log ends there, if it does (then the body is None)."""
+    """The records of a log: mark, body, and how the log ends there, if it does (then the body is
+    None)."""
     at = 0
     while at < len(log):
         mark = log[at:at + 2]
@@ -252,7 +254,8 @@ def phase_after(phase, mark, body, answer, raised):
 
 
 def explained(program, log):
-    """Each record: number, mark as printed, words, answer, revision before and after it, phase after it."""
+    """Each record: number, mark as printed, words, answer, revision before and after it, phase
+    after it."""
     phase, before = '-', 0
     given = answers(program, log)
     for number, (mark, body, ending) in enumerate(records(log), 1):

@@ -6,7 +6,8 @@
  *                half: a write takes half of its bytes, and the process is killed;
  *                short: a read or write takes half of its bytes;
  *                or a number: the call fails with that errno
- *   FAULT_TRACE  a file that gets a line for each call: name, path or descriptor, and what was written or the new name
+ *   FAULT_TRACE  a file that gets a line for each call: name, path or descriptor, and what was
+ *                written or the new name
  */
 #define _GNU_SOURCE
 #include <errno.h>

@@ -1,9 +1,11 @@
 #!/usr/bin/env python3
-"""Shows that bin/faults can fail: wrong forms of the example service, each of which it must find. `bin/faults --wrong` runs it.
+"""Shows that bin/faults can fail: wrong forms of the example service, each of which it must find.
+`bin/faults --wrong` runs it.
 
     python3 scripts/faults_wrong.py SHIM FOLDER
 
-Each form is the example with some lines changed, built in a copy of bindings/rust. Printed is which fault finds it first.
+Each form is the example with some lines changed, built in a copy of bindings/rust. Printed is which
+fault finds it first.
 """
 import os
 import shutil

@@ -1,7 +1,14 @@
-# python3 scripts/gen_judged.py N K CRATE FIRST > crates/CRATE/proofs/JudgedN.antt (scripts/thin.py runs it for each): the law of
-#   let v = judged(*t, ..); match route(v) { 1 => { *t = made1(*t, p); } .. N => { *t = madeN(*t, p); } _ => {} } answer_of(v)
-# where the numbers start at FIRST, with K parameters after the table. judged takes all of them, and may borrow slices; the makers take the last, p, which is plain; route takes the verdict, and gives a u64;
-# answer_of takes the verdict
+# python3 scripts/gen_judged.py N K CRATE FIRST > crates/CRATE/proofs/JudgedN.antt
+#
+# (scripts/thin.py runs it for each): the law of
+#
+#   let v = judged(*t, ..);
+#   match route(v) { 1 => { *t = made1(*t, p); } .. N => { *t = madeN(*t, p); } _ => {} }
+#   answer_of(v)
+#
+# where the numbers start at FIRST, with K parameters after the table. `judged` takes all of them,
+# and may borrow slices; the makers take the last, p, which is plain; `route` takes the verdict and
+# gives a u64; `answer_of` takes the verdict.
 import sys
 N=int(sys.argv[1]); k=int(sys.argv[2]); crate=sys.argv[3]
 first=int(sys.argv[4])

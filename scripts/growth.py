@@ -1,14 +1,21 @@
 #!/usr/bin/env python3
-"""Measures how the cost of a call grows with the slots and the names of a table, and that of a replay with its log: bin/growth runs it.
+"""Measures how the cost of a call grows with the slots and the names of a table, and that of a
+replay with its log: bin/growth runs it.
 
-    python3 scripts/growth.py count SUPPORT BYTES LIBRARY...   instructions of each call, under valgrind's callgrind (about a minute)
-    python3 scripts/growth.py time SUPPORT BYTES LIBRARY...    nanoseconds of each call, all subjects in one run (under a minute)
-    python3 scripts/growth.py logs PROGRAM                     seconds and memory on logs of 10^3 to 10^7 records (about five minutes)
-    python3 scripts/growth.py profile                          the functions in which the instructions counted last were spent
-    python3 scripts/growth.py draw                             docs/growth-*.svg, and the tables of docs/GROWTH.md
+    python3 scripts/growth.py count SUPPORT BYTES LIBRARY...
+        instructions of each call, under valgrind's callgrind (about a minute)
+    python3 scripts/growth.py time SUPPORT BYTES LIBRARY...
+        nanoseconds of each call, all subjects in one run (under a minute)
+    python3 scripts/growth.py logs PROGRAM
+        seconds and memory on logs of 10^3 to 10^7 records (about five minutes)
+    python3 scripts/growth.py profile
+        the functions in which the instructions counted last were spent
+    python3 scripts/growth.py draw
+        docs/growth-*.svg, and the tables of docs/GROWTH.md
 
-Run it from the root of the repository, after the oracle was built. What is measured is kept in target/growth. An instruction count
-includes the C library's copies, made by vectors (see scripts/count.py), and does not depend on what else the machine does.
+Run it from the root of the repository, after the oracle was built. What is measured is kept in
+target/growth. An instruction count includes the C library's copies, made by vectors (see
+scripts/count.py), and does not depend on what else the machine does.
 """
 import collections
 import glob

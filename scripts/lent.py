@@ -1,12 +1,16 @@
 #!/usr/bin/env python3
-"""Writes the proofs of the exports on a table that is lent to be changed: crates/voter_slots/proofs/ThinK.antt, the law of such a call with K parameters after the table,
-and crates/voter_slots/proofs/table/NAME/Proof.antt for each of CALLS. Run it from the root of the repository: python3 scripts/lent.py. Such an export is
+"""Writes the proofs of the exports on a table that is lent to be changed:
+crates/voter_slots/proofs/ThinK.antt, the law of such a call with K parameters after the table, and
+crates/voter_slots/proofs/table/NAME/Proof.antt for each of CALLS. Run it from the root of the
+repository: python3 scripts/lent.py. Such an export is
 
     let after = CORE(*table, ..);
     *table = after.table;
     after.result
 
-with parameters after the table that are a number, if any, and then one slice of bytes that is lent to be read. What differs from call to call stands in CALLS: the core, the definition of both, and the number's type.
+with parameters after the table that are a number, if any, and then one slice of bytes that is lent
+to be read. What differs from call to call stands in CALLS: the core, the definition of both, and
+the number's type.
 """
 import subprocess
 
@@ -96,7 +100,9 @@ module _ {{M : Type 1}} (𝓤 : URA M) (H : Heap 𝓤) (A : Atoms 𝓤) (W : Giv
 
 
 def law(k):
-    """The law with k parameters after the table. The locals are the result, the reference, the parameters, the outcome and the copy of the table; two entries of the context each, the last local first."""
+    """The law with k parameters after the table. The locals are the result, the reference, the
+    parameters, the outcome and the copy of the table; two entries of the context each, the last
+    local first."""
     n, o, t = k + 4, k + 2, k + 3
     at = lambda i: 2 * (n - 1 - i)
     ps = [i + 2 for i in range(k)]

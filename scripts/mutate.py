@@ -1,26 +1,36 @@
 #!/usr/bin/env python3
-"""Changes the code in one place at a time and has the prover judge each change: a mutant that is still proved is let through.
+"""Changes the code in one place at a time and has the prover judge each change: a mutant that is
+still proved is let through.
 
 Run it from the root of the repository, by bin/mutate:
 
-    bin/mutate [COUNT] [SEED] [CRATE..]     COUNT mutants that compile (240), drawn by SEED (1), in the crates named or in all that have code
-    bin/mutate --list [COUNT] [SEED] ..     what would be tried first, and how many there are to draw from; nothing is checked
+    bin/mutate [COUNT] [SEED] [CRATE..]     COUNT mutants that compile (240), drawn by SEED (1), in
+                                            the crates named, or in the ten of CRATES below
+    bin/mutate --list [COUNT] [SEED] ..     what would be tried first, and how many there are to
+                                            draw from; nothing is checked
 
 What is changed: the bodies of functions in crates/*/src; no contract, constant, import or comment.
-  operators   < <= > >= == !=, + -, += -=, * / %, && ||, & |, << >>; a ! is dropped
-  numbers     n + 1, n - 1, 0 and 1; a byte; a byte of a byte string; true and false
-  names       a variable for another of its type in scope, a constant for one of its type and another value, a field for one of its type
-              in its struct, a variant of an enum for one that holds the same, a called function for one with the same signature
 
-How it is judged: a function's body matters to the proof of that function alone, since callers use its contract. So mutants of several
-functions of a crate are checked together, by `rt dev`, over what a first check of the unchanged crate kept. Each function then has its
-own line in the verdict. A mutant counts as refused where its function's own proof has an error of its own; one that is not proved only
-because it calls another changed function is checked again without that one. A mutant that the compiler refuses is counted, and another
-one of that function takes its place. All is done on a copy in target/mutate; the crates must be proved before (`rt check`).
+    operators   < <= > >= == !=, + -, += -=, * / %, && ||, & |, << >>; a ! is dropped
+    numbers     n + 1, n - 1, 0 and 1; a byte; a byte of a byte string; true and false
+    names       a variable for another of its type in scope, a constant for one of its type and
+                another value, a field for one of its type in its struct, a variant of an enum for
+                one that holds the same, a called function for one with the same signature
 
-Mutants that are let through are checked once more, those of a crate together and from nothing, by `rt check`. Then each is built into the
-programs replay, cases and call_cases, and what they write is held to what the gate holds it to (their files 'stdout', and scripts/replays.py).
-The results are target/mutate/CRATE.tsv, one line a mutant, and the tables that are printed at the end; target/mutate/log has what the prover said.
+How it is judged: a function's body matters to the proof of that function alone, since callers use
+its contract. So mutants of several functions of a crate are checked together, by `rt dev`, over
+what a first check of the unchanged crate kept. Each function then has its own line in the verdict.
+
+A mutant counts as refused where its function's own proof has an error of its own; one that is not
+proved only because it calls another changed function is checked again without that one. A mutant
+that the compiler refuses is counted, and another one of that function takes its place. All is done
+on a copy in target/mutate; the crates must be proved before (`rt check`).
+
+Mutants that are let through are checked once more, those of a crate together and from nothing, by
+`rt check`. Then each is built into the programs replay, cases and call_cases, and what they write
+is held to what the gate holds it to (their files 'stdout', and scripts/replays.py). The results are
+target/mutate/CRATE.tsv, one line a mutant, and the tables that are printed at the end;
+target/mutate/log has what the prover said.
 """
 import os
 import random
@@ -82,7 +92,8 @@ class Function:
 
 
 class Source:
-    """All that the crates declare: functions, structs, enums, constants and types, by their last name."""
+    """All that the crates declare: functions, structs, enums, constants and types, by their last
+    name."""
 
     def __init__(self, crates):
         self.structs, self.enums, self.aliases, self.constants, self.values = {}, {}, {}, {}, {}
@@ -133,7 +144,8 @@ class Source:
                         if tokens[k].text == 'as':
                             scope[tokens[k + 1].text] = tokens[k - 1].text
                             scope.pop(tokens[k - 1].text, None)
-                    # a module that is imported whole: what it declares is added when all modules are read
+                    # a module that is imported whole: what it declares is added when all modules
+                    # are read
                     if tokens[end - 1].text == '*':
                         names = [t.text for t in tokens[i + 1:end] if t.kind == 'name']
                         self.whole.append((scope, '::'.join([crate] + names[1:] if names[0] == 'crate' else names)))
@@ -243,7 +255,8 @@ class Body:
         self.walk()
 
     def masks(self):
-        """Which tokens stand in patterns and types; and which braces are those of a struct's literal."""
+        """Which tokens stand in patterns and types; and which braces are those of a struct's
+        literal."""
         t, self.pattern, self.typed, self.literal, self.arm = self.t, set(), set(), set(), {}
         for i in range(self.first, self.end):
             word = t[i].text
@@ -509,7 +522,8 @@ class Mutant:
 
 
 def drawn(source, function, seed):
-    """All mutants of a function in the order in which they are tried: first a kind, then a place, then what stands there instead."""
+    """All mutants of a function in the order in which they are tried: first a kind, then a place,
+    then what stands there instead."""
     pick = random.Random(f'{seed}:{function.full}')
     groups = {}
     for kind, i, new in Body(source, function).changes:
@@ -528,7 +542,8 @@ def drawn(source, function, seed):
 
 
 def reaches(functions):
-    """For each function of a crate the functions of the crate that it calls, directly or through others; by name, so rather too many."""
+    """For each function of a crate the functions of the crate that it calls, directly or through
+    others; by name, so rather too many."""
     by_name = {}
     for f in functions:
         by_name.setdefault(f.name, []).append(f.full)
@@ -541,7 +556,8 @@ def reaches(functions):
 
 
 def quotas(source, count, seed):
-    """The functions of each crate that are changed, and how often: by the number of functions of the crate that have a place to change."""
+    """The functions of each crate that are changed, and how often: by the number of functions of
+    the crate that have a place to change."""
     able = {}
     for f in source.functions:
         if f.crate in CRATES:
@@ -628,7 +644,8 @@ class Room:
         return said, run.returncode, time.time() - began
 
     def prime(self, crate):
-        """Checks the unchanged crate, and keeps what was checked for later runs, until the crate changes."""
+        """Checks the unchanged crate, and keeps what was checked for later runs, until the crate
+        changes."""
         kept, used = f'{ROOM}/target/kept/{crate}', f'{ROOM}/target/inc/{crate}'
         stamp = read(f'target/stamp/{crate}')
         if os.path.exists(f'{kept}.stamp') and read(f'{kept}.stamp') == stamp:
@@ -665,12 +682,14 @@ def originals(source, mutants):
     return {m.f.path: source.texts[m.f.path][0] for m in mutants}
 
 
-# What the prover says where a proof names what the changed code does not have: refused for its shape, and not for a fact.
+# What the prover says where a proof names what the changed code does not have: refused for its
+# shape, and not for a fact.
 SHAPE = re.compile(r'has no (field )?`|this pattern needs')
 
 
 def own_errors(said, f):
-    """What the prover said of a function's own proof; what only waits for another declaration is left out."""
+    """What the prover said of a function's own proof; what only waits for another declaration is
+    left out."""
     place = '/'.join(['proofs'] + f.full.split('::')[1:]) + '/'
     found, mine = [], False
     for line in said.split('\n'):
@@ -730,8 +749,9 @@ def refused_by_compiler(source, said, mutants):
 
 
 def try_batch(room, source, crate, row, label, report):
-    """Checks the mutants of a batch: how many checks it took, and how long. One that the compiler refuses makes room for the next of its
-    function; one that is not proved only because it calls another changed function is checked again without that one."""
+    """Checks the mutants of a batch: how many checks it took, and how long. One that the compiler
+    refuses makes room for the next of its function; one that is not proved only because it calls
+    another changed function is checked again without that one."""
     rest = {f.full: order for f, order in row}
     current, waiting = [order.pop(0) for _, order in row if order], []
     turn, checks, spent = 0, 0, 0
@@ -795,7 +815,8 @@ def run_crate(room, source, crate, plan):
 
 
 def rename(room, source, crate, mutants):
-    """Where another function is called and the proof only lacks its name: the same again, with that name in the proof."""
+    """Where another function is called and the proof only lacks its name: the same again, with that
+    name in the proof."""
     while mutants:
         row = list({m.f.full: m for m in reversed(mutants)}.values())
         mutants = [m for m in mutants if m not in row]
@@ -818,7 +839,8 @@ def rename(room, source, crate, mutants):
 
 
 def confirm(room, source, crate, through):
-    """Those that were let through, together and from nothing: one mutant of each function at a time. Then the crate is as it was."""
+    """Those that were let through, together and from nothing: one mutant of each function at a
+    time. Then the crate is as it was."""
     while through:
         row = list({m.f.full: m for m in reversed(through)}.values())
         through = [m for m in through if m not in row]
@@ -832,7 +854,8 @@ def confirm(room, source, crate, through):
 
 
 def caught(room, source, m):
-    """Which run of the gate shows that a program is wrong that was let through: the programs' stored output, or the stored logs."""
+    """Which run of the gate shows that a program is wrong that was let through: the programs'
+    stored output, or the stored logs."""
     room.write(applied(source, [m]))
     try:
         for name in ('replay', 'cases', 'call_cases'):

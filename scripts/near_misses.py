@@ -1,14 +1,18 @@
 #!/usr/bin/env python3
-"""Writes the tables of docs/NEAR-MISSES.md from the edits: crates/CRATE/must-fail/*.edit and near-misses/CRATE/*.edit.
+"""Writes the tables of docs/NEAR-MISSES.md from the edits: crates/CRATE/must-fail/*.edit and
+near-misses/CRATE/*.edit.
 
-Run it from the root of the repository, after an edit was added, changed or moved. It takes less than a second:
+Run it from the root of the repository, after an edit was added, changed or moved. It takes less
+than a second:
 
     python3 scripts/near_misses.py
 
-An edit file has one line of text, which says what the edit shows, and then `file:`, `old:` and `new:` lines. The text becomes a row of the
-table that stands between `<!-- edits: CRATE -->` and `<!-- end -->`; what stands outside of these marks is written by hand. It is an error
-where an edit has no text or more than one line of it, where its `old:` text does not stand exactly once in the file that it names (such an
-edit would try nothing), where two edits of a crate have one name, where an edit has no table, and where a table has no edits.
+An edit file has one line of text, which says what the edit shows, and then `file:`, `old:` and
+`new:` lines. The text becomes a row of the table that stands between `<!-- edits: CRATE -->` and
+`<!-- end -->`; what stands outside of these marks is written by hand. It is an error where an edit
+has no text or more than one line of it, where its `old:` text does not stand exactly once in the
+file that it names (such an edit would try nothing), where two edits of a crate have one name, where
+an edit has no table, and where a table has no edits.
 """
 import glob
 import os
@@ -25,7 +29,8 @@ def fail(message):
 
 
 def apply_edit(path, crate, pairs):
-    """Looks that the edit applies, as `rt must-fail` applies it: one replacement after the other, each of a text that stands once."""
+    """Looks that the edit applies, as `rt must-fail` applies it: one replacement after the other,
+    each of a text that stands once."""
     texts = {}
     for name, old, new in pairs:
         if name not in texts:
@@ -41,7 +46,8 @@ def apply_edit(path, crate, pairs):
 
 
 def read_edit(path, crate):
-    """What the edit shows, and what it changes: the code, a contract or a definition, and the file."""
+    """What the edit shows, and what it changes: the code, a contract or a definition, and the
+    file."""
     text, name, old, pairs = [], '', '', []
     with open(path) as file:
         for line in file.read().split('\n'):
@@ -64,7 +70,8 @@ def read_edit(path, crate):
         if name.startswith('specs/'):
             kinds.add('definition')
         elif not old.startswith('ghost use'):
-            # A contract that is repeated in the new text, with code after it, is an edit of the code.
+            # A contract that is repeated in the new text, with code after it, is an edit of the
+            # code.
             kinds.add('contract' if 'ensures {' in old and not new.startswith(old) else 'code')
     if len(kinds) != 1:
         fail(f'{path}: it changes {" and ".join(sorted(kinds)) or "nothing but imports"}, and not one kind of thing')
@@ -72,7 +79,8 @@ def read_edit(path, crate):
 
 
 def collect():
-    """The rows of each table, those of the gate first, each by name; and how many edits there are of which kind."""
+    """The rows of each table, those of the gate first, each by name; and how many edits there are
+    of which kind."""
     tables, names, counts = {}, set(), {'gate': 0, 'near-misses': 0, 'near-rows': 0}
     paths = sorted(glob.glob('crates/*/must-fail/*.edit')) + sorted(glob.glob('near-misses/*/*.edit'))
     for path in paths:

@@ -1,8 +1,11 @@
 #!/usr/bin/env python3
-"""Names the places before a need of a proof, with the steps back: scripts/places.py CRATE MODULE/FUNCTION:NEED ..
+"""Names the places before a need of a proof, with the steps back: scripts/places.py CRATE
+MODULE/FUNCTION:NEED ..
 
-A need is named as in the proof file (`returns`, `returns-2`, `callee-requires`). For each it prints how many `.before` lead to which place (`After-callee`, `Then1`, `Start`).
-It adds probes to the proof files, checks, reads the refusals and puts the files back; what else is refused is printed too. Run it from the repository's root.
+A need is named as in the proof file (`returns`, `returns-2`, `callee-requires`). For each it prints
+how many `.before` lead to which place (`After-callee`, `Then1`, `Start`). It adds probes to the
+proof files, checks, reads the refusals and puts the files back; what else is refused is printed
+too. Run it from the repository's root.
 """
 import os
 import re

@@ -1,8 +1,9 @@
 #!/usr/bin/env python3
 """Draws panels of lines as SVG, with the standard library alone; scripts/growth.py uses it.
 
-A panel has a title, an x and a y scale with their ticks and units, and a line for each series. One legend stands above all panels.
-A picture paints its own background. It follows the reader's light or dark mode where the viewer tells it, and is light elsewhere.
+A panel has a title, an x and a y scale with their ticks and units, and a line for each series. One
+legend stands above all panels. A picture paints its own background. It follows the reader's light
+or dark mode where the viewer tells it, and is light elsewhere.
 """
 import math
 from xml.sax.saxutils import escape
@@ -29,7 +30,8 @@ STYLE = (style('#ffffff', '#1f2328', '#d1d9e0', LIGHT)
 
 
 class Scale:
-    """Where a value stands between two ends, and the ticks that are shown: linear, or by powers of ten."""
+    """Where a value stands between two ends, and the ticks that are shown: linear, or by powers of
+    ten."""
 
     def __init__(self, label, ticks, shown, low=None, high=None, log=False):
         self.label, self.ticks, self.shown, self.log = label, ticks, shown, log

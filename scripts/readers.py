@@ -1,11 +1,16 @@
 #!/usr/bin/env python3
-"""Writes the regular proofs of the readers (crates/reader/proofs/{reader,decode}, crates/layout/proofs/{get,reading} and crates/journal/proofs/bodies).
+"""Writes the regular proofs of the readers (crates/reader/proofs/{reader,decode},
+crates/layout/proofs/{get,reading} and crates/journal/proofs/bodies).
 
-Records (scripts/fields.py) are read field by field: the places, values and sizes are named by the field, and after each a lemma says what was read so far and
-up to where; every need is then a line or two. Optional parts, the places of slots and members, text, and arrays of bytes have a template each, and so have
-the refusals that are passed on. The needs and their order are those that `rt dev reader` prints for a function that has no proof file: the script takes them,
-and nothing else, from such a file (scripts/skeletons.py) or from one that it filled before, and writes all the rest. A file or a need that is not there ends it.
-Run it after a change of a reader or of the format: scripts/readers.py [NAME..]
+Records (scripts/fields.py) are read field by field: the places, values and sizes are named by the
+field, and after each a lemma says what was read so far and up to where; every need is then a line
+or two. Optional parts, the places of slots and members, text, and arrays of bytes have a template
+each, and so have the refusals that are passed on.
+
+The needs and their order are those that `rt dev reader` prints for a function that has no proof
+file: the script takes them, and nothing else, from such a file (scripts/skeletons.py) or from one
+that it filled before, and writes all the rest. A file or a need that is not there ends it. Run it
+after a change of a reader or of the format: scripts/readers.py [NAME..]
 """
 import os
 import re
@@ -18,7 +23,8 @@ ROOT = os.path.dirname(os.path.dirname(os.path.abspath(__file__)))
 
 
 def proofs_of(module):
-    """Where the proofs of a module are: the readers of plain bytes, and what a reader answers, stand in layout; those of a replay's bodies in journal."""
+    """Where the proofs of a module are: the readers of plain bytes, and what a reader answers,
+    stand in layout; those of a replay's bodies in journal."""
     return os.path.join(ROOT, "crates", crate_of(module), "proofs", module)
 
 
@@ -27,7 +33,8 @@ def crate_of(module):
 
 
 class Skeleton:
-    """The needs of a function, in order, as the checker prints them. One that is not answered is left to `search needs`."""
+    """The needs of a function, in order, as the checker prints them. One that is not answered is
+    left to `search needs`."""
 
     def __init__(self, module, name):
         self.module, self.name = module, name
@@ -82,7 +89,8 @@ class Skeleton:
         print("wrote", self.name)
 
 
-# Kinds whose value comes with the answer: its type, the definition of the answer, and the name of the call that passes a refusal on (None: `why`)
+# Kinds whose value comes with the answer: its type, the definition of the answer, and the name of
+# the call that passes a refusal on (None: `why`)
 ENUM = {
     "u64": ("ℕ", "u64Read", "U64"),
     "u16": ("ℕ", "u16Read", "U16"),
@@ -139,7 +147,8 @@ COUNTED = ("members", "slots")
 # Groups whose codec is no record of its own, but the fields one after the other
 GROUPS = ("tableFront",)
 
-# Readers: module, record (scripts/fields.py has its fields), blank or (for an enum) the answer's definition, constructor that is called
+# Readers: module, record (scripts/fields.py has its fields), blank or (for an enum) the answer's
+# definition, constructor that is called
 READERS = [
     ("reader", "identity", "=identityRead", None),
     ("reader", "log_id", "=logIdRead", None),
@@ -227,7 +236,8 @@ def abbrev(name, kind, body):
 
 
 class Names:
-    """The n-th use of a name in a function: `x`, then `x2` for a field of a record, and `x`, then `x-2` for a need."""
+    """The n-th use of a name in a function: `x`, then `x2` for a field of a record, and `x`, then
+    `x-2` for a need."""
 
     def __init__(self):
         self.uses = {}
@@ -337,7 +347,8 @@ class Reader:
         return f"size-to-{self.field(k)} {par(c)}" if k else f"{self.field(0)}-size {par(c)}"
 
     def source(self, i, place):
-        """What the call's contract says, of the bytes as the format has them; place is that after the call."""
+        """What the call's contract says, of the bytes as the format has them; place is that after
+        the call."""
         ensures = f"{place} .{self.calls[i][0]} .ensures"
         if i == 0:
             return f" ({ensures}) "
@@ -379,7 +390,8 @@ class Reader:
         return "why", "whyOf"
 
     def refusal(self, k):
-        """How the refusal of field k is passed on: the call that takes it out, its definition, and the last call before the return."""
+        """How the refusal of field k is passed on: the call that takes it out, its definition, and
+        the last call before the return."""
         names = Names()
         for i in range(k + 1):
             w = names.next(kebab(self.why(i)[0]))[0]

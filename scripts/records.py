@@ -1,5 +1,6 @@
 #!/usr/bin/env python3
-"""Writes what each struct of crates/records/src/records.rt needs: equality, a blank, a test for it, and what its values hold.
+"""Writes what each struct of crates/records/src/records.rt needs: equality, a blank, a test for it,
+and what its values hold.
 
 Run it from the root of the repository, after a change to a struct:
 
@@ -56,7 +57,8 @@ HOME.update({name: 'records' for name, _ in FROM_HERE})
 
 
 class Field:
-    """A field: its name, and its kind: number (of so many bits), bool, bytes (so many), nine (of a struct) or struct."""
+    """A field: its name, and its kind: number (of so many bits), bool, bytes (so many), nine (of a
+    struct) or struct."""
 
     def __init__(self, name, written, declared):
         written = ALIASES.get(written, written)
@@ -141,7 +143,8 @@ def clause(left, right):
 
 
 def record(entries, before=''):
-    """A record with these entries, on its own lines where it is too long for one; `before` stands before it."""
+    """A record with these entries, on its own lines where it is too long for one; `before` stands
+    before it."""
     line = '    %srecord { %s }' % (before, '; '.join(entries))
     if len(line) <= MOST:
         return line
@@ -149,7 +152,8 @@ def record(entries, before=''):
 
 
 def listed(before, entries):
-    """What stands before, and the entries in brackets, on their own lines where they are too long for one."""
+    """What stands before, and the entries in brackets, on their own lines where they are too long
+    for one."""
     line = '    %s (%s)' % (before, ', '.join(entries))
     if len(line) <= MOST:
         return line
@@ -371,7 +375,8 @@ unfolding allTrue same{0}
 
 
 def is_apart(fields):
-    """Whether the first field is tested by itself: three arrays stand in front. LLVM would make one test of them, of 80 bytes, and take it apart byte by byte."""
+    """Whether the first field is tested by itself: three arrays stand in front. LLVM would make one
+    test of them, of 80 bytes, and take it apart byte by byte."""
     return [field.kind for field in fields[:3]] == ['bytes'] * 3
 
 
@@ -469,7 +474,8 @@ def same_of(field):
 
 
 def write_proof(module, function, how, uses, needs, loop=False):
-    """A proof file: the needs, each a name and the lines of its proof, and the theorem that takes them in order."""
+    """A proof file: the needs, each a name and the lines of its proof, and the theorem that takes
+    them in order."""
     head = '-- `records::%s::%s` meets its contract: %s. %s Assumes nothing.\n' % (module, function, how, BY)
     head += ''.join('use %s\n' % use for use in uses)
     head += 'use Rattle.records.proofs.{0}.{1}.Statement.{{statement}}\nuse Rattle.records.proofs.{0}.{1}.Tie as tie\n'.format(module, function)
@@ -530,8 +536,9 @@ def equality_proofs():
         head = 'unfolding allTrue same%s\n' % name
         uses = ['Rattle.records.specs.Equality.{allTrue, same%s}' % name]
         if calls:
-            # from the return back to each call: two steps for each comparison, and none where an array is lent; then seven for a call with
-            # two lent arrays and three for one with two copied structs; one more to a test by itself
+            # from the return back to each call: two steps for each comparison, and none where an
+            # array is lent; then seven for a call with two lent arrays and three for one with two
+            # copied structs; one more to a test by itself
             lends = any(field.kind == 'bytes' for field in fields)
             lets, at, steps = '', 'c', 0 if lends else 2 * (len(fields) - len(calls))
             told = []
@@ -548,7 +555,8 @@ def equality_proofs():
                 told[0] = 'held (%s) (e .if1 .left)' % told[0]
             returns = head + '%s c =\n%s%s' % (answer, lets, listed('simp', told))
             if apart:
-                # more calls than `simp` takes: the path from the code to the definition, field by field
+                # more calls than `simp` takes: the path from the code to the definition, field by
+                # field
                 lets += '    let a = c0%s .args .t1 in\n    let b = c0%s .args .t2 in\n' % ((' .before' * 7,) * 2)
                 told[0] = 'sym (%s)' % told[0]
                 returns = head + '%s c =\n%s    λ i.%s' % (answer, lets, along([
@@ -777,7 +785,8 @@ pub fn is_blank_{0}s(x: [{1}; {3}]) -> bool
 
 
 def zero_path(field, call):
-    """The test of a field along the path from the code to the definition, and the lines that say why."""
+    """The test of a field along the path from the code to the definition, and the lines that say
+    why."""
     x = field.of('x')
     if field.kind == 'number':
         return 'eqb %s 0' % x, ''
@@ -835,8 +844,8 @@ def zero_proofs():
         uses += APART if apart else []
         uses += ['Rattle.records.specs.ZeroLaws.{%s}' % ', '.join(laws)] * bool(laws)
         if asked:
-            # from the return back to each call: a step for each comparison, unless a field was lent; four for a lent field, two for a copied one;
-            # one more to a test by itself
+            # from the return back to each call: a step for each comparison, unless a field was
+            # lent; four for a lent field, two for a copied one; one more to a test by itself
             lets, at, steps, calls = '', 'c', 0 if 'bytes' in kinds else len(fields) - len(asked), []
             for i in range(len(asked) - 1, -1, -1):
                 if apart and i == 0:

@@ -3,9 +3,9 @@
 
     python3 scripts/replays.py PROGRAM [ORACLE]
 
-The expected text is the original's, samples/NAME.lines. That of a log that is cut short follows from it: the lines of the
-whole records, and 33 for the one that is cut. With ORACLE, the original's program, the phases that scripts/explain.py
-prints are held to the original's too.
+The expected text is the original's, samples/NAME.lines. That of a log that is cut short follows
+from it: the lines of the whole records, and 33 for the one that is cut. With ORACLE, the original's
+program, the phases that scripts/explain.py prints are held to the original's too.
 """
 import glob
 import os
@@ -60,7 +60,8 @@ def from_files(program, logs):
 
 
 def after_cut(log, lines, size):
-    """The text of the first so many bytes of a log: the lines of the whole records, then 33 for a record that is cut."""
+    """The text of the first so many bytes of a log: the lines of the whole records, then 33 for a
+    record that is cut."""
     count, at = 0, 0
     for mark, body, _ in explain.records(log):
         end = at + 4 + len(body) if body is not None else len(log)
@@ -77,7 +78,8 @@ def after_cut(log, lines, size):
 
 
 def places(log):
-    """Where a log is cut: everywhere if it is small, else in the head, the middle and the end of each record."""
+    """Where a log is cut: everywhere if it is small, else in the head, the middle and the end of
+    each record."""
     if len(log) <= SMALL:
         return range(len(log) + 1)
     some, at = [], 0
@@ -129,7 +131,8 @@ def by_hand(program, logs):
 
 
 def manual(program, logs):
-    """The examples of docs/REPLAY.md: a block `hex`, with comments after #, and its block `lines`."""
+    """The examples of docs/REPLAY.md: a block `hex`, with comments after #, and its block
+    `lines`."""
     with open('docs/REPLAY.md', encoding='utf-8') as page:
         examples = re.findall(r'^```hex\n(.*?)^```\n\n```lines\n(.*?)^```$', page.read(), re.M | re.S)
     texts = [(bytes.fromhex(re.sub('#.*', '', digits)), lines.encode()) for digits, lines in examples]
@@ -141,7 +144,8 @@ def manual(program, logs):
 
 
 def long_logs(program, logs):
-    """Logs longer than any buffer: records of the largest size with and without a table, and very many small ones."""
+    """Logs longer than any buffer: records of the largest size with and without a table, and very
+    many small ones."""
     table = next(log for name, log, _ in logs if name == 'worked-example')
     table = table[:4 + int.from_bytes(table[2:4], 'big')]
     large, small = b'TB\xff\xff' + bytes(65535), b'MK\0\0'
@@ -181,7 +185,8 @@ def full_output(program, log):
 
 
 def unread_input(program, log):
-    """Input that is closed, that is no file of bytes, or that fails within a record: the lines of what was read whole, and a message."""
+    """Input that is closed, that is no file of bytes, or that fails within a record: the lines of
+    what was read whole, and a message."""
     for input_ in ('<&-', '</'):
         run = subprocess.run(['sh', '-c', f'exec "$0" {input_}', program], stdout=subprocess.PIPE, stderr=subprocess.PIPE, timeout=PATIENCE, check=False)
         failed_reading(f'input {input_}', run, HEAD)
@@ -211,7 +216,8 @@ def ends(program, logs):
 
 
 def phases(program, oracle, logs):
-    """What scripts/explain.py says of phases, against the original's, on the stored logs and on some from a seed."""
+    """What scripts/explain.py says of phases, against the original's, on the stored logs and on
+    some from a seed."""
     def asked(words, log=b''):
         return subprocess.run([oracle, *words], input=log, stdout=subprocess.PIPE, check=True).stdout
     fresh = [(f'seed {seed}', asked(['generate', str(seed), '120', 'log'])) for seed in range(1000, 1000 + SEEDS)]

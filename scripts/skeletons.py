@@ -1,8 +1,10 @@
 #!/usr/bin/env python3
-"""Writes the proof files that `rt dev CRATE` prints for functions that have none: each need with a hole or a search.
+"""Writes the proof files that `rt dev CRATE` prints for functions that have none: each need with a
+hole or a search.
 
-Run it from the repository's root: scripts/skeletons.py CRATE. A function shows its needs only where what it calls has a proof file, so run it
-again until it writes nothing. scripts/readers.py fills such files.
+Run it from the repository's root: scripts/skeletons.py CRATE. A function shows its needs only where
+what it calls has a proof file, so run it again until it writes nothing. scripts/readers.py fills
+such files.
 """
 import os
 import re

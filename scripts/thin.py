@@ -1,17 +1,27 @@
 #!/usr/bin/env python3
-"""Writes the proofs of the thin calls over `&mut VoterSlotTable` that go by a verdict: crates/control/proofs/MODULE/NAME/Proof.antt,
-and crates/control/proofs/FAMILY.antt, the law of calls that have the same makers and differ in their judge.
+"""Writes the proofs of the thin calls over `&mut VoterSlotTable` that go by a verdict:
+crates/control/proofs/MODULE/NAME/Proof.antt, and crates/control/proofs/FAMILY.antt, the law of
+calls that have the same makers and differ in their judge.
 
-Run it from the root of the repository: python3 scripts/thin.py [NAME ..] (all of them, where none is named). Such a call is
+Run it from the root of the repository: python3 scripts/thin.py [NAME ..] (all of them, where none
+is named). Such a call is
 
     let judged = JUDGE(*t, c);
     match route(judged) { 1 => { *t = MAKER(*t, c); } .. _ => {} }
     answer_of(judged)
 
-or, with slices that are lent to the judge alone, JUDGE(*t, s1, s2, s3, c). Its proof cites the law that scripts/gen_judged.py writes (proofs/JudgedN.antt, for N makers). What differs from call to call stands in CALLS below: the struct that is the
-last parameter (p in the text), the types of the elements of the slices (s₁ to s₃ in the text), the number of the first maker where it is not 1, the judge and its verdict, the pair of answer and table, what is made, and for each maker its module, its move, its table and what it requires, with
-the term that shows it, in which {move} is the move and {told} that the verdict is this move. The makers stand in the order of their numbers, which `routeOf` gives.
-Of calls with the same makers all but the judge stands once, in FAMILIES: there the verdict, the outcome, what a verdict that makes a table tells (`knows`) and that the verdict gives the outcome
+or, with slices that are lent to the judge alone, JUDGE(*t, s1, s2, s3, c). Its proof cites the law
+that scripts/gen_judged.py writes (proofs/JudgedN.antt, for N makers).
+
+What differs from call to call stands in CALLS below: the struct that is the last parameter (p in
+the text), the types of the elements of the slices (s₁ to s₃ in the text), the number of the first
+maker where it is not 1, the judge and its verdict, the pair of answer and table, what is made, and
+for each maker its module, its move, its table and what it requires, with the term that shows it. In
+that term {move} is the move and {told} that the verdict is this move. The makers stand in the order
+of their numbers, which `routeOf` gives.
+
+Of calls with the same makers all but the judge stands once, in FAMILIES: there the verdict, the
+outcome, what a verdict that makes a table tells (`knows`) and that the verdict gives the outcome
 (`carries`) are variables of the law, and the call says what they are.
 """
 import re
@@ -23,7 +33,8 @@ TARGET = '(h .revision ≡ full → ⊥) × ((h .count ≤ 9) × (targetIndex h 
 
 
 def steps(paths, is_advance, held, step, cut, valid='valid'):
-    """The makers of the five steps of an Advance: `held` is the VoterAdvance, and `is_advance` shows its verdict from {told}, that the whole verdict is {move}."""
+    """The makers of the five steps of an Advance: `held` is the VoterAdvance, and `is_advance`
+    shows its verdict from {told}, that the whole verdict is {move}."""
     room = 'room-as h %s (moves {move}) %s refl' % (held, is_advance)
     both = '(%s, target-as h %s (moves {move}) %s refl %s)' % (room, held, is_advance, valid)
     return [
@@ -156,7 +167,8 @@ CALLS = {
     },
 }
 
-# The calls that have the same makers. `known` is the type of what a verdict that makes a table tells.
+# The calls that have the same makers. `known` is the type of what a verdict that makes a table
+# tells.
 FAMILIES = {
     'Commands': {
         'of-what': 'a command',
@@ -505,7 +517,8 @@ unfolding code.routine tablesOf
 
 
 def core(tag, path, is_law=True, is_call=True):
-    """The modules of a core: a law speaks of its contract, and a call of its code and of the theorem that it meets the contract."""
+    """The modules of a core: a law speaks of its contract, and a call of its code and of the
+    theorem that it meets the contract."""
     at = 'Rattle.control.proofs.' + path
     name = 'use %s.Symbol.{name as #%s}' % (at, {'judges': 'judge'}.get(tag, tag))
     return '\n'.join(['use %s as %s' % (at, tag)] * is_law + ['use %s.Symbol as %s-def' % (at, tag)] * is_call + [name] + ['use %s.Met as %s-thm' % (at, tag)] * is_call)
@@ -526,7 +539,8 @@ def nest_type(parts):
 
 
 def lent(elements):
-    """What the text says of the slices that are lent between the table and the last parameter, by the types of their elements. The steps are written for three of them, and for none."""
+    """What the text says of the slices that are lent between the table and the last parameter, by
+    the types of their elements. The steps are written for three of them, and for none."""
     at = ['₁', '₂', '₃'][:len(elements)]
     lfts, shares, lists = (['%s%s' % (c, i) for i in at] for c in 'κqs')
     row = ['(ShrSlice (named %d) %s %s)' % (i + 1, lfts[i], e) for i, e in enumerate(elements)]
@@ -567,7 +581,8 @@ def lent(elements):
         'list-types': ''.join('ShrSlice (named %d) %s %s ∷ ' % (i + 1, lfts[i], e) for i, e in enumerate(elements)),
         'list-mirs': ''.join('(sliceTy (tyRef (named %d) imm (tyInt w64))) ' % (i + 1) for i in range(n)),
         'lists-lawful': ''.join('(shr-slice-lawful 𝓤 H A W (named %d) %s %s .typed %s _ %s-is .0) ' % (i + 1, lfts[i], e, lists[i], lists[i]) for i, e in enumerate(elements)),
-        # with slices: [Own₂; Own₃; Own₁; what else there is], from which they are joined again in their order
+        # with slices: [Own₂; Own₃; Own₁; what else there is], from which they are joined again in
+        # their order
         'Z-apart': 'move ! (1 ∷ []) $ split ! $ ' + up if n else 'move ! (1 ∷ []) $ drop ! $ ',
         'Z-fjoined': (to % (2, 'f') + to % (1, 'f') * 2 if n else '') + to % (1, 'f'),
         'X-apart': up * 5 if n else '',
@@ -680,7 +695,8 @@ def written(name):
     return (HEAD + USES + OWN_USES).format(**values) + body
 
 
-# The laws, by how many tables there are to be made, with the number of the first and how many parameters there are after the table.
+# The laws, by how many tables there are to be made, with the number of the first and how many
+# parameters there are after the table.
 LAWS = {1: (6, 1), 3: (1, 4), 5: (1, 1), 6: (1, 1)}
 
 for tables, (first, parameters) in LAWS.items():

@@ -1,13 +1,17 @@
 #!/usr/bin/env python3
-"""Writes the proofs of the writers of crates/writer/src/encode.rt that are chains of puts, of an optional part, or loops over the places.
+"""Writes the proofs of the writers of crates/writer/src/encode.rt that are chains of puts, of an
+optional part, or loops over the places.
 
-Run it from the root of the repository, after a change to one of those functions or to what it writes:
+Run it from the root of the repository, after a change to one of those functions or to what it
+writes:
 
     python3 scripts/writers.py [FUNCTION ...]
 
-It writes crates/writer/proofs/encode/FUNCTION/Proof.antt. The leaves (put_be and put_bytes of layout, put_flag) and the sizes are written by hand.
-A chain is a list of puts, of the fields of a record (scripts/fields.py). Each has what it writes, and how many steps more than a put of a number of the record
-it takes to reach: a field that is copied out first, a u8 or u16 that is widened, or the answer of another call is 1, a lent array is 3.
+It writes crates/writer/proofs/encode/FUNCTION/Proof.antt. The leaves (put_be and put_bytes of
+layout, put_flag) and the sizes are written by hand. A chain is a list of puts, of the fields of a
+record (scripts/fields.py). Each has what it writes, and how many steps more than a put of a number
+of the record it takes to reach: a field that is copied out first, a u8 or u16 that is widened, or
+the answer of another call is 1, a lent array is 3.
 """
 import os
 import re
@@ -32,9 +36,10 @@ def back(steps):
 
 
 class Put:
-    """One call. written: its bytes, of the record x; steps: how many more than a number of the record takes; also: its second premise, at
-    the start s; needs: what the checker asks before it, each by `search needs` or with its answer; answer: where what is written is said of
-    another call's answer, that call and what is made of its answer."""
+    """One call. written: its bytes, of the record x; steps: how many more than a number of the
+    record takes; also: its second premise, at the start s; needs: what the checker asks before it,
+    each by `search needs` or with its answer; answer: where what is written is said of another
+    call's answer, that call and what is made of its answer."""
 
     def __init__(self, call, written, steps=0, also=None, needs=(), answer=None):
         self.call, self.written, self.steps, self.also, self.needs, self.answer = call, q(written), steps, also, needs, answer
@@ -53,8 +58,9 @@ def lent(value):
 
 
 class Chain:
-    """record: the type of the value, which the logic calls arg; shut: what to unfold to see the puts in the format; pre: where the contract
-    has the room; same: a law that says the bytes as a chain, where unfolding does not; front: what the proof begins with."""
+    """record: the type of the value, which the logic calls arg; shut: what to unfold to see the
+    puts in the format; pre: where the contract has the room; same: a law that says the bytes as a
+    chain, where unfolding does not; front: what the proof begins with."""
 
     def __init__(self, name, record, arg, shut, puts, pre='.pre', same=None, front=''):
         self.name, self.record, self.arg, self.shut, self.puts, self.pre, self.same, self.front = name, record, arg, shut, puts, pre, same, front
@@ -104,7 +110,8 @@ def put_of(field, kind):
 
 
 def record(name, type_, arg, shut, also=None, other=None):
-    """The chain of a record of scripts/fields.py. also: the second premise of a field's put; other: a field's put where its kind does not tell it."""
+    """The chain of a record of scripts/fields.py. also: the second premise of a field's put; other:
+    a field's put where its kind does not tell it."""
     puts = []
     for field, kind in FIELDS[name]:
         put = (other or {}).get(field) or put_of(field, kind)
@@ -287,7 +294,8 @@ def put_step(put):
 # ---- an optional part: the flag, and after a yes the value
 
 class Optional:
-    """The flag and the value, of the arguments; steps: a value that is copied out first; shut: what to unfold to see `opt`."""
+    """The flag and the value, of the arguments; steps: a value that is copied out first; shut: what
+    to unfold to see `opt`."""
 
     def __init__(self, name, call, codec, blank, flag, value, shut='', steps=0, pre='.pre', also=None):
         self.name, self.call, self.codec, self.blank, self.flag, self.value = name, call, codec, blank, q(flag), q(value)
