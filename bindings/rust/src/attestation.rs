@@ -8,8 +8,9 @@ pub enum LossReason {
     TimeBoundLoss = 2,
 }
 
-/// A controller's statement that a voter is lost, as the fields that a [`Begin`](crate::Begin) carries
-/// in bytes. A service that receives those bytes needs none of this; it is for those who make them.
+/// A controller's statement that a voter is lost, as the fields that a [`Begin`](crate::Begin)
+/// carries in bytes. A service that receives those bytes needs none of this; it is for those who
+/// make them.
 #[derive(Clone, Debug, PartialEq, Eq, Hash)]
 pub struct LostVoterAttestation {
     pub request_id: [u8; 16],

@@ -176,8 +176,9 @@ pub struct Begin {
     pub expected_configuration_id: [u8; 32],
     pub expected_configuration_epoch: u64,
     pub candidate: Candidate,
-    /// The bytes of the attestation; [`LostVoterAttestation::encode`](crate::LostVoterAttestation::encode)
-    /// makes such bytes. The service has checked the signature.
+    /// The bytes of the attestation;
+    /// [`LostVoterAttestation::encode`](crate::LostVoterAttestation::encode) makes such bytes. The
+    /// service has checked the signature.
     pub attestation: Vec<u8>,
     pub supplied_request_digest: [u8; 32],
     pub supplied_configuration_id: [u8; 32],

@@ -60,14 +60,15 @@ impl OpenRequest {
 pub enum Change {
     /// The table is as it was: the call repeats what was done before, or asks for no change.
     Unchanged,
-    /// The table was changed, and its revision is one higher. A service stores it before it confirms.
+    /// The table was changed, and its revision is one higher. A service stores it before it
+    /// confirms.
     Changed,
 }
 
 /// The table of voter slots.
 ///
-/// It is made by reading bytes and in no other way, so it is always valid. Two tables are equal exactly
-/// where their bytes are.
+/// It is made by reading bytes and in no other way, so it is always valid. Two tables are equal
+/// exactly where their bytes are.
 #[derive(Clone)]
 pub struct Table {
     bytes: Vec<u8>,
@@ -250,8 +251,8 @@ pub struct FirstVoter {
     pub admission_generation: u64,
 }
 
-/// The bytes of a first installation's table: revision 1, epoch 1, every slot in its first incarnation
-/// and voting, no request open. Nothing is judged here; [`Table::decode`] does that.
+/// The bytes of a first installation's table: revision 1, epoch 1, every slot in its first
+/// incarnation and voting, no request open. Nothing is judged here; [`Table::decode`] does that.
 #[must_use]
 pub fn first_table(
     cluster_instance: &[u8; 32],
