@@ -31,7 +31,7 @@ use Rattle.control.specs.Control.{beginKind, advanceKind, markerKind, recordSna
 use Rattle.control.specs.Observation.{observeMembership}
 use Rattle.proved_cases.specs.Row.{Row}
 use Rattle.proved_cases.specs.Row.Row.{is-outcome}
-use Rattle.proved_cases.specs.Tables.{cut, key, memberOf, slotOf, idleWith, tableOf}
+use Rattle.proved_cases.specs.Tables.{cut, key, memberWith, freshSlot, idleWith, freshTable}
 
 -- ---- requests
 
@@ -177,7 +177,7 @@ rowsOf t (makes act next ∷ responses) = is-outcome (does act t) 0 next ∷ row
 -- ---- request 21: slot 2 of three, in incarnation 2; from its Begin to Finalize
 
 abbrev pub start : VoterSlotTable
-start = tableOf 3
+start = freshTable 3
 
 abbrev pub first : VoterReplacementRequest
 first = request 1 1 21 2 1 2 9 5
@@ -194,11 +194,11 @@ both = 1 ∷ 2 ∷ 3 ∷ 65538 ∷ []
 
 -- three slots and their members, with these in place of slot 2
 abbrev pub around : VoterSlotRecord → List VoterSlotRecord
-around two = slotOf 1 ∷ two ∷ slotOf 3 ∷ replicate 6 blankVoterSlotRecord
+around two = freshSlot 1 ∷ two ∷ freshSlot 3 ∷ replicate 6 blankVoterSlotRecord
 
-abbrev pub configurationOf : ℕ → VoterSlotMember → VoterConfiguration
-configurationOf epoch two =
-    record { epoch = epoch; members = memberOf 1 1 1 1 ∷ two ∷ memberOf 3 1 3 1 ∷ replicate 6 blankVoterSlotMember; count = 3 }
+abbrev pub configurationWith : ℕ → VoterSlotMember → VoterConfiguration
+configurationWith epoch two =
+    record { epoch = epoch; members = memberWith 1 1 1 1 ∷ two ∷ memberWith 3 1 3 1 ∷ replicate 6 blankVoterSlotMember; count = 3 }
 
 abbrev pub openWith : (revision epoch : ℕ) → List VoterSlotRecord → VoterReplacementRecord → VoterSlotTable
 openWith revision epoch slots op = tableWith start revision epoch slots true op
@@ -209,16 +209,16 @@ operationOf revision a candidate phase evidence =
     record {
       «expected_revision» = revision;
       attestation = a;
-      predecessor = configurationOf 1 (memberOf 2 1 2 1);
-      successor = configurationOf 2 candidate;
+      predecessor = configurationWith 1 (memberWith 2 1 2 1);
+      successor = configurationWith 2 candidate;
       phase = phase;
       evidence = evidence;
     }
 
 abbrev pub openFirst : (revision epoch slotPhase phase : ℕ) → VoterReplacementEvidence → VoterSlotTable
 openFirst revision epoch slotPhase phase evidence =
-    openWith revision epoch (around (slotWith (memberOf 2 2 9 5) 1 slotPhase false blankVoterReplacementResult))
-    (operationOf 1 (attest 21 2 1 2 9 5) (memberOf 2 2 9 5) phase evidence)
+    openWith revision epoch (around (slotWith (memberWith 2 2 9 5) 1 slotPhase false blankVoterReplacementResult))
+    (operationOf 1 (attest 21 2 1 2 9 5) (memberWith 2 2 9 5) phase evidence)
 
 -- evidence of a prepare alone
 abbrev pub prepareAt : VoterSlotLogId → VoterReplacementEvidence
@@ -292,7 +292,7 @@ receiptWith id incarnation revision epoch kind terminal =
 
 -- slot 2 with the receipt of its Finalize at revision 11
 abbrev pub replacedSlot : VoterSlotRecord
-replacedSlot = slotWith (memberOf 2 2 9 5) 1 voting true (receiptWith 21 2 11 2 completed (cut 2 23))
+replacedSlot = slotWith (memberWith 2 2 9 5) 1 voting true (receiptWith 21 2 11 2 completed (cut 2 23))
 
 -- at that revision
 abbrev pub isFinalizedAt : ℕ → VoterSlotTable
@@ -308,13 +308,13 @@ next = request 11 2 25 3 1 3 9 5
 
 abbrev pub isNext : VoterSlotTable
 isNext =
-    openWith 12 2 (slotOf 1 ∷ replacedSlot ∷ slotWith (memberOf 3 2 9 5) 1 pending false blankVoterReplacementResult ∷ replicate 6 blankVoterSlotRecord)
+    openWith 12 2 (freshSlot 1 ∷ replacedSlot ∷ slotWith (memberWith 3 2 9 5) 1 pending false blankVoterReplacementResult ∷ replicate 6 blankVoterSlotRecord)
     (record {
       «expected_revision» = 11;
       attestation = attest 25 3 1 3 9 5;
-      predecessor = configurationOf 2 (memberOf 2 2 9 5);
+      predecessor = configurationWith 2 (memberWith 2 2 9 5);
       successor =
-          record { epoch = 3; members = memberOf 1 1 1 1 ∷ memberOf 2 2 9 5 ∷ memberOf 3 2 9 5 ∷ replicate 6 blankVoterSlotMember; count = 3 };
+          record { epoch = 3; members = memberWith 1 1 1 1 ∷ memberWith 2 2 9 5 ∷ memberWith 3 2 9 5 ∷ replicate 6 blankVoterSlotMember; count = 3 };
       phase = prepared;
       evidence = prepareAt (cut 1 2);
     })
@@ -323,12 +323,12 @@ isNext =
 
 abbrev pub isReplacedAgain : VoterSlotTable
 isReplacedAgain =
-    openWith 12 2 (around (slotWith (memberOf 2 3 10 6) 2 pending true (replacedSlot .«last_result»)))
+    openWith 12 2 (around (slotWith (memberWith 2 3 10 6) 2 pending true (replacedSlot .«last_result»)))
     (record {
       «expected_revision» = 11;
       attestation = attest 26 2 2 9 10 6;
-      predecessor = configurationOf 2 (memberOf 2 2 9 5);
-      successor = configurationOf 3 (memberOf 2 3 10 6);
+      predecessor = configurationWith 2 (memberWith 2 2 9 5);
+      successor = configurationWith 3 (memberWith 2 3 10 6);
       phase = prepared;
       evidence = prepareAt (cut 1 2);
     })
@@ -352,8 +352,8 @@ bothNext = 1 ∷ 2 ∷ 3 ∷ 131074 ∷ []
 -- Begin that superseded it, the table's epoch.
 abbrev pub openSecond : (revision slotPhase phase : ℕ) → VoterReplacementEvidence → VoterSlotTable
 openSecond revision slotPhase phase evidence =
-    openWith revision 1 (around (slotWith (memberOf 2 3 10 6) 2 slotPhase true (receiptWith 21 2 5 1 superseded (cut 2 14))))
-    (operationOf 4 (attest 22 2 2 9 10 6) (memberOf 2 3 10 6) phase evidence)
+    openWith revision 1 (around (slotWith (memberWith 2 3 10 6) 2 slotPhase true (receiptWith 21 2 5 1 superseded (cut 2 14))))
+    (operationOf 4 (attest 22 2 2 9 10 6) (memberWith 2 3 10 6) phase evidence)
 
 abbrev pub isSuperseded : VoterSlotTable
 isSuperseded = openSecond 5 pending prepared (prepareAt (cut 2 14))
@@ -373,8 +373,8 @@ hasSecondLearner =
 -- the receipt of 22 has taken the place of that of 21
 abbrev pub isSupersededAgain : VoterSlotTable
 isSupersededAgain =
-    openWith 8 1 (around (slotWith (memberOf 2 4 11 7) 3 pending true (receiptWith 22 3 8 1 superseded (cut 2 18))))
-    (operationOf 7 (attest 24 2 3 10 11 7) (memberOf 2 4 11 7) prepared (prepareAt (cut 2 18)))
+    openWith 8 1 (around (slotWith (memberWith 2 4 11 7) 3 pending true (receiptWith 22 3 8 1 superseded (cut 2 18))))
+    (operationOf 7 (attest 24 2 3 10 11 7) (memberWith 2 4 11 7) prepared (prepareAt (cut 2 18)))
 
 -- ---- Fenced, with no continuation
 
@@ -392,15 +392,15 @@ preparedWith slots = openWith 2 1 slots (isPrepared .replacement)
 
 -- slot 2 of the candidate, in that phase
 abbrev pub candidateIn : ℕ → VoterSlotRecord
-candidateIn phase = slotWith (memberOf 2 2 9 5) 1 phase false blankVoterReplacementResult
+candidateIn phase = slotWith (memberWith 2 2 9 5) 1 phase false blankVoterReplacementResult
 
 -- slot of that number in its first incarnation, pending
 abbrev pub pendingOf : ℕ → VoterSlotRecord
-pendingOf slot = slotWith (memberOf slot 1 slot 1) 0 pending false blankVoterReplacementResult
+pendingOf slot = slotWith (memberWith slot 1 slot 1) 0 pending false blankVoterReplacementResult
 
 -- Prepared, where the attested incarnation is 2^47
 abbrev pub attestedLast : List VoterSlotRecord → VoterSlotTable
-attestedLast slots = openWith 2 1 slots (operationOf 1 (attest 21 2 (2 ^ 47) 2 9 5) (memberOf 2 2 9 5) prepared (prepareAt (cut 2 10)))
+attestedLast slots = openWith 2 1 slots (operationOf 1 (attest 21 2 (2 ^ 47) 2 9 5) (memberWith 2 2 9 5) prepared (prepareAt (cut 2 10)))
 
 -- Prepared, where the epoch of the predecessor is full
 abbrev pub epochFull : VoterSlotTable
@@ -409,8 +409,8 @@ epochFull =
     (record {
       «expected_revision» = 1;
       attestation = attest 21 2 1 2 9 5;
-      predecessor = configurationOf full (memberOf 2 1 2 1);
-      successor = configurationOf 1 (memberOf 2 2 9 5);
+      predecessor = configurationWith full (memberWith 2 1 2 1);
+      successor = configurationWith 1 (memberWith 2 2 9 5);
       phase = prepared;
       evidence = prepareAt (cut 2 10);
     })

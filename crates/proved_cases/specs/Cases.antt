@@ -32,9 +32,9 @@ use Rattle.control.specs.Retired.{isRetiredIdentity, retiredTest}
 use Rattle.control.specs.Quorum.{countsIn, among, isMajority, isQuorum}
 use Rattle.journal.specs.Records.{sizedBytes, counted, markerBody, noSnapshotPart, snapshotPart, stepBody, advanceBody, anyIdentity, candidate, expected, beginHead, beginBody, nodeIds, nodeSets, observationBody, markOf, knownMark, frame}
 use Rattle.journal.specs.Replay.{markerControl, markerAsked, snapshotIdOf, snapshotOf, stepOf, advanceOf, advanceControl, advanceAsked, beginOf, beginControl, beginAsked, observationAsked, formed, attested, asking, answered as answered-call, called, opened, opening, step, firstEntry, entriesIn, entries, run, ended, decimalIn, decimal, revisionOf, lineOf, lines, replayFrom, replay}
-use Rattle.proved_cases.specs.Row.{Row, Every, every as every-row}
+use Rattle.proved_cases.specs.Row.{Row, EveryRow, everyRow}
 use Rattle.proved_cases.specs.Row.Row.{is-number, is-yes, is-no}
-use Rattle.proved_cases.specs.Tables.{cut, tableOf}
+use Rattle.proved_cases.specs.Tables.{cut, freshTable}
 use Rattle.proved_cases.specs.Calls.{around, candidateIn, attestedLast}
 use Rattle.proved_cases.specs.LogRows.{replayRows}
 use Rattle.proved_cases.specs.ControlRows.{wholeReplacement, supersession, beginOrder, advanceOrder, observationOrder, invalidTables, retiredRows, quorumRows}
@@ -88,11 +88,11 @@ rows =
     ∷ is-no (follows (cut 2 11) (cut 3 10) false)
     ∷ is-no (follows (cut 4 10) (cut 3 10) false)
     -- counts 1 and 9 pass, 0 and 2 do not; 10 as a value is 30
-    ∷ is-number (numberOf (validate (tableOf 1))) 0
-    ∷ is-number (numberOf (validate (tableOf 9))) 0
-    ∷ is-number (numberOf (validate (tableOf 0))) 6
-    ∷ is-number (numberOf (validate (tableOf 2))) 6
-    ∷ is-number (numberOf (validate (tableOf 10))) 30
+    ∷ is-number (numberOf (validate (freshTable 1))) 0
+    ∷ is-number (numberOf (validate (freshTable 9))) 0
+    ∷ is-number (numberOf (validate (freshTable 0))) 6
+    ∷ is-number (numberOf (validate (freshTable 2))) 6
+    ∷ is-number (numberOf (validate (freshTable 10))) 30
     -- `OPVI` alone: 6; with version 2: 4; `OPVX` with version 2: 6
     ∷ is-number (readNumber magic) 6
     ∷ is-number (readNumber (magic ++ (0 ∷ 2 ∷ []))) 4
@@ -105,14 +105,14 @@ rows =
     ∷ is-number (readNumber (bytesOf 9)) 0
     -- a table of one slot takes 180 bytes: into one less 32, which comes last, after 30 and
     -- validity's 6 and 3
-    ∷ is-number (writeNumber (tableOf 1) 180) 0
-    ∷ is-number (writeNumber (tableOf 1) 179) 32
-    ∷ is-number (writeNumber (tableOf 10) 0) 30
-    ∷ is-number (writeNumber (tableOf 2) 0) 6
+    ∷ is-number (writeNumber (freshTable 1) 180) 0
+    ∷ is-number (writeNumber (freshTable 1) 179) 32
+    ∷ is-number (writeNumber (freshTable 10) 0) 30
+    ∷ is-number (writeNumber (freshTable 2) 0) 6
     ∷ is-number (writeNumber (attestedLast (around (candidateIn pending))) 0) 3
     -- a restart in just as many bytes is accepted
-    ∷ is-number (restartNumber (tableOf 1) 180) 0
-    ∷ is-number (restartNumber (tableOf 1) 179) 32
+    ∷ is-number (restartNumber (freshTable 1) 180) 0
+    ∷ is-number (restartNumber (freshTable 1) 179) 32
     -- commands and observations
     ∷ (wholeReplacement
     ++ supersession
@@ -128,6 +128,6 @@ rows =
 
 -- ---- the theorem
 
-pub cases : Every rows
+pub cases : EveryRow rows
 unfolding validateVoterIncarnation validateVoterSlotIdentity newVoterSlotIdentity nodeId fromNodeId isIn startsWith isName fits widthIn decodedChar charsFrom allChars eqList allTrue sameVoterSlotIdentity sameSpiffeId sameSnapshotId sameVoterSlotLogId sameOptionalLogId sameVoterSlotMember sameVoterReplacementResult sameVoterSlotRecord sameVoterSnapshotEvidence sameVoterConfiguration sameLostVoterAttestationV1 sameVoterReplacementEvidence sameVoterReplacementRecord blankVoterSlotIdentity blankSpiffeId blankSnapshotId blankVoterSlotLogId blankOptionalLogId blankVoterSlotMember blankVoterReplacementResult blankVoterSlotRecord blankVoterSnapshotEvidence blankVoterConfiguration blankLostVoterAttestationV1 blankVoterReplacementEvidence blankVoterReplacementRecord allBelow representableMember representableResult representableSlotRecord representable follows validResult validSlot validSlots validity validate validateSlotId decodeVoterSlotTable bounded andThen whole pick gate answered tableBytes encodeVoterSlotTable restarted restartOutcome be encVec table magicAndVersion headTest via check dep raw decSeq decCheck decMap decRaw uint held decUint val tableHead epoch slotCount slots slot slotMember identity slotId incarnation binding choice result opt either always flag flagTest padded vec decVec isUtf8 isSnapshotId every blankVoterSlotTable sameVoterSlotTable firstFrom validStage stageOr validStages inOrder validContinuation validEvidence retainsCut retainsMarker retainsCuts retains laterOf latest isText representableOptionalLogId representableConfiguration representableAttestation representableEvidence representableReplacement validConfiguration validAttestation validOperationHead isCurrentEpoch validOperation retiredMember validTarget validateMember validateMembers validateOperation resultSucceeds slotSucceeds requestSucceeds ownReceipt requestEnded endedSucceeds replacementSucceeds headSucceeds succession validateSuccessorOf settle blankConsensusIdentity blankVoterReplacementRequest blankVoterReplacementStep sameConsensusIdentity sameVoterReplacementRequest sameVoterReplacementStep representableStep representableControl currentConfiguration validRequest requestCheck isOpenRequest receiptIndex knownDigest repeated openCheck isExpected isCurrent candidateCheck fullCheck beginCheck begunSlot begunOperation begin recordSnapshot recordCaughtUp recordContinuation fence finalizedSlot finalize isCompleted takeStep advanceOpen advance marker decide applyControl isRising allRising insertId contains unionIds difference splitSets total representableSets memberIdsBelow isObsolete mayLinger seePredecessor seeSets seeFrom observed observe observeMembership isRetiredIdentity retiredTest countsIn among isMajority isQuorum configuration members member resultHead version claims claimsEnd claimsNames claimsSlot claimsRequest times attestation spiffeId snapshotId string sized logId optionalLogId snapshot evidence threeCuts change replacement decodeLostVoterAttestation nextVoterIncarnation sizedBytes counted markerBody noSnapshotPart snapshotPart stepBody advanceBody anyIdentity candidate expected beginHead beginBody nodeIds nodeSets observationBody markOf knownMark frame markerControl markerAsked snapshotIdOf snapshotOf stepOf advanceOf advanceControl advanceAsked beginOf beginControl beginAsked observationAsked formed attested asking answered-call called opened opening step firstEntry entriesIn entries run ended decimalIn decimal revisionOf lineOf lines replayFrom replay flatten
-cases = every-row rows tt
+cases = everyRow rows tt

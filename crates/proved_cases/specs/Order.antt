@@ -1,6 +1,8 @@
--- The table and the attestation of OrderBytes, field by field: what must be read from those bytes. No two fields hold the same unless validity asks for it,
--- so that two fields which changed places in the format, the reader and the writer alike are seen. OrderLaws has the theorems.
--- Document 01, "Ported": the records of records.rs in the bytes of codec.rs. The values are those of `oracle/oracle/src/ordered.rs`.
+-- The table and the attestation of OrderBytes, field by field: what must be read from those bytes. No
+-- two fields hold the same unless validity asks for it, so that two fields which changed places in the
+-- format, the reader and the writer alike are seen. OrderLaws has the theorems.
+-- Document 01, "Ported": the records of records.rs in the bytes of codec.rs. The values are those of
+-- `oracle/oracle/src/ordered.rs`.
 -- Assumes nothing.
 use Prim.Native.Nat.{ℕ}
 use mathlib.Core.Bool.{true, false}
@@ -139,11 +141,11 @@ orderedAttestation =
 
 -- ---- the open request
 
-abbrev pub predecessor : VoterConfiguration
-predecessor = record { epoch = 514; members = firstMember ∷ replacedMember ∷ thirdMember ∷ replicate 6 blankVoterSlotMember; count = 3 }
+abbrev pub orderedPredecessor : VoterConfiguration
+orderedPredecessor = record { epoch = 514; members = firstMember ∷ replacedMember ∷ thirdMember ∷ replicate 6 blankVoterSlotMember; count = 3 }
 
-abbrev pub successor : VoterConfiguration
-successor = record { epoch = 515; members = firstMember ∷ secondMember ∷ thirdMember ∷ replicate 6 blankVoterSlotMember; count = 3 }
+abbrev pub orderedSuccessor : VoterConfiguration
+orderedSuccessor = record { epoch = 515; members = firstMember ∷ secondMember ∷ thirdMember ∷ replicate 6 blankVoterSlotMember; count = 3 }
 
 -- `snap`
 abbrev pub snapshotName : SnapshotId
@@ -171,8 +173,8 @@ orderedRequest =
     record {
       «expected_revision» = 301;
       attestation = orderedAttestation;
-      predecessor = predecessor;
-      successor = successor;
+      predecessor = orderedPredecessor;
+      successor = orderedSuccessor;
       phase = uniform;
       evidence = orderedEvidence;
     }
