@@ -1,7 +1,7 @@
 -- Groups of fields that stand together in the bytes, their blanks, and the records made of them and
 -- taken apart into them.
--- They are no records of document 01 or of the Rust: they keep every reader at five fields or
--- fewer.
+-- They are no records of document 01 or of the Rust: they keep every reader at five fields or fewer.
+-- The order of the fields is that of codec.rs.
 -- Assumes nothing.
 use Prim.Native.Nat.{ℕ, _≤_}
 use mathlib.Core.Bool.{Bool, false}
@@ -31,17 +31,21 @@ use Rattle.layout.specs.declared.parts.Times.{Times}
 use Rattle.layout.specs.declared.parts.Change.{Change}
 use Rattle.layout.specs.declared.parts.TableHead.{TableHead}
 
--- ---- blanks
+-- ---- blanks: what a reader returns of a group that is refused, "all zero"
 
+-- what follows an identity in a member
 unfoldable pub blankBinding : Binding
 blankBinding = record { «key_digest» = zeros 32; «descriptor_digest» = zeros 32; «admission_generation» = 0 }
 
+-- the front of a receipt
 unfoldable pub blankResultHead : ResultHead
 blankResultHead = record { «request_id» = zeros 16; «request_digest» = zeros 32; incarnation = 0; revision = 0 }
 
+-- a slot's member with its retired number
 unfoldable pub blankSlotMember : SlotMember
 blankSlotMember = record { member = blankVoterSlotMember; «retired_through» = 0 }
 
+-- the four groups of an attestation, and its times
 unfoldable pub blankClaimsRequest : ClaimsRequest
 blankClaimsRequest = record { «request_id» = zeros 16; «request_digest» = zeros 32 }
 
@@ -64,9 +68,11 @@ blankTimes = record { «observation_start_ms» = 0; «decision_ms» = 0; «issue
 unfoldable pub blankClaimsEnd : ClaimsEnd
 blankClaimsEnd = record { reason = 0; «policy_digest» = zeros 32; times = blankTimes; signature = zeros 64 }
 
+-- both configurations, and the phase
 unfoldable pub blankChange : Change
 blankChange = record { predecessor = blankVoterConfiguration; successor = blankVoterConfiguration; phase = 0 }
 
+-- a table before its count
 unfoldable pub blankTableHead : TableHead
 blankTableHead =
     record { «cluster_instance» = zeros 32; «manifest_digest» = zeros 32; revision = 0; «configuration_epoch» = 0 }
@@ -89,18 +95,20 @@ absentSnapshot = (false, blankVoterSnapshotEvidence)
 abbrev pub TableFront : Type 0
 TableFront = ((Unit {0} × TableHead) × ℕ) × List VoterSlotRecord
 
+-- nothing was read
 abbrev pub blankTableFront : TableFront
 blankTableFront = (((tt, blankTableHead), 0), blankVoterSlotRecords)
 
 -- ---- a record of its groups, and its groups
 
+-- a member
 abbrev pub memberOf : VoterSlotIdentity → Binding → VoterSlotMember
-memberOf i b =
+memberOf identity binding =
     record {
-      identity = i;
-      «key_digest» = b .«key_digest»;
-      «descriptor_digest» = b .«descriptor_digest»;
-      «admission_generation» = b .«admission_generation»;
+      identity = identity;
+      «key_digest» = binding .«key_digest»;
+      «descriptor_digest» = binding .«descriptor_digest»;
+      «admission_generation» = binding .«admission_generation»;
     }
 
 abbrev pub bindingOf : VoterSlotMember → Binding
@@ -111,16 +119,17 @@ bindingOf m =
       «admission_generation» = m .«admission_generation»;
     }
 
+-- a receipt
 abbrev pub resultOf : ResultHead → ℕ → ℕ → VoterSlotLogId → VoterReplacementResult
-resultOf h e k t =
+resultOf head epoch kind terminal =
     record {
-      «request_id» = h .«request_id»;
-      «request_digest» = h .«request_digest»;
-      incarnation = h .incarnation;
-      revision = h .revision;
-      «configuration_epoch» = e;
-      kind = k;
-      terminal = t;
+      «request_id» = head .«request_id»;
+      «request_digest» = head .«request_digest»;
+      incarnation = head .incarnation;
+      revision = head .revision;
+      «configuration_epoch» = epoch;
+      kind = kind;
+      terminal = terminal;
     }
 
 abbrev pub resultHeadOf : VoterReplacementResult → ResultHead
@@ -130,27 +139,28 @@ resultHeadOf r =
 abbrev pub slotMemberOf : VoterSlotRecord → SlotMember
 slotMemberOf s = record { member = s .member; «retired_through» = s .«retired_through» }
 
+-- an attestation
 abbrev pub attestationOf : ClaimsRequest → ClaimsSlot → ClaimsNames → ClaimsEnd → LostVoterAttestationV1
-attestationOf r s n e =
+attestationOf request slot names ending =
     record {
-      «request_id» = r .«request_id»;
-      «request_digest» = r .«request_digest»;
-      «cluster_instance» = s .«cluster_instance»;
-      slot = s .identity .slot;
-      «expected_incarnation» = s .identity .incarnation;
-      «old_descriptor_digest» = s .«old_descriptor_digest»;
-      «candidate_key_digest» = s .«candidate_key_digest»;
-      «admission_generation» = n .«admission_generation»;
-      «candidate_spiffe_id» = n .«candidate_spiffe_id»;
-      «controller_spiffe_id» = n .«controller_spiffe_id»;
-      «signing_key_digest» = n .«signing_key_digest»;
-      reason = e .reason;
-      «policy_digest» = e .«policy_digest»;
-      «observation_start_ms» = e .times .«observation_start_ms»;
-      «decision_ms» = e .times .«decision_ms»;
-      «issued_ms» = e .times .«issued_ms»;
-      «expires_ms» = e .times .«expires_ms»;
-      signature = e .signature;
+      «request_id» = request .«request_id»;
+      «request_digest» = request .«request_digest»;
+      «cluster_instance» = slot .«cluster_instance»;
+      slot = slot .identity .slot;
+      «expected_incarnation» = slot .identity .incarnation;
+      «old_descriptor_digest» = slot .«old_descriptor_digest»;
+      «candidate_key_digest» = slot .«candidate_key_digest»;
+      «admission_generation» = names .«admission_generation»;
+      «candidate_spiffe_id» = names .«candidate_spiffe_id»;
+      «controller_spiffe_id» = names .«controller_spiffe_id»;
+      «signing_key_digest» = names .«signing_key_digest»;
+      reason = ending .reason;
+      «policy_digest» = ending .«policy_digest»;
+      «observation_start_ms» = ending .times .«observation_start_ms»;
+      «decision_ms» = ending .times .«decision_ms»;
+      «issued_ms» = ending .times .«issued_ms»;
+      «expires_ms» = ending .times .«expires_ms»;
+      signature = ending .signature;
     }
 
 abbrev pub claimsRequestOf : LostVoterAttestationV1 → ClaimsRequest
@@ -187,18 +197,19 @@ timesOf a =
 abbrev pub claimsEndOf : LostVoterAttestationV1 → ClaimsEnd
 claimsEndOf a = record { reason = a .reason; «policy_digest» = a .«policy_digest»; times = timesOf a; signature = a .signature }
 
+-- the evidence
 abbrev pub evidenceOf : VoterSlotLogId → Bool → VoterSnapshotEvidence → ThreeCuts → ThreeCuts → VoterReplacementEvidence
-evidenceOf p b s c d =
+evidenceOf prepare hasSnapshot snapshot early late =
     record {
-      prepare = p;
-      «has_snapshot» = b;
-      snapshot = s;
-      learner = c .first;
-      «caught_up» = c .second;
-      continuation = c .third;
-      fence = d .first;
-      joint = d .second;
-      uniform = d .third;
+      prepare = prepare;
+      «has_snapshot» = hasSnapshot;
+      snapshot = snapshot;
+      learner = early .first;
+      «caught_up» = early .second;
+      continuation = early .third;
+      fence = late .first;
+      joint = late .second;
+      uniform = late .third;
     }
 
 -- the six cuts of the evidence, in two threes
@@ -208,31 +219,33 @@ earlyCuts e = record { first = e .learner; second = e .«caught_up»; third = e 
 abbrev pub lateCuts : VoterReplacementEvidence → ThreeCuts
 lateCuts e = record { first = e .fence; second = e .joint; third = e .uniform }
 
+-- an open request
 abbrev pub replacementOf : ℕ → LostVoterAttestationV1 → Change → VoterReplacementEvidence → VoterReplacementRecord
-replacementOf r a c e =
+replacementOf expected attestation change evidence =
     record {
-      «expected_revision» = r;
-      attestation = a;
-      predecessor = c .predecessor;
-      successor = c .successor;
-      phase = c .phase;
-      evidence = e;
+      «expected_revision» = expected;
+      attestation = attestation;
+      predecessor = change .predecessor;
+      successor = change .successor;
+      phase = change .phase;
+      evidence = evidence;
     }
 
 abbrev pub changeOf : VoterReplacementRecord → Change
 changeOf r = record { predecessor = r .predecessor; successor = r .successor; phase = r .phase }
 
+-- a table
 abbrev pub tableOf : TableHead → ℕ → List VoterSlotRecord → Bool → VoterReplacementRecord → VoterSlotTable
-tableOf h n s b r =
+tableOf head count slots isOpen replacement =
     record {
-      «cluster_instance» = h .«cluster_instance»;
-      «manifest_digest» = h .«manifest_digest»;
-      revision = h .revision;
-      «configuration_epoch» = h .«configuration_epoch»;
-      slots = s;
-      count = n;
-      «has_replacement» = b;
-      replacement = r;
+      «cluster_instance» = head .«cluster_instance»;
+      «manifest_digest» = head .«manifest_digest»;
+      revision = head .revision;
+      «configuration_epoch» = head .«configuration_epoch»;
+      slots = slots;
+      count = count;
+      «has_replacement» = isOpen;
+      replacement = replacement;
     }
 
 abbrev pub tableHeadOf : VoterSlotTable → TableHead
@@ -244,8 +257,10 @@ tableHeadOf t =
       «configuration_epoch» = t .«configuration_epoch»;
     }
 
--- ---- lengths that the fields hold, which the representability check has tested
+-- ---- lengths that the fields hold, which the representability check has tested: names of at most
+-- 2,048 bytes, snapshot ids of at most 256, counts of at most nine
 
+-- of an open request
 pub record ReplacementFits (r : VoterReplacementRecord) : Type 0 where
   pub candidate : r .attestation .«candidate_spiffe_id» .len ≤ 2048
   pub controller : r .attestation .«controller_spiffe_id» .len ≤ 2048
@@ -253,6 +268,7 @@ pub record ReplacementFits (r : VoterReplacementRecord) : Type 0 where
   pub successor : r .successor .count ≤ 9
   pub snapshot : r .evidence .snapshot .«snapshot_id» .len ≤ 256
 
+-- of a table
 pub record TableFits (t : VoterSlotTable) : Type 0 where
   pub count : t .count ≤ 9
   pub replacement : ReplacementFits (t .replacement)
