@@ -1,7 +1,7 @@
 -- Commands: document 01, section "Commands", and `apply_control` of control.rs with what it calls,
 -- in its order. What stands in quotes is document 01's. The tests give an Answer; a call is a
--- Decision: refused, unchanged, or a next table. The decision is then settled by the successor
--- check. Each change of the table is a definition of its own.
+-- Decision: refused, unchanged, or a next table. A next table is then held to the successor check.
+-- Each change of the table is a definition of its own.
 -- Assumes nothing.
 use Prim.Native.Nat.{ℕ, _+_, _-_, _^_}
 use mathlib.Core.Bool.{Bool, true, false, cond, not, _&&_, _||_}

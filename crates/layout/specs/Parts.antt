@@ -1,7 +1,7 @@
 -- Groups of fields that stand together in the bytes, their blanks, and the records made of them and
 -- taken apart into them.
--- They are no records of document 01 or of the Rust: they keep every reader at five fields or fewer.
--- The order of the fields is that of codec.rs.
+-- They are no records of document 01 or of the Rust: they keep every reader at five fields or
+-- fewer. The order of the fields is that of codec.rs.
 -- Assumes nothing.
 use Prim.Native.Nat.{ℕ, _≤_}
 use mathlib.Core.Bool.{Bool, false}

@@ -1,6 +1,6 @@
--- Rows of the replay program: what it prints of a log, byte for byte, and of each record the mark, the
--- answer and the revision afterwards. Document 01, section "Replay program". Cases has them in its one
--- table, and its theorem covers them.
+-- Rows of the replay program: what it prints of a log, byte for byte, and of each record the mark,
+-- the answer and the revision afterwards. Document 01, section "Replay program". Cases has them in
+-- its one table, and its theorem covers them.
 -- Assumes nothing.
 use Prim.Native.Nat.{ℕ, _/_, _%_}
 use mathlib.Core.List.{List, [], _∷_, _++_}
@@ -161,8 +161,8 @@ replayRows =
     -- its body
     ∷ plays (mk 1 ++ entry tbMark [] ++ tb ++ entry tbMark [])
     (shows mkMark 33 0 ++ shows tbMark 6 0 ++ shows tbMark 0 1 ++ shows tbMark 33 1)
-    -- a body that is too short; a step byte of 5; a byte too many; and a fence that is read, with no
-    -- request open
+    -- a body that is too short; a step byte of 5; a byte too many; and a fence that is read, with
+    -- no request open
     ∷ plays (tb ++ entry mkMark [] ++ ad 1 (5 ∷ []) ++ ad 1 (3 ∷ 0 ∷ []) ++ ad 1 (3 ∷ []))
     (shows tbMark 0 1 ++ shows mkMark 33 1 ++ shows adMark 33 1 ++ shows adMark 33 1 ++ shows adMark 13 1)
     -- a snapshot id that is not UTF-8, and one of 257 bytes: 30; one of 256 bytes, and one that is

@@ -1,8 +1,8 @@
--- The table and the attestation of OrderBytes, field by field: what must be read from those bytes. No
--- two fields hold the same unless validity asks for it, so that two fields which changed places in the
--- format, the reader and the writer alike are seen. OrderLaws has the theorems.
--- Document 01, "Ported": the records of records.rs in the bytes of codec.rs. The values are those of
--- `oracle/oracle/src/ordered.rs`.
+-- The table and the attestation of OrderBytes, field by field: what must be read from those bytes.
+-- No two fields hold the same unless validity asks for it, so that two fields which changed places
+-- in the format, the reader and the writer alike are seen. OrderLaws has the theorems.
+-- Document 01, "Ported": the records of records.rs in the bytes of codec.rs. The values are those
+-- of `oracle/oracle/src/ordered.rs`.
 -- Assumes nothing.
 use Prim.Native.Nat.{ℕ}
 use mathlib.Core.Bool.{true, false}
