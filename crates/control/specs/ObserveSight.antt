@@ -18,7 +18,7 @@ use Rattle.identity.specs.declared.answer.Answer.the-variants.{Accepted, Invali
 use Rattle.records.specs.declared.records.VoterReplacementRecord.{VoterReplacementRecord}
 use Rattle.records.specs.declared.records.VoterSlotLogId.{VoterSlotLogId}
 use Rattle.records.specs.declared.records.VoterSlotTable.{VoterSlotTable}
-use Rattle.records.specs.Records.{joint, learnerAdded, snapshotInstalled, uniform}
+use Rattle.records.specs.Records.{maxFixedVoterSlots, joint, learnerAdded, snapshotInstalled, uniform}
 use Rattle.records.specs.Representable.{representable}
 use Rattle.records.specs.Validation.{validity}
 use Rattle.control.specs.declared.observe.Observed.{Observed}
@@ -112,10 +112,11 @@ seenOf op old new ids counts nodes =
 
 -- ---- what the tests of the sets ask for
 
--- no count that the code goes by is above nine (`maxFixedVoterSlots`)
+-- no count that the code goes by is above nine
 abbrev pub fewMembers : VoterSlotTable → Bool
 fewMembers t =
-    leb (t .count) 9 && (not (t .«has_replacement») || (leb (t .replacement .predecessor .count) 9 && leb (t .replacement .successor .count) 9))
+    leb (t .count) maxFixedVoterSlots
+    && (not (t .«has_replacement») || (leb (t .replacement .predecessor .count) maxFixedVoterSlots && leb (t .replacement .successor .count) maxFixedVoterSlots))
 
 -- what is supplied, past 30 and 31
 pub record Supplied (ids counts nodes : List ℕ) : Type 0 where
@@ -181,4 +182,4 @@ isChange (moves m) = true
 
 -- what its maker asks for: a revision that is not full, nine places, and the slot being replaced
 abbrev pub Room : VoterSlotTable → Type 0
-Room t = (t .revision ≡ full → ⊥) × ((t .count ≤ 9) × (targetIndex t < t .count))
+Room t = (t .revision ≡ full → ⊥) × ((t .count ≤ maxFixedVoterSlots) × (targetIndex t < t .count))

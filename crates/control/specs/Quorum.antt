@@ -27,6 +27,7 @@
 -- APPENDED: between the two it may count by a configuration that no table shows yet. What the
 -- engine does then, that its voters are otherwise those of the table, that it counts as `isQuorum`
 -- does, and that it asks the retired test before it takes a vote, is the service's part.
+-- `isRetired` is the retired test's yes on a valid table (`valid-yes` of RetiredLaws).
 -- Assumes nothing.
 use Prim.Native.Nat.{ℕ, _+_, _*_, _≤_, _<_}
 use mathlib.Core.Path.{_≡_}

@@ -109,14 +109,17 @@ unchecked r =
 
 -- ---- calls
 
+-- a call with its values
 pub data Act : Type 0 where
   commands : VoterSlotControl → VoterSlotLogId → Act
   observes : (ids counts nodes : List ℕ) → VoterSlotLogId → Act
 
+-- what it gives, by the definitions of `apply_control` and `observe_membership`
 abbrev pub does : Act → VoterSlotTable → Answer × VoterSlotTable
 does (commands c at) t = applyControl t c at
 does (observes ids counts nodes at) t = observeMembership t ids counts nodes at
 
+-- a Begin
 abbrev pub begins : VoterReplacementRequest → VoterSlotLogId → Act
 begins r at =
     commands (record { kind = beginKind; request = r; «request_id» = blankRequestId; «request_digest» = blankRequestDigest; step = blankVoterReplacementStep }) at
@@ -131,9 +134,11 @@ abbrev pub mixed : (kind : ℕ) → VoterReplacementRequest → (id : ℕ) → V
 mixed kind r id at =
     commands (record { kind = kind; request = r; «request_id» = replicate 16 id; «request_digest» = blankRequestDigest; step = blankVoterReplacementStep }) at
 
+-- a Marker
 abbrev pub marks : (id : ℕ) → VoterSlotLogId → Act
 marks id at = names markerKind id id blankVoterReplacementStep at
 
+-- a step of these parts
 abbrev pub stepWith : ℕ → VoterSnapshotEvidence → VoterSlotLogId → VoterReplacementStep
 stepWith kind snapshot mark = record { kind = kind; snapshot = snapshot; «caught_up» = mark }
 
@@ -141,6 +146,7 @@ stepWith kind snapshot mark = record { kind = kind; snapshot = snapshot; «caugh
 abbrev pub bare : ℕ → VoterReplacementStep
 bare kind = stepWith kind blankVoterSnapshotEvidence (cut 0 0)
 
+-- a snapshot at that cut, with the id `s`
 abbrev pub snapshotAt : VoterSlotLogId → VoterSnapshotEvidence
 snapshotAt at = record { cut = at; «snapshot_id» = record { len = 1; bytes = 115 ∷ replicate 255 0 }; digest = key 4 }
 
@@ -176,9 +182,11 @@ rowsOf t (makes act next ∷ responses) = is-outcome (does act t) 0 next ∷ row
 
 -- ---- request 21: slot 2 of three, in incarnation 2; from its Begin to Finalize
 
+-- the table before it
 abbrev pub start : VoterSlotTable
 start = freshTable 3
 
+-- its request, for revision 1 and epoch 1
 abbrev pub first : VoterReplacementRequest
 first = request 1 1 21 2 1 2 9 5
 
@@ -196,10 +204,12 @@ both = 1 ∷ 2 ∷ 3 ∷ 65538 ∷ []
 abbrev pub around : VoterSlotRecord → List VoterSlotRecord
 around two = freshSlot 1 ∷ two ∷ freshSlot 3 ∷ replicate 6 blankVoterSlotRecord
 
+-- the configuration of that epoch, with this member in slot 2
 abbrev pub configurationWith : ℕ → VoterSlotMember → VoterConfiguration
 configurationWith epoch two =
     record { epoch = epoch; members = memberWith 1 1 1 1 ∷ two ∷ memberWith 3 1 3 1 ∷ replicate 6 blankVoterSlotMember; count = 3 }
 
+-- a table of these parts, with this request open
 abbrev pub openWith : (revision epoch : ℕ) → List VoterSlotRecord → VoterReplacementRecord → VoterSlotTable
 openWith revision epoch slots op = tableWith start revision epoch slots true op
 
@@ -215,6 +225,7 @@ operationOf revision a candidate phase evidence =
       evidence = evidence;
     }
 
+-- with request 21 open, in these phases
 abbrev pub openFirst : (revision epoch slotPhase phase : ℕ) → VoterReplacementEvidence → VoterSlotTable
 openFirst revision epoch slotPhase phase evidence =
     openWith revision epoch (around (slotWith (memberWith 2 2 9 5) 1 slotPhase false blankVoterReplacementResult))
@@ -226,6 +237,7 @@ prepareAt at =
     evidenceWith at false blankVoterSnapshotEvidence blankOptionalLogId blankOptionalLogId blankOptionalLogId blankOptionalLogId blankOptionalLogId
     blankOptionalLogId
 
+-- after its Begin, and after each step up to Finalize
 abbrev pub isPrepared : VoterSlotTable
 isPrepared = openFirst 2 1 pending prepared (prepareAt (cut 2 10))
 
@@ -278,6 +290,7 @@ isUniform =
     (evidenceWith (cut 2 10) true (snapshotAt (cut 2 10)) (present (cut 2 12)) (present (cut 2 16)) (present (cut 2 18)) (present (cut 2 19)) (present (cut 2 21))
     (present (cut 2 22)))
 
+-- a receipt of these parts; the digest is told by the id's byte
 abbrev pub receiptWith : (id incarnation revision epoch kind : ℕ) → VoterSlotLogId → VoterReplacementResult
 receiptWith id incarnation revision epoch kind terminal =
     record {
@@ -298,14 +311,17 @@ replacedSlot = slotWith (memberWith 2 2 9 5) 1 voting true (receiptWith 21 2 11 
 abbrev pub isFinalizedAt : ℕ → VoterSlotTable
 isFinalizedAt revision = idleWith revision 2 3 (around replacedSlot)
 
+-- after Finalize
 abbrev pub isFinalized : VoterSlotTable
 isFinalized = isFinalizedAt 11
 
 -- ---- request 25, after it: slot 3, at a lower cut
 
+-- its request, for revision 11 and epoch 2
 abbrev pub next : VoterReplacementRequest
 next = request 11 2 25 3 1 3 9 5
 
+-- after its Begin
 abbrev pub isNext : VoterSlotTable
 isNext =
     openWith 12 2 (freshSlot 1 ∷ replacedSlot ∷ slotWith (memberWith 3 2 9 5) 1 pending false blankVoterReplacementResult ∷ replicate 6 blankVoterSlotRecord)
@@ -321,6 +337,7 @@ isNext =
 
 -- ---- request 26, after it too: slot 2 again, in incarnation 3
 
+-- after its Begin; the receipt of 21 stays
 abbrev pub isReplacedAgain : VoterSlotTable
 isReplacedAgain =
     openWith 12 2 (around (slotWith (memberWith 2 3 10 6) 2 pending true (replacedSlot .«last_result»)))
@@ -335,6 +352,7 @@ isReplacedAgain =
 
 -- ---- requests 22 and 24, of which each supersedes the one before it; 23 is for another slot
 
+-- the three requests
 abbrev pub second : VoterReplacementRequest
 second = request 4 1 22 2 2 9 10 6
 
@@ -355,6 +373,7 @@ openSecond revision slotPhase phase evidence =
     openWith revision 1 (around (slotWith (memberWith 2 3 10 6) 2 slotPhase true (receiptWith 21 2 5 1 superseded (cut 2 14))))
     (operationOf 4 (attest 22 2 2 9 10 6) (memberWith 2 3 10 6) phase evidence)
 
+-- 22 after its Begin, and after two steps
 abbrev pub isSuperseded : VoterSlotTable
 isSuperseded = openSecond 5 pending prepared (prepareAt (cut 2 14))
 
@@ -378,6 +397,7 @@ isSupersededAgain =
 
 -- ---- Fenced, with no continuation
 
+-- after the fence
 abbrev pub isFencedAlone : VoterSlotTable
 isFencedAlone =
     openFirst 7 1 catchingUp fenced

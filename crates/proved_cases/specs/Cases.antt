@@ -46,10 +46,12 @@ use Rattle.proved_cases.specs.ControlRows.{wholeReplacement, supersessio
 abbrev pub slotBytes : ℕ → List ℕ
 slotBytes slot = (0 ∷ slot ∷ replicate 7 0) ++ (1 ∷ replicate 79 0) ++ (1 ∷ voting ∷ 0 ∷ [])
 
+-- so many slots from that number on
 abbrev pub slotsBytes : ℕ → ℕ → List ℕ
 slotsBytes slot zero = []
 slotsBytes slot (suc n) = slotBytes slot ++ slotsBytes (slot + 1) n
 
+-- the whole table
 abbrev pub bytesOf : ℕ → List ℕ
 bytesOf n = magic ++ (0 ∷ 1 ∷ replicate 71 0) ++ (1 ∷ replicate 7 0) ++ (1 ∷ n ∷ slotsBytes 1 n) ++ (0 ∷ [])
 
@@ -66,6 +68,7 @@ restartNumber t room = restartOutcome t (replicate room 0) .0 .0
 
 -- ---- the table
 
+-- each row a case of document 01, or a call of control or a log
 abbrev pub rows : List Row
 rows =
     -- slot 1, incarnation 2: node 65,537

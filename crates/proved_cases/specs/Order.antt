@@ -30,6 +30,7 @@ use Rattle.proved_cases.specs.OrderBytes.{filled}
 
 -- ---- members and receipts
 
+-- slot 259
 abbrev pub firstMember : VoterSlotMember
 firstMember =
     record { identity = identityOf 259 21; «key_digest» = filled 32 0x31; «descriptor_digest» = filled 32 0x41; «admission_generation» = 351 }
@@ -44,10 +45,12 @@ abbrev pub secondMember : VoterSlotMember
 secondMember =
     record { identity = identityOf 516 42; «key_digest» = filled 32 0x32; «descriptor_digest» = filled 32 0x42; «admission_generation» = 352 }
 
+-- slot 773
 abbrev pub thirdMember : VoterSlotMember
 thirdMember =
     record { identity = identityOf 773 63; «key_digest» = filled 32 0x33; «descriptor_digest» = filled 32 0x43; «admission_generation» = 353 }
 
+-- with the receipt of its own incarnation
 abbrev pub firstSlot : VoterSlotRecord
 firstSlot =
     record {
@@ -87,6 +90,7 @@ secondSlot =
           };
     }
 
+-- as the first
 abbrev pub thirdSlot : VoterSlotRecord
 thirdSlot =
     record {
@@ -116,6 +120,7 @@ candidateName = record { len = 12; bytes = scheme ++ (0x61 ∷ 0x2F ∷ 0x62 ∷
 abbrev pub controllerName : SpiffeId
 controllerName = record { len = 10; bytes = scheme ++ (0x63 ∷ []) ++ filled 2038 0 }
 
+-- eighteen fields, no two alike
 unfoldable pub orderedAttestation : LostVoterAttestationV1
 orderedAttestation =
     record {
@@ -141,6 +146,7 @@ orderedAttestation =
 
 -- ---- the open request
 
+-- the configurations differ in slot 516
 abbrev pub orderedPredecessor : VoterConfiguration
 orderedPredecessor = record { epoch = 514; members = firstMember ∷ replacedMember ∷ thirdMember ∷ replicate 6 blankVoterSlotMember; count = 3 }
 
@@ -151,9 +157,11 @@ orderedSuccessor = record { epoch = 515; members = firstMember ∷ secondMember 
 abbrev pub snapshotName : SnapshotId
 snapshotName = record { len = 4; bytes = (0x73 ∷ 0x6E ∷ 0x61 ∷ 0x70 ∷ []) ++ filled 252 0 }
 
+-- a cut that is present
 abbrev pub presentCut : ℕ → ℕ → OptionalLogId
 presentCut term index = record { «is_some» = true; cut = cut term index }
 
+-- every cut is present, and no two are alike
 abbrev pub orderedEvidence : VoterReplacementEvidence
 orderedEvidence =
     record {
@@ -168,6 +176,7 @@ orderedEvidence =
       uniform = presentCut 617 627;
     }
 
+-- in phase Uniform
 abbrev pub orderedRequest : VoterReplacementRecord
 orderedRequest =
     record {
@@ -181,6 +190,7 @@ orderedRequest =
 
 -- ---- the table
 
+-- revision and epoch, and the three slots
 unfoldable pub orderedTable : VoterSlotTable
 orderedTable =
     record {
