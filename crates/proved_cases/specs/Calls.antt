@@ -139,12 +139,12 @@ abbrev pub marks : (id : ℕ) → VoterSlotLogId → Act
 marks id at = names markerKind id id blankVoterReplacementStep at
 
 -- a step of these parts
-abbrev pub stepWith : ℕ → VoterSnapshotEvidence → VoterSlotLogId → VoterReplacementStep
-stepWith kind snapshot mark = record { kind = kind; snapshot = snapshot; «caught_up» = mark }
+abbrev pub stepBy : ℕ → VoterSnapshotEvidence → VoterSlotLogId → VoterReplacementStep
+stepBy kind snapshot mark = record { kind = kind; snapshot = snapshot; «caught_up» = mark }
 
 -- a step with no part
 abbrev pub bare : ℕ → VoterReplacementStep
-bare kind = stepWith kind blankVoterSnapshotEvidence (cut 0 0)
+bare kind = stepBy kind blankVoterSnapshotEvidence (cut 0 0)
 
 -- a snapshot at that cut, with the id `s`
 abbrev pub snapshotAt : VoterSlotLogId → VoterSnapshotEvidence
@@ -152,10 +152,10 @@ snapshotAt at = record { cut = at; «snapshot_id» = record { len = 1; bytes = 1
 
 -- each step: of request id, with its part, at a cut
 abbrev pub snapshots : ℕ → (taken at : VoterSlotLogId) → Act
-snapshots id taken at = names advanceKind id id (stepWith recordSnapshotKind (snapshotAt taken) (cut 0 0)) at
+snapshots id taken at = names advanceKind id id (stepBy recordSnapshotKind (snapshotAt taken) (cut 0 0)) at
 
 abbrev pub catches : ℕ → (mark at : VoterSlotLogId) → Act
-catches id mark at = names advanceKind id id (stepWith recordCaughtUpKind blankVoterSnapshotEvidence mark) at
+catches id mark at = names advanceKind id id (stepBy recordCaughtUpKind blankVoterSnapshotEvidence mark) at
 
 abbrev pub continues : ℕ → VoterSlotLogId → Act
 continues id at = names advanceKind id id (bare recordContinuationKind) at

@@ -21,7 +21,7 @@ use Rattle.control.specs.Retired.{retiredTest, retiredNumber}
 use Rattle.proved_cases.specs.Row.{Row}
 use Rattle.proved_cases.specs.Row.Row.{is-number, is-yes, is-no}
 use Rattle.proved_cases.specs.Tables.{cut, memberWith, freshSlot, placesOf, idleWith, freshTable}
-use Rattle.proved_cases.specs.Calls.{attestOf, requestOf, candidateOf, request, unchecked, Act, begins, names, mixed, marks, bare, stepWith, snapshotAt, snapshots, catches, continues, fences, finalizes, rowsOf, start, first, old, new, both, around, openSecond, isPrepared, isInstalled, hasLearnerAt, hasLearner, isCaughtUp, isContinued, isFenced, isJointTable, isUniform, isFinalizedAt, isFinalized, next, isNext, isReplacedAgain, isFencedAlone, second, otherSlot, third, bothNext, isSuperseded, isSecondInstalled, hasSecondLearner, isSupersededAgain, preparedWith, candidateIn, pendingOf, attestedLast, epochFull}
+use Rattle.proved_cases.specs.Calls.{attestOf, requestOf, candidateOf, request, unchecked, Act, begins, names, mixed, marks, bare, stepBy, snapshotAt, snapshots, catches, continues, fences, finalizes, rowsOf, start, first, old, new, both, around, openSecond, isPrepared, isInstalled, hasLearnerAt, hasLearner, isCaughtUp, isContinued, isFenced, isJointTable, isUniform, isFinalizedAt, isFinalized, next, isNext, isReplacedAgain, isFencedAlone, second, otherSlot, third, bothNext, isSuperseded, isSecondInstalled, hasSecondLearner, isSupersededAgain, preparedWith, candidateIn, pendingOf, attestedLast, epochFull}
 use Rattle.proved_cases.specs.Calls.Act.{observes}
 use Rattle.proved_cases.specs.Calls.Response.{gives, makes}
 
@@ -277,9 +277,9 @@ advanceOrder =
     -- 30 and a cut of zeros: no step is of kind 5; a Finalize has no mark; a Marker has no step; a
     -- Finalize has no snapshot; a Marker has no request; no command is of kind 3
     (gives (names advanceKind 21 21 (bare 5) (cut 0 0)) 30
-    ∷ gives (names advanceKind 21 21 (stepWith finalizeKind blankVoterSnapshotEvidence (cut 1 1)) (cut 0 0)) 30
+    ∷ gives (names advanceKind 21 21 (stepBy finalizeKind blankVoterSnapshotEvidence (cut 1 1)) (cut 0 0)) 30
     ∷ gives (names markerKind 21 21 (bare recordCaughtUpKind) (cut 0 0)) 30
-    ∷ gives (names advanceKind 21 21 (stepWith finalizeKind (snapshotAt (cut 1 1)) (cut 0 0)) (cut 0 0)) 30
+    ∷ gives (names advanceKind 21 21 (stepBy finalizeKind (snapshotAt (cut 1 1)) (cut 0 0)) (cut 0 0)) 30
     ∷ gives (mixed markerKind first 21 (cut 0 0)) 30
     ∷ gives (names 3 21 21 blankVoterReplacementStep (cut 0 0)) 30
     -- 13 and 14: another id and another digest; 14 and the cut of prepare
