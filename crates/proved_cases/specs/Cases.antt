@@ -23,7 +23,7 @@ use Rattle.records.specs.Representable.{representableMember, representableResul
 use Rattle.records.specs.Validation.{validResult, validSlot, validSlots, validity, validate, validConfiguration, validAttestation, validOperationHead, isCurrentEpoch, validOperation, retiredMember, validTarget, validateMember, validateMembers, validateOperation}
 use Rattle.records.specs.declared.records.VoterSlotTable.{VoterSlotTable}
 use Rattle.layout.specs.Layout.{table, magicAndVersion, headTest, tableHead, epoch, slotCount, slots, slot, slotMember, identity, slotId, incarnation, binding, choice, result, magic, configuration, members, member, resultHead, version, claims, claimsEnd, claimsNames, claimsSlot, claimsRequest, times, attestation, spiffeId, snapshotId, string, sized, logId, optionalLogId, snapshot, evidence, threeCuts, change, replacement}
-use Rattle.codec.specs.Codec.{decodeVoterSlotTable, tableBytes, encodeVoterSlotTable, restarted, restartOutcome, bounded, decoded as answered, decodeLostVoterAttestation}
+use Rattle.codec.specs.Codec.{decodeVoterSlotTable, tableBytes, encodeVoterSlotTable, restarted, restartOutcome, bounded, decoded, decodeLostVoterAttestation}
 use Rattle.records.specs.Successor.{resultSucceeds, slotSucceeds, requestSucceeds, ownReceipt, requestEnded, endedSucceeds, replacementSucceeds, headSucceeds, succession, validateSuccessorOf}
 use Rattle.control.specs.Control.{settle, representableStep, representableControl, currentConfiguration, validRequest, requestCheck, isOpenRequest, receiptIndex, knownDigest, repeated, openCheck, isExpected, isCurrent, candidateCheck, fullCheck, beginCheck, begunSlot, begunOperation, begin, recordSnapshot, recordCaughtUp, recordContinuation, fence, finalizedSlot, finalize, isCompleted, takeStep, advanceOpen, advance, marker, decide, applyControl}
 use Rattle.control.specs.Blank.{blankConsensusIdentity, blankVoterReplacementRequest, blankVoterReplacementStep, sameConsensusIdentity, sameVoterReplacementRequest, sameVoterReplacementStep}
@@ -31,7 +31,7 @@ use Rattle.control.specs.Observation.{isRising, allRising, insertId, contains, 
 use Rattle.control.specs.Retired.{isRetiredIdentity, retiredTest}
 use Rattle.control.specs.Quorum.{countsIn, among, isMajority, isQuorum}
 use Rattle.journal.specs.Records.{sizedBytes, counted, markerBody, noSnapshotPart, snapshotPart, stepBody, advanceBody, anyIdentity, candidate, expected, beginHead, beginBody, nodeIds, nodeSets, observationBody, markOf, knownMark, frame}
-use Rattle.journal.specs.Replay.{markerControl, markerAsked, snapshotIdOf, snapshotOf, stepOf, advanceOf, advanceControl, advanceAsked, beginOf, beginControl, beginAsked, observationAsked, formed, attested, asking, answered as answered-call, called, opened, opening, step, firstEntry, entriesIn, entries, run, ended, decimalIn, decimal, revisionOf, lineOf, lines, replayFrom, replay}
+use Rattle.journal.specs.Replay.{markerControl, markerAsked, snapshotIdOf, snapshotOf, stepOf, advanceOf, advanceControl, advanceAsked, beginOf, beginControl, beginAsked, observationAsked, formed, attested, asking, answered, called, opened, opening, step, firstEntry, entriesIn, entries, run, ended, decimalIn, decimal, revisionOf, lineOf, lines, replayFrom, replay}
 use Rattle.proved_cases.specs.Row.{Row, EveryRow, everyRow}
 use Rattle.proved_cases.specs.Row.Row.{is-number, is-yes, is-no}
 use Rattle.proved_cases.specs.Tables.{cut, freshTable}
@@ -57,11 +57,11 @@ bytesOf n = magic ++ (0 ∷ 1 ∷ replicate 71 0) ++ (1 ∷ replicate 7 0) ++ (1
 
 -- The number that reading the bytes of a table gives.
 abbrev pub readNumber : List ℕ → ℕ
-readNumber bs = answered blankVoterSlotTable (decodeVoterSlotTable bs) .0
+readNumber bs = decoded blankVoterSlotTable (decodeVoterSlotTable bs) .0
 
 -- The number that writing a table into so many bytes gives, and a restart with such a buffer.
 abbrev pub writeNumber : VoterSlotTable → ℕ → ℕ
-writeNumber t room = answered [] (encodeVoterSlotTable t (replicate room 0)) .0
+writeNumber t room = decoded [] (encodeVoterSlotTable t (replicate room 0)) .0
 
 abbrev pub restartNumber : VoterSlotTable → ℕ → ℕ
 restartNumber t room = restartOutcome t (replicate room 0) .0 .0
@@ -132,5 +132,5 @@ rows =
 -- ---- the theorem
 
 pub cases : EveryRow rows
-unfolding validateVoterIncarnation validateVoterSlotIdentity newVoterSlotIdentity nodeId fromNodeId isIn startsWith isName fits widthIn decodedChar charsFrom allChars eqList allTrue sameVoterSlotIdentity sameSpiffeId sameSnapshotId sameVoterSlotLogId sameOptionalLogId sameVoterSlotMember sameVoterReplacementResult sameVoterSlotRecord sameVoterSnapshotEvidence sameVoterConfiguration sameLostVoterAttestationV1 sameVoterReplacementEvidence sameVoterReplacementRecord blankVoterSlotIdentity blankSpiffeId blankSnapshotId blankVoterSlotLogId blankOptionalLogId blankVoterSlotMember blankVoterReplacementResult blankVoterSlotRecord blankVoterSnapshotEvidence blankVoterConfiguration blankLostVoterAttestationV1 blankVoterReplacementEvidence blankVoterReplacementRecord allBelow representableMember representableResult representableSlotRecord representable follows validResult validSlot validSlots validity validate validateSlotId decodeVoterSlotTable bounded andThen whole pick gate answered tableBytes encodeVoterSlotTable restarted restartOutcome be encVec table magicAndVersion headTest via check dep raw decSeq decCheck decMap decRaw uint held decUint val tableHead epoch slotCount slots slot slotMember identity slotId incarnation binding choice result opt either always flag flagTest padded vec decVec isUtf8 isSnapshotId every blankVoterSlotTable sameVoterSlotTable firstFrom validStage stageOr validStages inOrder validContinuation validEvidence retainsCut retainsMarker retainsCuts retains laterOf latest isText representableOptionalLogId representableConfiguration representableAttestation representableEvidence representableReplacement validConfiguration validAttestation validOperationHead isCurrentEpoch validOperation retiredMember validTarget validateMember validateMembers validateOperation resultSucceeds slotSucceeds requestSucceeds ownReceipt requestEnded endedSucceeds replacementSucceeds headSucceeds succession validateSuccessorOf settle blankConsensusIdentity blankVoterReplacementRequest blankVoterReplacementStep sameConsensusIdentity sameVoterReplacementRequest sameVoterReplacementStep representableStep representableControl currentConfiguration validRequest requestCheck isOpenRequest receiptIndex knownDigest repeated openCheck isExpected isCurrent candidateCheck fullCheck beginCheck begunSlot begunOperation begin recordSnapshot recordCaughtUp recordContinuation fence finalizedSlot finalize isCompleted takeStep advanceOpen advance marker decide applyControl isRising allRising insertId contains unionIds difference splitSets total representableSets memberIdsBelow isObsolete mayLinger seePredecessor seeSets seeFrom observed observe observeMembership isRetiredIdentity retiredTest countsIn among isMajority isQuorum configuration members member resultHead version claims claimsEnd claimsNames claimsSlot claimsRequest times attestation spiffeId snapshotId string sized logId optionalLogId snapshot evidence threeCuts change replacement decodeLostVoterAttestation nextVoterIncarnation sizedBytes counted markerBody noSnapshotPart snapshotPart stepBody advanceBody anyIdentity candidate expected beginHead beginBody nodeIds nodeSets observationBody markOf knownMark frame markerControl markerAsked snapshotIdOf snapshotOf stepOf advanceOf advanceControl advanceAsked beginOf beginControl beginAsked observationAsked formed attested asking answered-call called opened opening step firstEntry entriesIn entries run ended decimalIn decimal revisionOf lineOf lines replayFrom replay flatten
+unfolding validateVoterIncarnation validateVoterSlotIdentity newVoterSlotIdentity nodeId fromNodeId isIn startsWith isName fits widthIn decodedChar charsFrom allChars eqList allTrue sameVoterSlotIdentity sameSpiffeId sameSnapshotId sameVoterSlotLogId sameOptionalLogId sameVoterSlotMember sameVoterReplacementResult sameVoterSlotRecord sameVoterSnapshotEvidence sameVoterConfiguration sameLostVoterAttestationV1 sameVoterReplacementEvidence sameVoterReplacementRecord blankVoterSlotIdentity blankSpiffeId blankSnapshotId blankVoterSlotLogId blankOptionalLogId blankVoterSlotMember blankVoterReplacementResult blankVoterSlotRecord blankVoterSnapshotEvidence blankVoterConfiguration blankLostVoterAttestationV1 blankVoterReplacementEvidence blankVoterReplacementRecord allBelow representableMember representableResult representableSlotRecord representable follows validResult validSlot validSlots validity validate validateSlotId decodeVoterSlotTable bounded andThen whole pick gate decoded tableBytes encodeVoterSlotTable restarted restartOutcome be encVec table magicAndVersion headTest via check dep raw decSeq decCheck decMap decRaw uint held decUint val tableHead epoch slotCount slots slot slotMember identity slotId incarnation binding choice result opt either always flag flagTest padded vec decVec isUtf8 isSnapshotId every blankVoterSlotTable sameVoterSlotTable firstFrom validStage stageOr validStages inOrder validContinuation validEvidence retainsCut retainsMarker retainsCuts retains laterOf latest isText representableOptionalLogId representableConfiguration representableAttestation representableEvidence representableReplacement validConfiguration validAttestation validOperationHead isCurrentEpoch validOperation retiredMember validTarget validateMember validateMembers validateOperation resultSucceeds slotSucceeds requestSucceeds ownReceipt requestEnded endedSucceeds replacementSucceeds headSucceeds succession validateSuccessorOf settle blankConsensusIdentity blankVoterReplacementRequest blankVoterReplacementStep sameConsensusIdentity sameVoterReplacementRequest sameVoterReplacementStep representableStep representableControl currentConfiguration validRequest requestCheck isOpenRequest receiptIndex knownDigest repeated openCheck isExpected isCurrent candidateCheck fullCheck beginCheck begunSlot begunOperation begin recordSnapshot recordCaughtUp recordContinuation fence finalizedSlot finalize isCompleted takeStep advanceOpen advance marker decide applyControl isRising allRising insertId contains unionIds difference splitSets total representableSets memberIdsBelow isObsolete mayLinger seePredecessor seeSets seeFrom observed observe observeMembership isRetiredIdentity retiredTest countsIn among isMajority isQuorum configuration members member resultHead version claims claimsEnd claimsNames claimsSlot claimsRequest times attestation spiffeId snapshotId string sized logId optionalLogId snapshot evidence threeCuts change replacement decodeLostVoterAttestation nextVoterIncarnation sizedBytes counted markerBody noSnapshotPart snapshotPart stepBody advanceBody anyIdentity candidate expected beginHead beginBody nodeIds nodeSets observationBody markOf knownMark frame markerControl markerAsked snapshotIdOf snapshotOf stepOf advanceOf advanceControl advanceAsked beginOf beginControl beginAsked observationAsked formed attested asking answered called opened opening step firstEntry entriesIn entries run ended decimalIn decimal revisionOf lineOf lines replayFrom replay flatten
 cases = everyRow rows tt
