@@ -176,7 +176,8 @@ def test(field):
 
 def equality():
     parts = ['''
--- When two records are the same: each field is, in the order of declaration; arrays element by element. %s
+-- When two records are the same: each field is, in the order of declaration; arrays element by
+-- element. %s
 -- From voter_slots/records.rs and identity.rs: the `PartialEq` that the Rust derives.
 -- Assumes nothing.
 use Prim.Native.Nat.{ℕ}
@@ -662,8 +663,10 @@ def blank_code_value(field):
 
 def blanks():
     spec = ['''
--- The blank of each record: each number 0, each bool false, each byte 0. %s
--- Document 01: "the blank table or blank attestation, all zero"; "2,048 or 256 bytes and a length, zero behind it".
+-- The blank of each record: each number 0, each bool false, each byte 0.
+-- %s
+-- Document 01: "the blank table or blank attestation, all zero"; "2,048 or 256 bytes and a length,
+-- zero behind it".
 -- Assumes nothing.
 use mathlib.Core.Bool.{false}
 use lib.ListN.{replicate}
@@ -946,7 +949,8 @@ def zeros_proof():
 
 def held():
     spec = ['''
--- What every value that the program holds has: each number fits its type, each array has its length. %s
+-- What every value that the program holds has: each number fits its type, each array has its
+-- length. %s
 -- From the types of voter_slots/records.rs and identity.rs: for theorems over all records.
 -- Assumes nothing.
 use Prim.Native.Nat.{ℕ, zero, suc, _<_, _^_}

@@ -28,11 +28,11 @@ maxTableBytes = 65536
 unfoldable pub bounded : {A : Type 0} → ℕ → List ℕ → Res A → Res A
 bounded bound bs r = pick (leb (length bs) bound) r (no tooLarge)
 
--- `decode_voter_slot_table`: the bound, the fields, nothing left over, and then validity.
+-- `decode_voter_slot_table`: the bound (5), the fields, nothing left over (6), and then validity.
 unfoldable pub decodeVoterSlotTable : List ℕ → Res VoterSlotTable
 decodeVoterSlotTable bs = bounded maxTableBytes bs (andThen (whole table bs) (λ t n. gate (numberOf (validity t)) t n))
 
--- `decode_lost_voter_attestation`
+-- `decode_lost_voter_attestation`: the bound (5), the fields and its rule, nothing left over (6)
 unfoldable pub decodeLostVoterAttestation : List ℕ → Res LostVoterAttestationV1
 decodeLostVoterAttestation bs = bounded maxAttestationBytes bs (whole attestation bs)
 
@@ -55,10 +55,12 @@ unfoldable pub decoded : {A : Type 0} → A → Res A → ℕ × A
 decoded blank (ok a n) = (0, a)
 decoded blank (no k) = (k, blank)
 
--- A restart: the writer into a lent buffer, then the reader on exactly the bytes counted.
+-- A restart, of document 01's "Lines of history": the writer into a lent buffer, "then the reader
+-- on exactly the bytes counted"; "it is refused if the writer or the reader refuses".
 unfoldable pub restarted : VoterSlotTable → List ℕ → Res VoterSlotTable
 restarted t buffer = andThen (encodeVoterSlotTable t buffer) (λ b n. decodeVoterSlotTable (take n b))
 
--- What a restart answers, and what it leaves in the buffer.
+-- What a restart answers: the number and the table, the blank one with a refusal. And what it
+-- leaves in the buffer: what the writer does.
 unfoldable pub restartOutcome : VoterSlotTable → List ℕ → (ℕ × VoterSlotTable) × List ℕ
 restartOutcome t buffer = (decoded blankVoterSlotTable (restarted t buffer), outcome buffer (encodeVoterSlotTable t buffer) .1)

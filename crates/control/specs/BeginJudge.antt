@@ -1,6 +1,7 @@
 -- What the functions of a Begin answer and make, where Control has no name for it: what is found
 -- among the nine places, the parts of the table that is made, and a Begin with its cut.
--- That these come to what Control and Judgement say is proved in BeginJudgeLaws.
+-- From `begin` of control.rs, as the code cuts it. That these come to what Control and Judgement
+-- say is proved in BeginJudgeLaws.
 -- Assumes nothing.
 use Prim.Native.Nat.{ℕ}
 use mathlib.Core.Bool.{Bool, cond, false, not, _&&_, _||_}
@@ -66,13 +67,16 @@ newerThan r m = ltb (m .«admission_generation») (r .candidate .«admission_gen
 
 -- ---- the parts of the table that is made, each of the parts that its function takes
 
+-- the receipt of the slot: that of the request that is superseded, or the one that it has
 abbrev pub receiptLeft : VoterSlotTable → VoterSlotLogId → VoterSlotRecord → VoterReplacementResult
 receiptLeft t cut old = cond (t .«has_replacement») (receiptOf t old superseded cut) (old .«last_result»)
 
+-- `begunSlot` of Control, from the slot that was there
 abbrev pub slotFrom : VoterSlotTable → VoterReplacementRequest → VoterSlotLogId → VoterSlotRecord → VoterSlotRecord
 slotFrom t r cut old =
     slotWith (r .candidate) (r .attestation .«expected_incarnation») pending (t .«has_replacement» || old .«has_last_result») (receiptLeft t cut old)
 
+-- the evidence of a request that begins: prepare, and nothing else
 unfoldable pub preparedAt : VoterSlotLogId → VoterReplacementEvidence
 preparedAt cut =
     let none = blankOptionalLogId in
@@ -80,6 +84,7 @@ preparedAt cut =
 
 -- ---- a Begin on a valid table: the answer and the table
 
+-- what a Begin makes; no other change comes out of one
 unfoldable pub beginMade : VoterSlotTable → VoterBegin → Move → VoterSlotTable
 beginMade t b begins = begun t (b .request) (b .cut)
 beginMade t b recordsSnapshot = t
@@ -88,5 +93,6 @@ beginMade t b continues = t
 beginMade t b fences = t
 beginMade t b finalizes = t
 
+-- its verdict, carried out
 abbrev pub beginOutcome : VoterSlotTable → VoterBegin → Answer × VoterSlotTable
 beginOutcome t b = carried (beginMade t b) t (judgeBegin t (b .request) (b .cut))

@@ -1,7 +1,7 @@
 -- Commands: document 01, section "Commands", and `apply_control` of control.rs with what it calls,
 -- in its order. What stands in quotes is document 01's. The tests give an Answer; a call is a
--- Decision: refused, unchanged, or a next table. The decision is then settled by the successor
--- check. Each change of the table is a definition of its own.
+-- Decision: refused, unchanged, or a next table. A next table is then held to the successor check.
+-- Each change of the table is a definition of its own.
 -- Assumes nothing.
 use Prim.Native.Nat.{ℕ, _+_, _-_, _^_}
 use mathlib.Core.Bool.{Bool, true, false, cond, not, _&&_, _||_}
@@ -61,7 +61,8 @@ fenceKind = 3
 abbrev pub finalizeKind : ℕ
 finalizeKind = 4
 
--- "a full revision (2^64 − 1)", and a full epoch
+-- "a full revision (2^64 − 1)", and a full epoch: where the Rust's `next_revision` and `checked_add`
+-- refuse
 abbrev pub full : ℕ
 full = 2 ^ 64 - 1
 
@@ -105,16 +106,16 @@ representableRequest r =
     and representableMember (r .candidate)
     and representableAttestation (r .attestation)
 
--- a step: a kind of the five; the snapshot is RecordSnapshot's, the mark RecordCaughtUp's, where
--- any numbers are one
+-- a step: a kind of the five; only RecordSnapshot has a snapshot, and only RecordCaughtUp a mark,
+-- which may be any cut
 unfoldable pub representableStep : VoterReplacementStep → Bool
 representableStep s =
     leb (s .kind) finalizeKind
     and cond (eqb (s .kind) recordSnapshotKind) (representableSnapshot (s .snapshot)) (sameVoterSnapshotEvidence (s .snapshot) blankVoterSnapshotEvidence)
     and (eqb (s .kind) recordCaughtUpKind || sameVoterSlotLogId (s .«caught_up») blankVoterSlotLogId)
 
--- a command: a kind of the three; the request is a Begin's, id and digest are the others', the step
--- is an Advance's
+-- a command: a kind of the three; only a Begin has a request, only the others have an id and a
+-- digest, and only an Advance has a step
 unfoldable pub representableControl : VoterSlotControl → Bool
 representableControl c =
     leb (c .kind) markerKind
@@ -389,7 +390,7 @@ isCompleted t id digest = not (allBelow (λ i. not (isReceiptOf id digest (slotA
 abbrev pub advanceClosed : VoterSlotTable → (id digest : List ℕ) → VoterReplacementStep → Decision
 advanceClosed t id digest step = cond (eqb (step .kind) finalizeKind && isCompleted t id digest) keep (refuse StaleIncarnation)
 
--- the step, by its kind
+-- the step, by its kind: the `match step` of the Rust
 unfoldable pub takeStep : VoterSlotTable → VoterReplacementStep → VoterSlotLogId → Decision
 takeStep t step cut =
     cond (eqb (step .kind) recordSnapshotKind) (recordSnapshot t (step .snapshot) cut)
@@ -423,7 +424,7 @@ marker t id digest =
 
 -- ---- `apply_control`
 
--- the command, by its kind
+-- the command, by its kind: the `match control` of the Rust
 unfoldable pub decide : VoterSlotTable → VoterSlotControl → VoterSlotLogId → Decision
 decide t c cut =
     cond (eqb (c .kind) beginKind) (begin t (c .request) cut)

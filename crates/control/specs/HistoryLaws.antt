@@ -54,6 +54,7 @@ use Rattle.control.specs.LineLaws.{Views, Went, Step, line}
 use Rattle.control.specs.Observation.{Sight, eqIds, eqSets, isRising, allRising, splitSets, representableSets, memberIds, see, withTarget, raised, keepOr, observed, observe, observeMembership}
 use Rattle.control.specs.Observation.Sight.{strange, nothingNew, newLearner, newJoint, newUniform}
 use Rattle.control.specs.Retired.{isBelowFloor, isRetiredIdentity, isRetired}
+use Rattle.control.specs.RetiredLaws.{valid-yes}
 use Rattle.control.specs.OpenLaws.{open-of-valid}
 use Rattle.control.specs.BeginCheckLaws.{starts}
 use Rattle.control.specs.SightLaws.{Fits, fits-see}
@@ -527,6 +528,12 @@ one =
 
 -- ---- the whole of it
 
+-- what is retired stays retired, by the definition under the retired test
+pub retired-stays : (start : VoterSlotTable) → HeldVoterSlotTable start → validate start ≡ Accepted → (calls : List Call) (i j : ℕ) → i ≤ j → (node : ℕ)
+    → isRetired (tableAt start calls i) node ≡ true → isRetired (tableAt start calls j) node ≡ true
+unfolding views
+retired-stays start h v calls = line after views measure one start (record { held = h; valid = v }) calls .retired
+
 pub history : DemandThree
 unfolding views
 history start h v calls =
@@ -535,7 +542,9 @@ history start h v calls =
       same = l .same;
       valid = λ i. l .valid i .valid;
       counted = l .counted;
-      retired = l .retired;
+      retired = λ i j k node e.
+          valid-yes (tableAt start calls j) node (l .valid j .valid) .1
+          (retired-stays start h v calls i j k node (valid-yes (tableAt start calls i) node (l .valid i .valid) .0 e));
       phases = l .phases;
       restarts = λ i. restart-same (tableAt start calls i) (l .valid i);
     }

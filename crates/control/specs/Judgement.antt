@@ -1,7 +1,7 @@
 -- What the calls of Control and Observation come to on a valid table, as tests of numbers, names
--- and cuts: a verdict, which makes nothing, and a making for each change. No next table is
--- validated or compared. Nobody has to believe this page: SettleLaws proves that it is what Control
--- and Observation say (`applies`, `observes`). Code is written after it.
+-- and cuts: a verdict, which makes nothing, and a table for each change. No next table is validated
+-- or compared. Nobody has to believe this page: SettleLaws proves that it is what Control and
+-- Observation say (`applies`, `observes`). The code follows it, function by function.
 -- Assumes nothing.
 use Prim.Native.Nat.{ℕ}
 use mathlib.Core.Bool.{Bool, cond, false, not, true, _&&_, _||_}

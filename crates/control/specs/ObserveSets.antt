@@ -1,6 +1,7 @@
 -- The ids of members and the sets of an observation as the code has them: the members' ids in the
 -- order of their places, and nothing sorted.
--- Definitions for the contracts of `sets`; what is right is said in Observation.
+-- Definitions for the contracts of `sets`; what is right is said in Observation. From the sets of
+-- `observe_membership` of control.rs, without a BTreeSet.
 -- Assumes nothing.
 use Prim.Native.Nat.{ℕ, zero, suc, _-_, _^_}
 use mathlib.Core.Bool.{Bool, cond, not, _&&_}
@@ -40,10 +41,11 @@ slotMembers t = record { epoch = t .«configuration_epoch»; members = map (λ s
 abbrev pub sameIds : List ℕ → List ℕ → Bool
 sameIds a b = isSubset a b && isSubset b a
 
--- one set, of the ids of a list; two sets, of the ids of two
+-- one set, of the ids of a list
 abbrev pub isOneSet : (ids counts set : List ℕ) → Bool
 isOneSet ids counts set = eqb (length counts) 1 && sameIds ids set
 
+-- two sets, of the ids of two lists
 abbrev pub areTwoSets : (ids counts old new : List ℕ) → Bool
 areTwoSets ids counts old new =
     eqb (length counts) 2 and sameIds (take (getD counts 0 0) ids) old and sameIds (drop (getD counts 0 0) ids) new

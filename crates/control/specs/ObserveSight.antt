@@ -18,7 +18,7 @@ use Rattle.identity.specs.declared.answer.Answer.the-variants.{Accepted, Invali
 use Rattle.records.specs.declared.records.VoterReplacementRecord.{VoterReplacementRecord}
 use Rattle.records.specs.declared.records.VoterSlotLogId.{VoterSlotLogId}
 use Rattle.records.specs.declared.records.VoterSlotTable.{VoterSlotTable}
-use Rattle.records.specs.Records.{joint, learnerAdded, snapshotInstalled, uniform}
+use Rattle.records.specs.Records.{maxFixedVoterSlots, joint, learnerAdded, snapshotInstalled, uniform}
 use Rattle.records.specs.Representable.{representable}
 use Rattle.records.specs.Validation.{validity}
 use Rattle.control.specs.declared.observe.Observed.{Observed}
@@ -34,8 +34,9 @@ use Rattle.control.specs.Observation.{Sight, allRising, contains, differ
 use Rattle.control.specs.Observation.Sight.{newJoint, newLearner, newUniform, nothingNew, strange}
 use Rattle.control.specs.ObserveSets.{areTwoSets, firstOf, isOneSet, leastNew, noId, sameIds}
 
--- ---- the code's enums
+-- ---- the code's enums, case by case
 
+-- `Seen`
 abbrev pub sightOf : Seen → Sight
 sightOf Strange = strange
 sightOf NothingNew = nothingNew
@@ -43,6 +44,7 @@ sightOf NewLearner = newLearner
 sightOf NewJoint = newJoint
 sightOf NewUniform = newUniform
 
+-- `Observed`
 abbrev pub verdictOfObserved : Observed → Verdict Addition
 verdictOfObserved (Refuse answer) = refused answer
 verdictOfObserved Keep = kept
@@ -50,12 +52,13 @@ verdictOfObserved AddLearner = moves addsLearner
 verdictOfObserved AddJoint = moves addsJoint
 verdictOfObserved AddUniform = moves addsUniform
 
--- the answer, and the number of what is made, 0 for nothing
+-- the answer
 abbrev pub answerOfObserved : Verdict Addition → Answer
 answerOfObserved (refused answer) = answer
 answerOfObserved kept = Accepted
 answerOfObserved (moves m) = Accepted
 
+-- the number by which the code chooses what is made, 0 for nothing
 abbrev pub routeOfObserved : Verdict Addition → ℕ
 routeOfObserved (refused answer) = 0
 routeOfObserved kept = 0
@@ -112,7 +115,8 @@ seenOf op old new ids counts nodes =
 -- no count that the code goes by is above nine
 abbrev pub fewMembers : VoterSlotTable → Bool
 fewMembers t =
-    leb (t .count) 9 && (not (t .«has_replacement») || (leb (t .replacement .predecessor .count) 9 && leb (t .replacement .successor .count) 9))
+    leb (t .count) maxFixedVoterSlots
+    && (not (t .«has_replacement») || (leb (t .replacement .predecessor .count) maxFixedVoterSlots && leb (t .replacement .successor .count) maxFixedVoterSlots))
 
 -- what is supplied, past 30 and 31
 pub record Supplied (ids counts nodes : List ℕ) : Type 0 where
@@ -131,9 +135,11 @@ judgeKnown t newLearner cut = cond (learnerTest (t .replacement .evidence) cut) 
 judgeKnown t newJoint cut = cond (jointTest (t .replacement .evidence) cut) (moves addsJoint) (refused InvalidTransition)
 judgeKnown t newUniform cut = cond (uniformTest (t .replacement .evidence) cut) (moves addsUniform) (refused InvalidTransition)
 
+-- `observeOpen` of Observation: the slot being replaced is there
 abbrev pub judgeSeen : VoterSlotTable → Sight → VoterSlotLogId → Verdict Addition
 judgeSeen t sight cut = cond (ltb (targetIndex t) (t .count)) (judgeKnown t sight cut) (refused InvalidTransition)
 
+-- `observeClosed` of Observation
 abbrev pub judgeClosed : VoterSlotTable → List (List ℕ) → List ℕ → Verdict Addition
 judgeClosed t sets nodes =
     let current = memberIds (currentConfiguration t) in
@@ -143,6 +149,7 @@ judgeClosed t sets nodes =
 abbrev pub judgeMembers : (members ids counts nodes : List ℕ) → Verdict Addition
 judgeMembers members ids counts nodes = cond (isOneSet ids counts members && sameIds nodes members) kept (refused InvalidTransition)
 
+-- `observe` of Observation: the full revision first
 unfoldable pub judgeSets : VoterSlotTable → List (List ℕ) → List ℕ → VoterSlotLogId → Verdict Addition
 judgeSets t sets nodes cut =
     cond (eqb (t .revision) full) (refused RevisionExhausted)
@@ -167,11 +174,12 @@ abbrev pub entryWeighed : VoterSlotTable → (ids counts nodes : List ℕ) → V
 entryWeighed t ids counts nodes cut =
     cond (representable t) (confirmed (isAccepted (validity t)) (weighed t ids counts nodes cut)) (refused Unrepresentable)
 
--- something is made; what its maker asks for
+-- something is made
 abbrev pub isChange : Verdict Addition → Bool
 isChange (refused answer) = false
 isChange kept = false
 isChange (moves m) = true
 
+-- what its maker asks for: a revision that is not full, nine places, and the slot being replaced
 abbrev pub Room : VoterSlotTable → Type 0
-Room t = (t .revision ≡ full → ⊥) × ((t .count ≤ 9) × (targetIndex t < t .count))
+Room t = (t .revision ≡ full → ⊥) × ((t .count ≤ maxFixedVoterSlots) × (targetIndex t < t .count))

@@ -5,28 +5,29 @@
 --
 -- What it says, of any valid start, any calls and any number of them:
 --   * A retired node counts in a table only while it is the one being replaced there, and no longer
--- from Uniform on; so at most one does (`replaced`, `settled`).
+--     from Uniform on; so at most one does (`replaced`, `settled`).
 --   * A retired node that does not count, counts at no later place of the line (`out`).
 --   * Two quorums of one epoch share a node that counts in both tables, however many calls lie
--- between; so do one in phase Joint and one of the next epoch (`meet`).
+--     between; so do one in phase Joint and one of the next epoch (`meet`).
 --     From one place to the next the epoch stays, or it is the next one and the first place is in
--- phase Joint. So quorums before and after a call always share a node (`near`, `meet-next`).
+--     phase Joint. So quorums before and after a call always share a node (`near`, `meet-next`).
 --   * The nodes that count and are not retired are a quorum by themselves: the vote of the node
--- being replaced is never needed, and may always be refused (`enough`).
+--     being replaced is never needed, and may always be refused (`enough`).
 --   * Where the later of two such quorums has no retired node, they share a node that is retired at
--- neither place (`live`).
--- What it does not say, since it is not so (`quorumRows` of the table in crates/proved_cases, on three
--- slots with node 2 being replaced by 65,538):
+--     neither place (`live`).
+-- What it does not say, since it is not so (`quorumRows` of the table in crates/proved_cases, on
+-- three slots with node 2 being replaced by 65,538):
 --   * That two quorums share a node that is not retired, where votes of the node being replaced are
--- taken: in Fenced {1, 2} and {2, 3} are quorums, and node 2 is retired.
+--     taken: in Fenced {1, 2} and {2, 3} are quorums, and node 2 is retired.
 --   * That any two quorums share a node: {1, 2} in Fenced and {3, 65,538} in Uniform do not.
--- Neither is a quorum in Joint, which lies between.
+--     Neither is a quorum in Joint, which lies between.
 --
 -- It is about the configurations that the tables of one line show, and not about the engine. A
 -- table follows the membership entries that were APPLIED, while an engine may count by the last one
 -- APPENDED: between the two it may count by a configuration that no table shows yet. What the
 -- engine does then, that its voters are otherwise those of the table, that it counts as `isQuorum`
 -- does, and that it asks the retired test before it takes a vote, is the service's part.
+-- `isRetired` is the retired test's yes on a valid table (`valid-yes` of RetiredLaws).
 -- Assumes nothing.
 use Prim.Native.Nat.{ℕ, _+_, _*_, _≤_, _<_}
 use mathlib.Core.Path.{_≡_}

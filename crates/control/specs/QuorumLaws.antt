@@ -47,7 +47,7 @@ use Rattle.control.specs.declared.control.VoterReplacementStep.{VoterRep
 use Rattle.control.specs.declared.control.VoterSlotControl.{VoterSlotControl}
 use Rattle.control.specs.Control.Decision.{refuse, keep, change}
 use Rattle.control.specs.Control.{Decision, settle, full, representableControl, advanced, currentConfiguration, requestCheck, isKnown, knownDigest, repeated, openCheck, staleCheck, candidateCheck, fullCheck, beginCheck, begunOperation, begun, begin, recordSnapshot, isCatchingUp, recordCaughtUp, recordContinuation, fence, targetIndex, targetSlot, finalizedSlot, finalized, finalize, isCompleted, takeStep, advanceOpen, advance, isOpenRequest, marker, decide, applyControl, recordSnapshotKind, recordCaughtUpKind, recordContinuationKind, fenceKind, finalizeKind, beginKind, advanceKind}
-use Rattle.control.specs.HistoryLaws.{ValidTable, Every, restart-same, has-room, call-valid, history}
+use Rattle.control.specs.HistoryLaws.{ValidTable, Every, restart-same, has-room, call-valid, retired-stays}
 use Rattle.control.specs.History.Call.{command, observation, restart}
 use Rattle.control.specs.History.{Call, withRoom, after, tableAt}
 use Rattle.control.specs.Observation.{Sight, eqIds, eqSets, isRising, allRising, insertId, contains, splitSets, representableSets, memberNode, memberIdsBelow, memberIds, see, withTarget, uniformSeen, raised, keepOr, observed, observe, observeMembership}
@@ -850,7 +850,7 @@ module _ (start : VoterSlotTable) (v : ValidTable start) (calls : List Call) whe
           → countsIn (table (suc j)) node ≡ false
       by true e f =
           is-false (countsIn (table (suc j)) node)
-          (λ h. false≢true (sym (f (leb-true i j e) node r c) ∙ stepped-at calls start v j .counted node h (history start (v .held) (v .valid) calls .retired i (suc j) l node r)))
+          (λ h. false≢true (sym (f (leb-true i j e) node r c) ∙ stepped-at calls start v j .counted node h (retired-stays start (v .held) (v .valid) calls i (suc j) l node r)))
       by false e f = let k = leb-false i j e in let e : i ≡ suc j = omega arith in subst (λ (k : ℕ). countsIn (table k) node ≡ false) e c
 
   near-at : (i : ℕ) → Near (table i) (table (i + 1))
@@ -878,7 +878,7 @@ module _ (start : VoterSlotTable) (v : ValidTable start) (calls : List Call) whe
       let later = none (s .node) (s .second) in
       record {
         shared = s;
-        live = is-false (isRetired (table i) (s .node)) (λ r. false≢true (sym later ∙ history start (v .held) (v .valid) calls .retired i j l (s .node) r));
+        live = is-false (isRetired (table i) (s .node)) (λ r. false≢true (sym later ∙ retired-stays start (v .held) (v .valid) calls i j l (s .node) r));
         live-next = later;
       }
 

@@ -1,5 +1,5 @@
 -- Two tables at both ends of the size: one slot and no request, 180 bytes; nine slots and a request
--- with every part at its longest, 8072.
+-- with every part at its longest, 8,072.
 -- Document 01's limits: nine slots, names of 2,048 bytes, a snapshot id of 256. EndsLaws has the
 -- theorems.
 -- Assumes nothing.
@@ -30,11 +30,13 @@ abbrev pub memberOf : ℕ → ℕ → VoterSlotMember
 memberOf own slot =
     record { identity = identityOf slot own; «key_digest» = replicate 32 slot; «descriptor_digest» = replicate 32 slot; «admission_generation» = own }
 
+-- a cut of term 1
 abbrev pub cut : ℕ → VoterSlotLogId
 cut index = record { term = 1; index = index }
 
 -- ---- the smallest
 
+-- its only slot, in the first incarnation
 abbrev pub idleSlot : VoterSlotRecord
 idleSlot =
     record {
@@ -45,6 +47,7 @@ idleSlot =
       «last_result» = blankVoterReplacementResult;
     }
 
+-- "A valid table takes 180 .. bytes"
 unfoldable pub smallest : VoterSlotTable
 smallest =
     record {
@@ -78,19 +81,23 @@ receiptIn slot =
       terminal = cut 1;
     }
 
+-- a slot in that incarnation, with its receipt
 abbrev pub slotOf : ℕ → ℕ → VoterSlotRecord
 slotOf own slot =
     record { member = memberOf own slot; «retired_through» = own - 1; phase = voting; «has_last_result» = true; «last_result» = receiptIn slot }
 
+-- nine members: slot 1 in that incarnation, the others in their second
 abbrev pub configurationOf : ℕ → ℕ → VoterConfiguration
 configurationOf epoch own = record { epoch = epoch; members = memberOf own 1 ∷ others (memberOf 2); count = 9 }
 
+-- a name of 2,048 bytes, a snapshot id of 256: `a` fills them up
 abbrev pub longName : SpiffeId
 longName = record { len = 2048; bytes = scheme ++ replicate 2039 97 }
 
 abbrev pub longSnapshotId : SnapshotId
 longSnapshotId = record { len = 256; bytes = replicate 256 97 }
 
+-- both names are of the longest
 abbrev pub longAttestation : LostVoterAttestationV1
 longAttestation =
     record {
@@ -114,6 +121,7 @@ longAttestation =
       signature = replicate 64 0;
     }
 
+-- the evidence has every cut, and the snapshot
 abbrev pub longSnapshot : VoterSnapshotEvidence
 longSnapshot = record { cut = cut 2; «snapshot_id» = longSnapshotId; digest = replicate 32 0 }
 
@@ -134,6 +142,7 @@ longEvidence =
       uniform = presentIndex 8;
     }
 
+-- the request, in phase Uniform
 abbrev pub longReplacement : VoterReplacementRecord
 longReplacement =
     record {
@@ -145,6 +154,7 @@ longReplacement =
       evidence = longEvidence;
     }
 
+-- ".. to 8,072 bytes"
 unfoldable pub largest : VoterSlotTable
 largest =
     record {

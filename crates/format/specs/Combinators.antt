@@ -1,6 +1,7 @@
--- Byte formats (the type `Codec`): a writer and a reader of one form, with the laws that tie them, and
--- the ways to make one of others. Document 01: "A refused field ends the reading with that field's own
--- number."
+-- Byte formats (the type `Codec`): a writer and a reader of one form, with the laws that tie them,
+-- and the ways to make one of others.
+-- For the `Writer` and the `Reader` of codec.rs. Document 01: "A refused field ends the reading
+-- with that field's own number."
 -- Assumes nothing.
 use Prim.Native.Nat.{ℕ, zero, suc, _+_, _-_, _≤_, _<_, zero-le}
 use native.Mathlib.Omega.{arith}
@@ -19,6 +20,7 @@ pub bytes-drop : (n : ℕ) (bs : List ℕ) → Bytes bs → Bytes (drop n bs)
 unfolding Bytes
 bytes-drop n bs h i = rw getD-drop (h (n + i))
 
+-- a format of values of a type: `enc` writes one, `dec` reads one from the front of some bytes
 pub record Codec (A : Type 0) : Type 1 where
   -- the values that the format holds
   pub Good : A → Type 0
@@ -32,7 +34,8 @@ pub record Codec (A : Type 0) : Type 1 where
   pub bytes : (bs : List ℕ) {a : A} {n : ℕ} → Bytes bs → dec bs ≡ ok a n → take n bs ≡ enc a
   pub good : (bs : List ℕ) {a : A} {n : ℕ} → Bytes bs → dec bs ≡ ok a n → Good a
 
--- 1. One after the other, where the second form goes by the first value.
+-- 1. `dep`: one after the other, where the second form goes by the first value. First its reader:
+-- the first refusal is the answer.
 module _ {A B : Type 0} (c : List ℕ → Res A) (d : A → List ℕ → Res B) where
   unfoldable pub decSeq : List ℕ → Res (A × B)
   decSeq bs = andThen (c bs) (λ a n. andThen (d a (drop n bs)) (λ b m. ok (a, b) (n + m)))
@@ -67,6 +70,7 @@ module _ {A B : Type 0} (c : List ℕ → Res A) (d : A → List ℕ → Res B) 
       let (b, m, e₃, e₄) = began (d a (drop n bs)) (λ b m. ok (a, b) (n + m)) e₂ in
       record { former = a; latter = b; former-count = n; latter-count = m; first = e₁; second = e₃; value = ok-value e₄; count = ok-count e₄ }
 
+-- then its writer, its good values, and its laws
 module _ {A B : Type 0} (C : Codec A) (D : A → Codec B) where
   abbrev encSeq : A × B → List ℕ
   encSeq p = C .enc (p .0) ++ D (p .0) .enc (p .1)
@@ -104,7 +108,7 @@ module _ {A B : Type 0} (C : Codec A) (D : A → Codec B) where
   unfoldable pub dep : Codec (A × B)
   dep = record { Good = Goods; enc = encSeq; dec = decs; back = seq-back; within = seq-within; bytes = seq-bytes; good = seq-good }
 
--- 2. A value that is tested: 0 is right, and any other number refuses.
+-- 2. `check`: a value that is tested. 0 is right, and any other number refuses.
 unfoldable pub gate : {A : Type 0} → ℕ → A → ℕ → Res A
 gate zero a n = ok a n
 gate (suc k) a n = no (suc k)
@@ -148,7 +152,7 @@ check C test = record {
   good = λ bs z e. (C .good bs z (checked (C .dec) test bs e .0), checked (C .dec) test bs e .1);
 }
 
--- 3. The same bytes for another type: f makes the value, and g goes back.
+-- 3. `via`: the same bytes for another type. f makes the value, and g goes back.
 module _ {A B : Type 0} (c : List ℕ → Res A) (f : A → B) where
   unfoldable pub decMap : List ℕ → Res B
   decMap bs = andThen (c bs) (λ a n. ok (f a) n)
@@ -190,7 +194,7 @@ module _ {A B : Type 0} (C : Codec A) (f : A → B) (g : B → A) (same : (a : A
     good = map-good;
   }
 
--- 4. Nothing is written, and one value is read.
+-- 4. `always`: nothing is written, and one value is read.
 unfoldable pub always : {A : Type 0} → A → Codec A
 always x = record {
   Good = λ a. x ≡ a;
@@ -202,7 +206,7 @@ always x = record {
   good = λ bs z e. ok-value e;
 }
 
--- 5. The same form, with its good values said in other words.
+-- 5. `held`: the same form, with its good values said in other words.
 module _ {A : Type 0} (C : Codec A) (G : A → Type 0) (to : (a : A) → G a → C .Good a) (from : (a : A) → C .Good a → G a) where
   unfoldable pub held : Codec A
   held = record {

@@ -1,5 +1,7 @@
 -- A copy into a place of its own from the front: the first i are the source's, and after them is
 -- what was there before.
+-- For the readers of bytes and names: document 01, "2,048 or 256 bytes and a length, zero behind
+-- it".
 -- Assumes nothing.
 use Prim.Native.Nat.{ℕ, zero, suc, _+_, _-_, _≤_, _<_}
 use native.Mathlib.Nat.{le-of-suc-le-suc, not-suc-le-zero}
@@ -10,6 +12,7 @@ use mathlib.Core.List.{List, [], _∷_, _++_, append-nil}
 use lib.ListN.{length, take, drop, getD, set, replicate, length-append, length-drop, length-replicate, drop-of-length-le}
 use lib.Seq.{length-take-le, take-suc-set, drop-set-lt, drop-drop}
 
+-- i bytes of s copied into d
 unfoldable pub copied : List ℕ → List ℕ → ℕ → List ℕ
 copied s d i = take i s ++ drop i d
 

@@ -1,4 +1,5 @@
--- Bytes laid into a place of zeros from its start, and what a test that fails refuses.
+-- Bytes laid into a place of zeros from its start, and what a test that fails refuses: lemmas
+-- alone. For the writers and readers of `layout`, `reader` and `writer`.
 -- Assumes nothing.
 use Prim.Native.Nat.{ℕ, zero, suc, _+_, _-_}
 use native.Mathlib.Omega.{arith}

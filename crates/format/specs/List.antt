@@ -1,5 +1,8 @@
--- A list of n values of one form, one after the other; and a list in a place of fixed size, with
--- blanks after it.
+-- A list of n values of one form, one after the other; a list in a place of fixed size, with blanks
+-- after it; and a value that may be absent: `optional` of codec.rs, and its loops over slots and
+-- members.
+-- Document 01: "nine places always, the first so many in use"; "Option: a yes or no beside the
+-- record".
 -- Assumes nothing.
 use Prim.Native.Nat.{ℕ, zero, suc, _+_, _-_, _≤_, _<_}
 use native.Mathlib.Omega.{arith}
@@ -18,6 +21,7 @@ use borrow.Author.Tests.{leb-true}
 use Rattle.format.specs.Num.{uint, pick}
 use Rattle.format.specs.Combinators.{Codec, Laws, codecOf, lawsOf, dep, via, held, always, decSeq, decMap, check, seq-ok, seq-no-1, seq-no-2, map-ok, map-no, via-ok, via-no, tested, dep-ok, dep-no-1, dep-no-2}
 
+-- one more at the end
 abbrev pub snoc : {A : Type 0} → List A × A → List A
 snoc p = p .0 ++ (p .1 ∷ [])
 
@@ -51,7 +55,8 @@ module _ {A : Type 0} (c : List ℕ → Res A) where
 below-suc : (n : ℕ) (P : ℕ → Type 0) → ((i : ℕ) → i < n → P i) → P n → (i : ℕ) → i < suc n → P i
 below-suc n P h e i l = below-more P n h e i (omega arith)
 
--- n values of the form C; blank is what `getD` gives past the end, and no value is read by it
+-- `vec`: n values of the form C; blank is what `getD` gives past the end, and no value is read by
+-- it
 module _ {A : Type 0} (C : Codec A) (blank : A) where
   unfoldable pub encVec : ℕ → List A → List ℕ
   encVec zero l = []
@@ -109,7 +114,7 @@ module _ {A : Type 0} (C : Codec A) (blank : A) where
   unfolding vec
   vec-long n l g = g .0
 
--- n values in a place of k, with blanks after them
+-- `padded`: n values in a place of k, with blanks after them
 module _ {A : Type 0} (C : Codec (List A)) (n k : ℕ) (blank : A) (long : (l : List A) → C .Good l → length l ≡ n) where
   abbrev pub pad : List A → List A
   pad l = l ++ replicate (k - n) blank
@@ -130,6 +135,7 @@ unfoldable pub flagTest : ℕ → ℕ
 unfolding pick
 flagTest x = pick (leb x 1) 0 malformed
 
+-- the byte as a yes or no, and back
 abbrev pub toFlag : ℕ → Bool
 toFlag x = eqb x 1
 
@@ -151,6 +157,7 @@ pub flag-back : (x : ℕ) → flagTest x ≡ 0 → ofFlag (toFlag x) ≡ x
 unfolding flagTest
 flag-back x e = flag-by (leb x 1) x refl e
 
+-- the format of it
 unfoldable pub flag : Codec Bool
 flag = via (check (uint 1) flagTest) toFlag ofFlag (λ x g. flag-back x (tested (uint 1) flagTest x g))
 

@@ -1,5 +1,7 @@
--- Numbers, big-endian at any width, and bytes as they stand. Document 01: "Integers in bytes are
--- big-endian".
+-- Numbers, big-endian at any width, and bytes as they stand: `u8`, `u16`, `u64` and `array` of
+-- codec.rs.
+-- Document 01: "Integers in bytes are big-endian"; "The reader's integers share one fact over their
+-- width". A byte has 256 values.
 -- Assumes nothing.
 use Prim.Native.Nat.{ℕ, zero, suc, _+_, _*_, _/_, _%_, _^_, _≤_, _<_}
 use native.Mathlib.Omega.{arith}
@@ -109,6 +111,7 @@ raw-is n bs e = raw-read n bs (leb n (length bs)) refl e
 pub raw-back : (n : ℕ) (l rest : List ℕ) → length l ≡ n → decRaw n (l ++ rest) ≡ ok l (length l)
 raw-back n l rest e = raw-ok n (l ++ rest) (omega (arith, length-append l rest)) ∙ ap₂ ok (take-at l rest n e) (sym e)
 
+-- so many bytes as they stand: `array`
 unfoldable pub raw : ℕ → Codec (List ℕ)
 raw n = record {
   Good = λ l. (length l ≡ n) × Bytes l;
@@ -140,6 +143,7 @@ unfolding be Bytes
 bytes-be zero x = λ i. lit< tt
 bytes-be (suc k) x = bytes-append (be k (x / 256)) (x % 256 ∷ []) (bytes-be k (x / 256)) (bytes-one (x % 256) (mod-lt x (lit< tt)))
 
+-- a number of k bytes: `u8`, `u16`, `u64`
 unfoldable pub uint : ℕ → Codec ℕ
 unfolding via decUint raw held
 uint k = held (via (raw k) (val 0) (be k) (λ l g. be-val k l (g .0) (g .1)))

@@ -1,4 +1,6 @@
 -- What a writer does to the bytes lent to it: those of a value at a place, and all else as it was.
+-- Document 01: "The writer fills the lent buffer from its start, gives the count, and the bytes
+-- behind keep their values."
 -- Assumes nothing.
 use Prim.Native.Nat.{ℕ, suc, _+_, _-_, _/_, _%_, _≤_, _<_}
 use native.Mathlib.Omega.{arith}
@@ -9,6 +11,7 @@ use lib.ListN.{length, take, drop, set, length-append, length-drop, take-append-
 use Rattle.format.specs.Num.{be, length-be}
 use lib.Seq.{drop-cons, getD-set-same, drop-set-lt, take-length, paste, length-take-le, take-at, drop-at, drop-drop}
 
+-- e at the place `at` of xs
 unfoldable pub put : List ℕ → ℕ → List ℕ → List ℕ
 put e at xs = take at xs ++ (e ++ drop (at + length e) xs)
 

@@ -1,9 +1,11 @@
 -- What reading gives: a value with the count of bytes read, or the number of a refusal.
+-- The `Result` that the readers of codec.rs give, by document 01's numbers.
 -- Assumes nothing.
 use Prim.Native.Nat.{ℕ}
 use native.Mathlib.Omega.{arith}
 use mathlib.Core.Path.{_≡_, refl}
 
+-- accepted, or refused by a number
 pub data Res (A : Type 0) : Type 0 where
   ok : A → ℕ → Res A
   no : ℕ → Res A
@@ -16,7 +18,7 @@ malformed = 6
 abbrev pub tooLarge : ℕ
 tooLarge = 5
 
--- go on with the value and the count, or pass the refusal on
+-- the Rust's `?`: go on with the value and the count, or pass the refusal on
 unfoldable pub andThen : {A B : Type 0} → Res A → (A → ℕ → Res B) → Res B
 andThen (ok a n) f = f a n
 andThen (no k) f = no k

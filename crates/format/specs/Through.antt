@@ -1,5 +1,6 @@
--- A form read out of another by a reading of its own, which may refuse; and a form in a box: its
--- size, and its bytes to the last.
+-- A form read out of another by a reading of its own, which may refuse; a form to the last byte:
+-- `finish` of codec.rs; and a form in a box: its size, and its bytes to the last, as `sized_bytes`
+-- of codec.rs has an attestation.
 -- Assumes nothing.
 use Prim.Native.Nat.{ℕ, _^_, _≤_, _<_}
 use mathlib.Core.Path.{_≡_, refl, sym, ap, ap₂, _∙_, subst}
@@ -13,6 +14,7 @@ use Rattle.format.specs.Res.Res.{ok, no}
 use Rattle.format.specs.Combinators.{Codec, Bytes, dep, check, held, there-and-back, back-and-there}
 use Rattle.format.specs.Num.{uint, raw, pick}
 
+-- `through`: C is read, and then p reads what C gave; g goes back
 module _ {A B : Type 0} (C : Codec A) (p : A → Res B) (g : B → A) (same : (a : A) (b : B) (m : ℕ) → C .Good a → p a ≡ ok b m → g b ≡ a) where
   unfoldable pub decThrough : List ℕ → Res B
   decThrough bs = andThen (C .dec bs) (λ a n. andThen (p a) (λ b m. ok b n))
@@ -87,6 +89,7 @@ whole-by-count C bs t e q = rw e (rw q)
 
 -- a form in a box of at most `bound` bytes, else too large: two bytes of size, and then so many
 module _ {A : Type 0} (C : Codec A) (bound : ℕ) where
+  -- 5 for more than the bound
   unfoldable pub sizeTest : ℕ → ℕ
   sizeTest n = pick (leb n bound) 0 tooLarge
 

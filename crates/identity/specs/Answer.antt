@@ -9,6 +9,7 @@ use lib.Dec.{eqb}
 use Rattle.identity.specs.declared.answer.Answer.{Answer}
 use Rattle.identity.specs.declared.answer.Answer.the-variants.{Accepted, InvalidSlot, InvalidIncarnation, IncarnationExhausted, FreshInstallationRequired, TooLarge, InvalidRecord, Regression, InvalidLossEvidence, StaleIncarnation, IdempotencyConflict, ReplacementInProgress, NoSurvivingQuorum, ReplacementPastFence, ConfigurationEpochExhausted, RevisionExhausted, InvalidTransition, Unrepresentable, NotRising, BufferTooShort, BadRecord}
 
+-- the cases of `Answer` in the order of their numbers
 abbrev pub numberOf : Answer → ℕ
 numberOf Accepted = 0
 numberOf InvalidSlot = 1

@@ -38,14 +38,15 @@ maxConsensusNodeId = 2 ^ 63 - 1
 abbrev pub isConsensusNodeId : ℕ → Bool
 isConsensusNodeId value = leb 1 value && leb value maxConsensusNodeId
 
--- numbers 1 and 2
+-- `SlotId::new`: number 1
 unfoldable pub validateSlotId : ℕ → Answer
 validateSlotId value = cond (isSlotId value) Accepted InvalidSlot
 
+-- `VoterIncarnation::new`: number 2
 unfoldable pub validateVoterIncarnation : ℕ → Answer
 validateVoterIncarnation value = cond (isVoterIncarnation value) Accepted InvalidIncarnation
 
--- the slot is tested first
+-- both, and the slot is tested first
 unfoldable pub validateVoterSlotIdentity : VoterSlotIdentity → Answer
 validateVoterSlotIdentity identity =
     cond (isSlotId (identity .slot)) (validateVoterIncarnation (identity .incarnation)) InvalidSlot
@@ -57,15 +58,17 @@ numberWhere answer value = cond (isAccepted answer) (NumberResult.Ok value) (Num
 abbrev pub identityWhere : Answer → VoterSlotIdentity → VoterSlotIdentityResult
 identityWhere answer identity = cond (isAccepted answer) (VoterSlotIdentityResult.Ok identity) (VoterSlotIdentityResult.Err answer)
 
--- the next incarnation; 3 after the largest
+-- `VoterIncarnation::next`: 3 after the largest; a number that is no incarnation has none after it
 unfoldable pub nextVoterIncarnation : ℕ → NumberResult
 nextVoterIncarnation incarnation =
     cond (eqb incarnation maxVoterIncarnation) (NumberResult.Err IncarnationExhausted)
     (numberWhere (validateVoterIncarnation incarnation) (incarnation + 1))
 
+-- a slot and an incarnation, whatever the numbers are
 abbrev pub identityOf : ℕ → ℕ → VoterSlotIdentity
 identityOf slot incarnation = record { slot = slot; incarnation = incarnation }
 
+-- `VoterSlotIdentity::new`, of numbers that are tested here
 unfoldable pub newVoterSlotIdentity : ℕ → ℕ → VoterSlotIdentityResult
 newVoterSlotIdentity slot incarnation =
     identityWhere (validateVoterSlotIdentity (identityOf slot incarnation)) (identityOf slot incarnation)
@@ -74,12 +77,12 @@ newVoterSlotIdentity slot incarnation =
 abbrev pub nodeIdSpan : ℕ
 nodeIdSpan = maxSlotId + 1
 
--- "Node id = (incarnation − 1) × 65,536 + slot"
+-- `VoterSlotIdentity::node_id`: "Node id = (incarnation − 1) × 65,536 + slot"
 unfoldable pub nodeId : VoterSlotIdentity → NumberResult
 nodeId identity =
     numberWhere (validateVoterSlotIdentity identity) ((identity .incarnation - 1) * nodeIdSpan + identity .slot)
 
--- "reading one tests the slot first"
+-- `VoterSlotIdentity::from_node_id`: "reading one tests the slot first"
 unfoldable pub fromNodeId : ℕ → VoterSlotIdentityResult
 fromNodeId node = newVoterSlotIdentity (node % nodeIdSpan) (node / nodeIdSpan + 1)
 

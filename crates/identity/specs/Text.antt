@@ -13,7 +13,7 @@ use Rattle.identity.specs.declared.text.Allowed.{Allowed}
 use Rattle.identity.specs.declared.text.Allowed.the-variants.{Any, NoControl, NoControlNoWhitespace}
 use Rattle.identity.specs.declared.text.Part.{Part}
 
--- "control character (U+0000 to 001F, 007F to 009F)"
+-- `char::is_control`: "control character (U+0000 to 001F, 007F to 009F)"
 abbrev pub isControl : ℕ → Bool
 isControl code = leb code 0x1F || (leb 0x7F code && leb code 0x9F)
 
@@ -24,10 +24,12 @@ whiteSpace =
     ∷ 0x2000 ∷ 0x2001 ∷ 0x2002 ∷ 0x2003 ∷ 0x2004 ∷ 0x2005 ∷ 0x2006 ∷ 0x2007 ∷ 0x2008 ∷ 0x2009 ∷ 0x200A
     ∷ 0x2028 ∷ 0x2029 ∷ 0x202F ∷ 0x205F ∷ 0x3000 ∷ []
 
+-- a number is in a list
 unfoldable pub isIn : List ℕ → ℕ → Bool
 isIn [] code = false
 isIn (c ∷ cs) code = eqb c code || isIn cs code
 
+-- `char::is_whitespace`
 abbrev pub isWhitespace : ℕ → Bool
 isWhitespace code = isIn whiteSpace code
 
@@ -49,21 +51,25 @@ lastAscii Any = 0x7F
 lastAscii NoControl = 0x7E
 lastAscii NoControlNoWhitespace = 0x7E
 
+-- UTF-8, of any characters
 unfoldable pub isUtf8 : List ℕ → Bool
 isUtf8 s = allChars (allows Any) s
 
--- `spiffe://`
+-- `spiffe://`, in ASCII
 abbrev pub scheme : List ℕ
 scheme = 115 ∷ 112 ∷ 105 ∷ 102 ∷ 102 ∷ 101 ∷ 58 ∷ 47 ∷ 47 ∷ []
 
+-- the second list is at the front of the first
 unfoldable pub startsWith : List ℕ → List ℕ → Bool
 startsWith s [] = true
 startsWith [] (p ∷ ps) = false
 startsWith (b ∷ s) (p ∷ ps) = eqb b p && startsWith s ps
 
+-- `MAX_VOTER_SPIFFE_ID_BYTES`
 abbrev pub maxSpiffeIdBytes : ℕ
 maxSpiffeIdBytes = 2048
 
+-- `MAX_VOTER_SNAPSHOT_ID_BYTES`
 abbrev pub maxSnapshotIdBytes : ℕ
 maxSnapshotIdBytes = 256
 
@@ -79,8 +85,8 @@ isName s =
 unfoldable pub isSnapshotId : List ℕ → Bool
 isSnapshotId s = (leb 1 (length s) && leb (length s) maxSnapshotIdBytes) && allChars (allows NoControl) s
 
--- The bytes of a strict name: "a-z, 0-9, dot, hyphen, underscore" in a trust domain, and A-Z too in
--- a segment.
+-- The bytes of a strict name, in ASCII: in a trust domain a-z (97 to 122), 0-9 (48 to 57), dot
+-- (46), hyphen (45) and underscore (95), and in a segment A-Z (65 to 90) too.
 abbrev pub isDomainByte : ℕ → Bool
 isDomainByte b =
     (leb 97 b && leb b 122) || ((leb 48 b && leb b 57) || (eqb b 46 || (eqb b 45 || eqb b 95)))
@@ -88,14 +94,16 @@ isDomainByte b =
 abbrev pub isSegmentByte : ℕ → Bool
 isSegmentByte b = (leb 65 b && leb b 90) || isDomainByte b
 
+-- the test holds of every byte
 unfoldable pub every : (ℕ → Bool) → List ℕ → Bool
 every p [] = true
 every p (b ∷ s) = p b && every p s
 
+-- "a trust domain of 1 to 255 bytes"
 abbrev pub maxTrustDomainBytes : ℕ
 maxTrustDomainBytes = 255
 
--- "a trust domain of 1 to 255 bytes"
+-- so many of those bytes
 abbrev pub isTrustDomain : List ℕ → Bool
 isTrustDomain d = (leb 1 (length d) && leb (length d) maxTrustDomainBytes) && every isDomainByte d
 
@@ -103,18 +111,21 @@ isTrustDomain d = (leb 1 (length d) && leb (length d) maxTrustDomainBytes) && ev
 abbrev pub isSegment : List ℕ → Bool
 isSegment g = leb 1 (length g) && every isSegmentByte g
 
+-- `/`
 abbrev pub slash : ℕ
 slash = 47
 
--- What stands between the slashes of s: with k slashes, k + 1 parts.
+-- one byte more at the front of the first part
 abbrev pub prepend : ℕ → List (List ℕ) → List (List ℕ)
 prepend b [] = (b ∷ []) ∷ []
 prepend b (part ∷ parts) = (b ∷ part) ∷ parts
 
+-- What stands between the slashes of s: with k slashes, k + 1 parts.
 unfoldable pub split : List ℕ → List (List ℕ)
 split [] = [] ∷ []
 split (b ∷ s) = cond (eqb b slash) ([] ∷ split s) (prepend b (split s))
 
+-- every part is a segment
 unfoldable pub allSegments : List (List ℕ) → Bool
 allSegments [] = true
 allSegments (g ∷ gs) = isSegment g && allSegments gs

@@ -15,9 +15,11 @@ pub record Range : Type 0 where
   pub low : ℕ
   pub high : ℕ
 
+-- a range from its ends
 abbrev pub octets : ℕ → ℕ → Range
 octets low high = record { low = low; high = high }
 
+-- a byte is in the range
 abbrev pub within : Range → ℕ → Bool
 within r b = leb (r .low) b && leb b (r .high)
 
@@ -69,6 +71,7 @@ abbrev pub decodedOf : ℕ → List ℕ → Decoded
 decodedOf zero s = Malformed
 decodedOf (suc n) s = Char (codePoint (suc n) s) (suc n)
 
+-- that, of the bytes themselves: `decode`
 unfoldable pub decodedChar : List ℕ → Decoded
 decodedChar s = decodedOf (charWidth s) s
 
@@ -78,6 +81,7 @@ decodedChar s = decodedOf (charWidth s) s
 abbrev pub ledBy : List Range → List ℕ → Decoded
 ledBy rs s = decodedOf (cond (fits rs (drop 1 s)) (suc (length rs)) 0) s
 
+-- there is a character, and p holds of its code point
 abbrev pub passes : (ℕ → Bool) → Decoded → Bool
 passes p (Char code width) = p code
 passes p Malformed = false
@@ -88,5 +92,6 @@ unfoldable pub charsFrom : (ℕ → Bool) → ℕ → List ℕ → Bool
 charsFrom p zero s = eqb (length s) 0
 charsFrom p (suc n) s = cond (eqb (length s) 0) true (passes p (decodedChar s) && charsFrom p n (drop (charWidth s) s))
 
+-- from the start of s
 unfoldable pub allChars : (ℕ → Bool) → List ℕ → Bool
 allChars p s = charsFrom p (length s) s

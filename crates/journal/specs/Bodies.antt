@@ -33,9 +33,11 @@ use Rattle.journal.specs.Replay.Asking.{bad, refused, asks}
 
 -- ---- blanks
 
+-- of an MK, which names a request for an AD too
 unfoldable pub blankMarkerBody : MarkerBody
 blankMarkerBody = record { cut = blankVoterSlotLogId; «request_id» = zeros 16; «request_digest» = zeros 32 }
 
+-- of a BG, before its attestation
 unfoldable pub blankBeginHead : BeginHead
 blankBeginHead =
     record { cut = blankVoterSlotLogId; «expected_revision» = 0; «expected_configuration» = blankConsensusIdentity; candidate = blankVoterSlotMember }
@@ -82,9 +84,11 @@ attestedAsking b = attested (decodeLostVoterAttestation (b .attestation)) (begin
 
 -- ---- what each answer asks; nobody looks at the value of a body that is not of its form
 
+-- an MK
 abbrev pub markerAsking : MarkerRead → Asking
 markerAsking r = cond (r .formed) (asks (markerAsked (r .value))) bad
 
+-- an AD
 abbrev pub advanceAsking : AdvanceRead → Asking
 advanceAsking r = cond (r .formed) (asks (command (advanceControl (r .value)) (r .value .cut))) bad
 
@@ -94,11 +98,12 @@ beginAskingBy Bad b = bad
 beginAskingBy (Refused answer) b = refused (numberOf answer)
 beginAskingBy Begin b = asks (command (beginControl (b .request)) (b .cut))
 
+-- that, of the answer of its reader
 abbrev pub beginAsking : BeginRead → Asking
 beginAsking r = beginAskingBy (r .asks) (r .value)
 
--- the ids of the sets stand at the front of one array, the nodes after them, and the counts of the
--- sets at the front of another
+-- an OB: the ids of the sets stand at the front of one array, the nodes after them, and the counts
+-- of the sets at the front of another
 abbrev pub observationAsking : ObservationRead → (ids counts : List ℕ) → Asking
 observationAsking r ids counts =
     cond (r .formed) (asks (observation (take (r .ids) ids) (take (r .sets) counts) (take (r .nodes) (drop (r .ids) ids)) (r .cut))) bad

@@ -1,9 +1,9 @@
 -- The bodies of the records that a replay reads: document 01, section "Replay program", field by
--- field, and the record around a body.
--- A format here has its writer, its reader and the laws that tie them (crate `format`). Numbers are
--- big-endian. A format refuses with the numbers of its parts;
--- a body that it does not read to the last byte is "not of this form", whatever the number. The
--- body of a TB is any bytes: codec's reader judges it.
+-- field, and the record around a body. `uint 8` is a number of 8 bytes, `raw 32` 32 bytes as they
+-- stand.
+-- A format here has its writer, its reader and the laws that tie them (crate `format`). A format
+-- refuses with the numbers of its parts; a body that it does not read to the last byte is "not of
+-- this form", whatever the number. The body of a TB is any bytes: codec's reader judges it.
 -- Assumes nothing.
 use Prim.Native.Nat.{ℕ}
 use mathlib.Core.Path.{_≡_, refl, sym, ap}
@@ -51,6 +51,7 @@ module _ {A : Type 0} (width : ℕ) (C : Codec A) (blank : A) where
 
 -- ---- MK: "cut, id (16 bytes), digest (32)"
 
+-- all of it
 unfoldable pub markerBody : Codec MarkerBody
 markerBody =
     via (dep (dep logId (λ a. raw 16)) (λ a. raw 32)) (λ p. record { cut = p .0 .0; «request_id» = p .0 .1; «request_digest» = p .1 })
@@ -70,6 +71,7 @@ pub record SnapshotPart : Type 0 where
 unfoldable pub noSnapshotPart : SnapshotPart
 noSnapshotPart = record { cut = blankVoterSlotLogId; id = []; digest = replicate 32 0 }
 
+-- step byte 0: "cut, 16-bit size, id, digest 32"
 unfoldable pub snapshotPart : Codec SnapshotPart
 snapshotPart =
     via (dep (dep logId (λ a. sizedBytes)) (λ a. raw 32)) (λ p. record { cut = p .0 .0; id = p .0 .1; digest = p .1 })
@@ -91,10 +93,12 @@ stepBody =
     (λ p. either (eqb (p .0) recordCaughtUpKind) logId (always blankVoterSlotLogId)))
     (λ p. record { kind = p .0 .0; snapshot = p .0 .1; «caught_up» = p .1 }) (λ s. ((s .kind, s .snapshot), s .«caught_up»)) (λ a g. refl)
 
+-- what names the request, as in an MK, and the step
 pub record AdvanceBody : Type 0 where
   pub named : MarkerBody
   pub step : StepBody
 
+-- all of it
 unfoldable pub advanceBody : Codec AdvanceBody
 advanceBody = via (dep markerBody (λ a. stepBody)) (λ p. record { named = p .0; step = p .1 }) (λ b. (b .named, b .step)) (λ a g. refl)
 
@@ -112,9 +116,11 @@ slotWidth = 2
 unfoldable pub anyIdentity : Codec VoterSlotIdentity
 anyIdentity = via (dep (uint slotWidth) (λ a. uint 8)) (λ p. record { slot = p .0; incarnation = p .1 }) (λ i. (i .slot, i .incarnation)) (λ a g. refl)
 
+-- "candidate (slot .., incarnation .., key 32, descriptor 32, generation 64 bits)"
 unfoldable pub candidate : Codec VoterSlotMember
 candidate = via (dep anyIdentity (λ i. binding)) (λ p. memberOf (p .0) (p .1)) (λ m. (m .identity, bindingOf m)) (λ a g. refl)
 
+-- "expected cluster (32), configuration id (32), epoch (64 bits)"
 unfoldable pub expected : Codec ConsensusIdentity
 expected =
     via (dep (dep (raw 32) (λ a. raw 32)) (λ a. uint 8)) (λ p. record { «cluster_id» = p .0 .0; «configuration_id» = p .0 .1; «configuration_epoch» = p .1 })
@@ -134,6 +140,7 @@ pub record BeginBody : Type 0 where
   pub «supplied_request_digest» : List ℕ
   pub «supplied_configuration_id» : List ℕ
 
+-- all of it
 unfoldable pub beginBody : Codec BeginBody
 beginBody =
     via (dep (dep (dep beginHead (λ a. sizedBytes)) (λ a. raw 32)) (λ a. raw 32))
@@ -142,17 +149,21 @@ beginBody =
 
 -- ---- OB: "cut, set count (8 bits), each set and then the nodes as a 16-bit count and 64-bit ids"
 
+-- "a 16-bit count and 64-bit ids"
 unfoldable pub nodeIds : Codec (List ℕ)
 nodeIds = counted 2 (uint 8) 0
 
+-- "set count (8 bits), each set"
 unfoldable pub nodeSets : Codec (List (List ℕ))
 nodeSets = counted 1 nodeIds []
 
+-- the sets and the nodes, and the cut of both
 pub record ObservationBody : Type 0 where
   pub cut : VoterSlotLogId
   pub sets : List (List ℕ)
   pub nodes : List ℕ
 
+-- all of it
 unfoldable pub observationBody : Codec ObservationBody
 observationBody =
     via (dep (dep logId (λ a. nodeSets)) (λ a. nodeIds)) (λ p. record { cut = p .0 .0; sets = p .0 .1; nodes = p .1 })
@@ -179,6 +190,7 @@ markOf bs =
     (cond (eqBytes bs (markText Bg)) Bg
     (cond (eqBytes bs (markText Ob)) Ob Unknown))))
 
+-- one of the five
 abbrev pub isKnownMark : Mark → Bool
 isKnownMark Tb = true
 isKnownMark Mk = true
@@ -201,10 +213,12 @@ pub mark-back : (l : List ℕ) → require (isKnownMark (markOf l)) ≡ 0 → ma
 unfolding markOf
 mark-back l k = mark-by l (eqBytes l (markText Tb)) (eqBytes l (markText Mk)) (eqBytes l (markText Ad)) (eqBytes l (markText Bg)) (eqBytes l (markText Ob)) refl refl refl refl refl k
 
+-- the mark of a record, which is one of the five
 unfoldable pub knownMark : Codec Mark
 knownMark =
     via (check (raw 2) (λ l. require (isKnownMark (markOf l)))) markOf markText
     (λ l g. mark-back l (tested (raw 2) (λ l. require (isKnownMark (markOf l))) l g))
 
+-- mark, size and body
 unfoldable pub frame : Codec (Mark × List ℕ)
 frame = dep knownMark (λ mark. sizedBytes)

@@ -1,7 +1,7 @@
 -- The replay program: document 01, section "Replay program". From the bytes of standard input to
 -- the bytes of standard output: `replay`.
--- `entries`: the records that the bytes are, or the broken one that ends them; no table plays a part
--- in it. `step`: one record at the table that stands, or at none: the answer, and the table
+-- `entries`: the records that the bytes are, or the broken one that ends them; no table plays a
+-- part in it. `step`: one record at the table that stands, or at none: the answer, and the table
 -- afterwards. `run`: a list of records, from any table or none. `line`: what is printed of one.
 -- Assumes nothing.
 use Prim.Native.Nat.{ℕ, zero, suc, _+_, _/_, _%_}
@@ -48,11 +48,12 @@ pub data Asking : Type 0 where
   refused : ℕ → Asking
   asks : Asked → Asking
 
--- "unused parts zero": the blanks of control
+-- an MK as a command; "unused parts zero": the blanks of control
 unfoldable pub markerControl : MarkerBody → VoterSlotControl
 markerControl b =
     record { kind = markerKind; request = blankVoterReplacementRequest; «request_id» = b .«request_id»; «request_digest» = b .«request_digest»; step = blankVoterReplacementStep }
 
+-- with its cut
 unfoldable pub markerAsked : MarkerBody → Asked
 markerAsked b = command (markerControl b) (b .cut)
 
@@ -61,9 +62,11 @@ markerAsked b = command (markerControl b) (b .cut)
 unfoldable pub snapshotIdOf : List ℕ → SnapshotId
 snapshotIdOf id = record { len = length id; bytes = take maxSnapshotIdBytes (id ++ replicate maxSnapshotIdBytes 0) }
 
+-- a snapshot with that id
 unfoldable pub snapshotOf : SnapshotPart → VoterSnapshotEvidence
 snapshotOf s = record { cut = s .cut; «snapshot_id» = snapshotIdOf (s .id); digest = s .digest }
 
+-- a step with its parts
 unfoldable pub stepOf : StepBody → VoterReplacementStep
 stepOf s = record { kind = s .kind; snapshot = snapshotOf (s .snapshot); «caught_up» = s .«caught_up» }
 
@@ -72,10 +75,12 @@ unfoldable pub advanceOf : AdvanceBody → VoterAdvance
 advanceOf b =
     record { «request_id» = b .named .«request_id»; «request_digest» = b .named .«request_digest»; step = stepOf (b .step); cut = b .named .cut }
 
+-- an AD as a command
 unfoldable pub advanceControl : VoterAdvance → VoterSlotControl
 advanceControl a =
     record { kind = advanceKind; request = blankVoterReplacementRequest; «request_id» = a .«request_id»; «request_digest» = a .«request_digest»; step = a .step }
 
+-- with its cut
 unfoldable pub advanceAsked : AdvanceBody → Asked
 advanceAsked b = command (advanceControl (advanceOf b)) (b .named .cut)
 
@@ -94,9 +99,11 @@ beginOf b attestation =
       cut = b .head .cut;
     }
 
+-- a BG as a command
 unfoldable pub beginControl : VoterReplacementRequest → VoterSlotControl
 beginControl r = record { kind = beginKind; request = r; «request_id» = blankRequestId; «request_digest» = blankRequestDigest; step = blankVoterReplacementStep }
 
+-- with its cut
 unfoldable pub beginAsked : BeginBody → LostVoterAttestationV1 → Asked
 beginAsked b attestation = command (beginControl (beginOf b attestation .request)) (b .head .cut)
 
@@ -136,6 +143,7 @@ pub data Entry : Type 0 where
   framed : Mark → List ℕ → Entry
   broken : Mark → Entry
 
+-- 33
 abbrev pub badRecord : ℕ
 badRecord = numberOf BadRecord
 
@@ -197,10 +205,12 @@ pub record Turn : Type 0 where
   pub answer : ℕ
   pub afterwards : Standing
 
+-- the mark that is printed
 abbrev pub shownMark : Entry → Mark
 shownMark (framed mark body) = mark
 shownMark (broken mark) = mark
 
+-- one record, and what is printed of it
 abbrev pub turn : Standing → Entry → Turn
 turn s e = record { mark = shownMark e; answer = step s e .0; afterwards = step s e .1 }
 
@@ -216,7 +226,7 @@ ended s (e ∷ es) = ended (step s e .1) es
 
 -- ---- what is printed
 
--- a number in decimal, of at most so many digits
+-- a number in decimal, of at most so many digits; 48 is the digit 0 in ASCII
 unfoldable pub decimalIn : ℕ → ℕ → List ℕ
 decimalIn zero n = []
 decimalIn (suc most) n = let front = decimalIn most (n / 10) in cond (ltb n 10) ((48 + n) ∷ []) (front ++ ((48 + n % 10) ∷ []))
@@ -225,6 +235,7 @@ decimalIn (suc most) n = let front = decimalIn most (n / 10) in cond (ltb n 10) 
 unfoldable pub decimal : ℕ → List ℕ
 decimal n = decimalIn (n + 1) n
 
+-- in ASCII
 abbrev pub space : List ℕ
 space = 32 ∷ []
 
@@ -242,9 +253,11 @@ unfoldable pub lineOf : ℕ → Mark → ℕ → ℕ → List ℕ
 lineOf number mark answer revision =
     decimal number ++ space ++ markText mark ++ space ++ decimal answer ++ space ++ decimal revision ++ newline
 
+-- the line of one record
 abbrev pub line : ℕ → Turn → List ℕ
 line number t = lineOf number (t .mark) (t .answer) (revisionOf (t .afterwards))
 
+-- the lines of all, numbered from there on
 unfoldable pub lines : ℕ → List Turn → List ℕ
 lines number [] = []
 lines number (t ∷ turns) = line number t ++ lines (number + 1) turns

@@ -1,5 +1,6 @@
--- Demand 3 of a replay: from an accepted TB on, the tables that a run goes through are a line of
--- history, and its calls are those that the records ask for.
+-- Demand 3 of a replay (document 01, sections "Lines of history" and "Replay program"): from an
+-- accepted TB on, the tables that a run goes through are a line of history, and its calls are those
+-- that the records ask for.
 -- The proof is `played` and `replayed` of RunHistoryLaws.
 -- Assumes nothing.
 use Prim.Native.Nat.{ℕ, _+_}
@@ -25,6 +26,7 @@ askedIn bad = []
 askedIn (refused number) = []
 askedIn (asks a) = a ∷ []
 
+-- that, of a record as it was read
 abbrev pub askedBy : Entry → List Asked
 askedBy (framed mark body) = askedIn (asking mark body)
 askedBy (broken mark) = []
@@ -44,6 +46,7 @@ abbrev pub callOf : (a : Asked) → HeldAsked a → Call
 callOf (command c cut) h = Call.command c cut (h .0) (h .1)
 callOf (observation ids counts nodes cut) h = Call.observation ids counts nodes cut h
 
+-- and of a list of them
 abbrev pub calls : (l : List Asked) → AllOf HeldAsked l → List Call
 calls [] h = []
 calls (a ∷ l) h = callOf a (h .0) ∷ calls l (h .1)
@@ -79,5 +82,6 @@ pub record ReplayHistory (input : List ℕ) : Type 0 where
   -- ReplayLaws are the tables whose revisions are printed.
   pub onwards : (i j : ℕ) → standingAt input (i + j) ≡ ended (standingAt input i) (take j (drop i (entries input)))
 
+-- of every input
 abbrev pub ReplayedHistory : Type 0
 ReplayedHistory = (input : List ℕ) → Bytes input → ReplayHistory input

@@ -47,6 +47,7 @@ pub data Numbered (M : Type 0) : Type 0 where
   keeps : Numbered M
   movesBy : M → Numbered M
 
+-- each case of a verdict
 abbrev pub numbered : {M : Type 0} → Verdict M → Numbered M
 numbered (refuses answer) = refusedBy (numberOf answer)
 numbered kept = keeps
@@ -78,6 +79,7 @@ beginVerdict t Begin b = checkedCall (representableRequest (b .request)) (b .cut
 
 -- ---- what was judged
 
+-- the answer
 abbrev pub answerOfCalled : Called → Answer
 answerOfCalled (Command judged) = answerOf (verdictOf judged)
 answerOfCalled (Observation observed) = answerOfObserved (verdictOfObserved observed)
@@ -89,11 +91,12 @@ Judges t mark body (Observation observed) = (mark ≡ Ob) × (numbered (verdictO
 
 -- ---- what is made
 
--- the cut that a body begins with
+-- the cut that a body begins with, or a blank one
 unfoldable pub cutBy : Res VoterSlotLogId → VoterSlotLogId
 cutBy (ok cut n) = cut
 cutBy (no k) = blankVoterSlotLogId
 
+-- that, of the body
 abbrev pub cutAt : List ℕ → VoterSlotLogId
 cutAt body = cutBy (logId .dec body)
 
@@ -118,11 +121,13 @@ markOfMove continues = Ad
 markOfMove fences = Ad
 markOfMove finalizes = Ad
 
+-- the table that a command makes, read from the body again
 unfoldable pub madeByCommand : VoterSlotTable → List ℕ → Verdict Move → VoterSlotTable
 madeByCommand t body (refuses answer) = t
 madeByCommand t body kept = t
 madeByCommand t body (moves m) = made t (commandIn (asking (markOfMove m) body) .0) (commandIn (asking (markOfMove m) body) .1) m
 
+-- the table that an observation makes
 unfoldable pub madeByObservation : VoterSlotTable → List ℕ → Verdict Addition → VoterSlotTable
 madeByObservation t body (refuses answer) = t
 madeByObservation t body kept = t
@@ -137,22 +142,26 @@ madeBy t body (Observation observed) = madeByObservation t body (verdictOfObserv
 abbrev pub MakesCommand : VoterSlotTable → List ℕ → Verdict Move → Type 0
 MakesCommand t body v = (m : Move) → v ≡ moves m → commandVerdict t (asking (markOfMove m) body) ≡ movesBy m
 
+-- the same of an observation
 abbrev pub MakesObservation : VoterSlotTable → List ℕ → Verdict Addition → Type 0
 MakesObservation t body v = (m : Addition) → v ≡ moves m → observationVerdict t (asking Ob body) ≡ movesBy m
 
+-- and of either
 abbrev pub Makes : VoterSlotTable → List ℕ → Called → Type 0
 Makes t body (Command judged) = MakesCommand t body (verdictOf judged)
 Makes t body (Observation observed) = MakesObservation t body (verdictOfObserved observed)
 
--- what a body holds that is read again for a maker: the Advance or the Begin that it asks for, if it asks for one
-
+-- what a body holds that is read again for a maker: the Advance that it asks for, if it asks for
+-- one
 abbrev pub HoldsAdvance : List ℕ → VoterAdvance → Type 0
 HoldsAdvance body a = (isFormed : Bool) × (advanceAsking (record { formed = isFormed; value = a }) ≡ asking Ad body)
 
+-- the same of a Begin
 abbrev pub HoldsBegin : List ℕ → VoterBegin → Type 0
 HoldsBegin body b = (says : Asks) × (beginAskingBy says b ≡ asking Bg body)
 
--- the number by which the code chooses the maker, 0 for none: 1 to 6 for commands (`routeOf`), 7 to 9 for observations
+-- the number by which the code chooses the maker, 0 for none: 1 to 6 for commands (`routeOf`), 7 to
+-- 9 for observations
 abbrev pub routeOfObservation : Verdict Addition → ℕ
 routeOfObservation (refuses answer) = 0
 routeOfObservation kept = 0
@@ -160,6 +169,7 @@ routeOfObservation (moves addsLearner) = 7
 routeOfObservation (moves addsJoint) = 8
 routeOfObservation (moves addsUniform) = 9
 
+-- of either
 abbrev pub routeOfCalled : Called → ℕ
 routeOfCalled (Command judged) = routeOf (verdictOf judged)
 routeOfCalled (Observation observed) = routeOfObservation (verdictOfObserved observed)
@@ -170,6 +180,7 @@ isMade (refuses answer) = false
 isMade kept = false
 isMade (moves m) = true
 
+-- of either
 abbrev pub isChanging : Called → Bool
 isChanging (Command judged) = isMade (verdictOf judged)
 isChanging (Observation observed) = isMade (verdictOfObserved observed)

@@ -1,9 +1,9 @@
 -- The bytes of a table (`OPVI` version 1) and of an attestation, field by field, in the order of
--- codec.rs.
+-- codec.rs. `uint 8` is a number of 8 bytes, `raw 32` 32 bytes as they stand.
 -- A format here has its writer, its reader and the laws that tie them (crate `format`). From
--- codec.rs; document 01, "Refusals from the input":
--- 1 and 2 for a slot or incarnation, 4 for another version, 5 for a name, snapshot id or
--- attestation that is too long, 6 for any other bad bytes.
+-- codec.rs; document 01, "Refusals from the input": 1 and 2 for a slot or incarnation, 4 for
+-- another version, 5 for a name, snapshot id or attestation that is too long, 6 for any other bad
+-- bytes.
 -- Assumes nothing.
 use Prim.Native.Nat.{ℕ, _-_}
 use mathlib.Core.Path.{_≡_, refl, ap, ap₂, sym}
@@ -78,13 +78,16 @@ slotCount = check (uint 1) (λ x. require (validCount x))
 unfoldable pub choice : ℕ → ℕ → Codec ℕ
 choice low high = check (uint 1) (λ x. require (leb low x && leb x high))
 
+-- `identity`: slot, incarnation
 unfoldable pub identity : Codec VoterSlotIdentity
 identity =
     via (dep slotId (λ a. incarnation)) (λ p. record { slot = p .0; incarnation = p .1 }) (λ i. (i .slot, i .incarnation)) (λ a g. refl)
 
+-- `log_id`: term, index
 unfoldable pub logId : Codec VoterSlotLogId
 logId = via (dep (uint 8) (λ a. uint 8)) (λ p. record { term = p .0; index = p .1 }) (λ c. (c .term, c .index)) (λ a g. refl)
 
+-- `optional(Reader::log_id)`
 unfoldable pub optionalLogId : Codec OptionalLogId
 optionalLogId =
     via (opt logId blankVoterSlotLogId) (λ p. record { «is_some» = p .0; cut = p .1 }) (λ c. (c .«is_some», c .cut)) (λ a g. refl)
@@ -109,10 +112,12 @@ placed bound p = p .1 ++ replicate (bound - p .0) 0
 pub placed-back : (bound : ℕ) (p : ℕ × List ℕ) → string bound .Good p → _≡_ {A = ℕ × List ℕ} (p .0, take (p .0) (placed bound p)) p
 placed-back bound p g = ap (λ l. (p .0, l)) (take-at (p .1) (replicate (bound - p .0) 0) (p .0) (string-long bound p g))
 
+-- `identity_string`, in its place of 2,048 bytes
 unfoldable pub spiffeId : Codec SpiffeId
 spiffeId =
     via (string maxSpiffeIdBytes) (λ p. record { len = p .0; bytes = placed maxSpiffeIdBytes p }) (λ t. (t .len, take (t .len) (t .bytes))) (λ p g. placed-back maxSpiffeIdBytes p g)
 
+-- a snapshot id, in its place of 256 bytes
 unfoldable pub snapshotId : Codec SnapshotId
 snapshotId =
     via (string maxSnapshotIdBytes) (λ p. record { len = p .0; bytes = placed maxSnapshotIdBytes p }) (λ t. (t .len, take (t .len) (t .bytes))) (λ p g. placed-back maxSnapshotIdBytes p g)
@@ -126,12 +131,15 @@ binding =
     (λ p. record { «key_digest» = p .0 .0; «descriptor_digest» = p .0 .1; «admission_generation» = p .1 })
     (λ b. ((b .«key_digest», b .«descriptor_digest»), b .«admission_generation»)) (λ a g. refl)
 
+-- a member of a configuration
 unfoldable pub member : Codec VoterSlotMember
 member = via (dep identity (λ i. binding)) (λ p. memberOf (p .0) (p .1)) (λ m. (m .identity, bindingOf m)) (λ a g. refl)
 
+-- so many members, in nine places
 unfoldable pub members : ℕ → Codec (List VoterSlotMember)
 members n = padded (vec member blankVoterSlotMember n) n maxFixedVoterSlots blankVoterSlotMember (vec-long member blankVoterSlotMember n)
 
+-- `configuration`: epoch, count, members
 unfoldable pub configuration : Codec VoterConfiguration
 configuration =
     via (dep (dep epoch (λ a. slotCount)) (λ p. members (p .1))) (λ p. record { epoch = p .0 .0; members = p .1; count = p .0 .1 })
@@ -139,12 +147,14 @@ configuration =
 
 -- ---- slots
 
+-- a receipt up to its revision
 unfoldable pub resultHead : Codec ResultHead
 resultHead =
     via (dep (dep (dep (raw 16) (λ a. raw 32)) (λ a. incarnation)) (λ a. uint 8))
     (λ p. record { «request_id» = p .0 .0 .0; «request_digest» = p .0 .0 .1; incarnation = p .0 .1; revision = p .1 })
     (λ r. (((r .«request_id», r .«request_digest»), r .incarnation), r .revision)) (λ a g. refl)
 
+-- a receipt: request id, request digest, incarnation, revision, epoch, kind, terminal cut
 unfoldable pub result : Codec VoterReplacementResult
 result =
     via (dep (dep (dep resultHead (λ a. epoch)) (λ a. choice completed superseded)) (λ a. logId)) (λ p. resultOf (p .0 .0 .0) (p .0 .0 .1) (p .0 .1) (p .1))
@@ -156,6 +166,7 @@ slotMember =
     via (dep (dep identity (λ a. uint 8)) (λ a. binding)) (λ p. record { member = memberOf (p .0 .0) (p .1); «retired_through» = p .0 .1 })
     (λ s. ((s .member .identity, s .«retired_through»), bindingOf (s .member))) (λ a g. refl)
 
+-- a slot: its member and retired number, its phase, its receipt
 unfoldable pub slot : Codec VoterSlotRecord
 slot =
     via (dep (dep slotMember (λ a. choice pending voting)) (λ a. opt result blankVoterReplacementResult))
@@ -168,6 +179,7 @@ slot =
     })
     (λ s. ((slotMemberOf s, s .phase), (s .«has_last_result», s .«last_result»))) (λ a g. refl)
 
+-- so many slots, in nine places
 unfoldable pub slots : ℕ → Codec (List VoterSlotRecord)
 slots n = padded (vec slot blankVoterSlotRecord n) n maxFixedVoterSlots blankVoterSlotRecord (vec-long slot blankVoterSlotRecord n)
 
@@ -204,6 +216,7 @@ claimsNames =
     (λ p. record { «admission_generation» = p .0 .0 .0; «candidate_spiffe_id» = p .0 .0 .1; «controller_spiffe_id» = p .0 .1; «signing_key_digest» = p .1 })
     (λ n. (((n .«admission_generation», n .«candidate_spiffe_id»), n .«controller_spiffe_id»), n .«signing_key_digest»)) (λ a g. refl)
 
+-- observation start, decision, issued, expires
 unfoldable pub times : Codec Times
 times =
     via (dep (dep (dep (uint 8) (λ a. uint 8)) (λ a. uint 8)) (λ a. uint 8))
@@ -217,7 +230,7 @@ claimsEnd =
     (λ p. record { reason = p .0 .0 .0; «policy_digest» = p .0 .0 .1; times = p .0 .1; signature = p .1 })
     (λ e. (((e .reason, e .«policy_digest»), e .times), e .signature)) (λ a g. refl)
 
--- all of it
+-- the fields of an attestation, all of them
 unfoldable pub claims : Codec LostVoterAttestationV1
 claims =
     via (dep (dep (dep claimsRequest (λ a. claimsSlot)) (λ a. claimsNames)) (λ a. claimsEnd))
@@ -228,17 +241,20 @@ claims =
 abbrev pub maxAttestationBytes : ℕ
 maxAttestationBytes = 8192
 
--- The rule of validation.rs is refused by 6 as bytes left over are, so it may come before them.
+-- The fields and then `LostVoterAttestationV1::validate`. The Rust tests for bytes left over
+-- between the two; both refuse by 6, so the order cannot be seen.
 unfoldable pub attestation : Codec LostVoterAttestationV1
 attestation = check claims (λ a. require (validAttestation a))
 
 -- ---- an open request
 
+-- the snapshot of the evidence: cut, id, digest
 unfoldable pub snapshot : Codec VoterSnapshotEvidence
 snapshot =
     via (dep (dep logId (λ a. snapshotId)) (λ a. raw 32)) (λ p. record { cut = p .0 .0; «snapshot_id» = p .0 .1; digest = p .1 })
     (λ s. ((s .cut, s .«snapshot_id»), s .digest)) (λ a g. refl)
 
+-- three cuts, each present or absent
 unfoldable pub threeCuts : Codec ThreeCuts
 threeCuts =
     via (dep (dep optionalLogId (λ a. optionalLogId)) (λ a. optionalLogId)) (λ p. record { first = p .0 .0; second = p .0 .1; third = p .1 })
@@ -251,11 +267,13 @@ evidence =
     (λ p. evidenceOf (p .0 .0 .0) (p .0 .0 .1 .0) (p .0 .0 .1 .1) (p .0 .1) (p .1))
     (λ e. (((e .prepare, (e .«has_snapshot», e .snapshot)), earlyCuts e), lateCuts e)) (λ a g. refl)
 
+-- predecessor, successor, phase
 unfoldable pub change : Codec Change
 change =
     via (dep (dep configuration (λ a. configuration)) (λ a. choice prepared uniform))
     (λ p. record { predecessor = p .0 .0; successor = p .0 .1; phase = p .1 }) (λ c. ((c .predecessor, c .successor), c .phase)) (λ a g. refl)
 
+-- expected revision, the attestation with its size, both configurations and the phase, the evidence
 unfoldable pub replacement : Codec VoterReplacementRecord
 replacement =
     via (dep (dep (dep (uint 8) (λ a. boxed attestation maxAttestationBytes)) (λ a. change)) (λ a. evidence))
@@ -282,9 +300,11 @@ pub head-is : (p : List ℕ × ℕ) → headTest p ≡ 0 → _≡_ {A = List ℕ
 unfolding headTest
 head-is p e = head-by p (eqBytes (p .0) magic) (eqb (p .1) 1) refl refl e
 
+-- magic and version
 unfoldable pub magicAndVersion : Codec (Unit {0})
 magicAndVersion = via (check (dep (raw 4) (λ a. uint 2)) headTest) (λ p. tt) (λ u. (magic, 1)) (λ p g. head-is p (tested (dep (raw 4) (λ a. uint 2)) headTest p g))
 
+-- installation, manifest, revision, epoch
 unfoldable pub tableHead : Codec TableHead
 tableHead =
     via (dep (dep (dep (raw 32) (λ a. raw 32)) (λ a. uint 8)) (λ a. epoch))

@@ -1,7 +1,7 @@
 -- Groups of fields that stand together in the bytes, their blanks, and the records made of them and
 -- taken apart into them.
 -- They are no records of document 01 or of the Rust: they keep every reader at five fields or
--- fewer.
+-- fewer. The order of the fields is that of codec.rs.
 -- Assumes nothing.
 use Prim.Native.Nat.{ℕ, _≤_}
 use mathlib.Core.Bool.{Bool, false}
@@ -31,17 +31,21 @@ use Rattle.layout.specs.declared.parts.Times.{Times}
 use Rattle.layout.specs.declared.parts.Change.{Change}
 use Rattle.layout.specs.declared.parts.TableHead.{TableHead}
 
--- ---- blanks
+-- ---- blanks: what a reader returns of a group that is refused, "all zero"
 
+-- what follows an identity in a member
 unfoldable pub blankBinding : Binding
 blankBinding = record { «key_digest» = zeros 32; «descriptor_digest» = zeros 32; «admission_generation» = 0 }
 
+-- the front of a receipt
 unfoldable pub blankResultHead : ResultHead
 blankResultHead = record { «request_id» = zeros 16; «request_digest» = zeros 32; incarnation = 0; revision = 0 }
 
+-- a slot's member with its retired number
 unfoldable pub blankSlotMember : SlotMember
 blankSlotMember = record { member = blankVoterSlotMember; «retired_through» = 0 }
 
+-- the four groups of an attestation, and its times
 unfoldable pub blankClaimsRequest : ClaimsRequest
 blankClaimsRequest = record { «request_id» = zeros 16; «request_digest» = zeros 32 }
 
@@ -64,9 +68,11 @@ blankTimes = record { «observation_start_ms» = 0; «decision_ms» = 0; «issue
 unfoldable pub blankClaimsEnd : ClaimsEnd
 blankClaimsEnd = record { reason = 0; «policy_digest» = zeros 32; times = blankTimes; signature = zeros 64 }
 
+-- both configurations, and the phase
 unfoldable pub blankChange : Change
 blankChange = record { predecessor = blankVoterConfiguration; successor = blankVoterConfiguration; phase = 0 }
 
+-- a table before its count
 unfoldable pub blankTableHead : TableHead
 blankTableHead =
     record { «cluster_instance» = zeros 32; «manifest_digest» = zeros 32; revision = 0; «configuration_epoch» = 0 }
@@ -89,11 +95,13 @@ absentSnapshot = (false, blankVoterSnapshotEvidence)
 abbrev pub TableFront : Type 0
 TableFront = ((Unit {0} × TableHead) × ℕ) × List VoterSlotRecord
 
+-- nothing was read
 abbrev pub blankTableFront : TableFront
 blankTableFront = (((tt, blankTableHead), 0), blankVoterSlotRecords)
 
 -- ---- a record of its groups, and its groups
 
+-- a member
 abbrev pub memberOf : VoterSlotIdentity → Binding → VoterSlotMember
 memberOf i b =
     record {
@@ -111,6 +119,7 @@ bindingOf m =
       «admission_generation» = m .«admission_generation»;
     }
 
+-- a receipt
 abbrev pub resultOf : ResultHead → ℕ → ℕ → VoterSlotLogId → VoterReplacementResult
 resultOf h e k t =
     record {
@@ -130,6 +139,7 @@ resultHeadOf r =
 abbrev pub slotMemberOf : VoterSlotRecord → SlotMember
 slotMemberOf s = record { member = s .member; «retired_through» = s .«retired_through» }
 
+-- an attestation
 abbrev pub attestationOf : ClaimsRequest → ClaimsSlot → ClaimsNames → ClaimsEnd → LostVoterAttestationV1
 attestationOf r s n e =
     record {
@@ -187,6 +197,7 @@ timesOf a =
 abbrev pub claimsEndOf : LostVoterAttestationV1 → ClaimsEnd
 claimsEndOf a = record { reason = a .reason; «policy_digest» = a .«policy_digest»; times = timesOf a; signature = a .signature }
 
+-- the evidence
 abbrev pub evidenceOf : VoterSlotLogId → Bool → VoterSnapshotEvidence → ThreeCuts → ThreeCuts → VoterReplacementEvidence
 evidenceOf p b s c d =
     record {
@@ -208,6 +219,7 @@ earlyCuts e = record { first = e .learner; second = e .«caught_up»; third = e 
 abbrev pub lateCuts : VoterReplacementEvidence → ThreeCuts
 lateCuts e = record { first = e .fence; second = e .joint; third = e .uniform }
 
+-- an open request
 abbrev pub replacementOf : ℕ → LostVoterAttestationV1 → Change → VoterReplacementEvidence → VoterReplacementRecord
 replacementOf r a c e =
     record {
@@ -222,6 +234,7 @@ replacementOf r a c e =
 abbrev pub changeOf : VoterReplacementRecord → Change
 changeOf r = record { predecessor = r .predecessor; successor = r .successor; phase = r .phase }
 
+-- a table
 abbrev pub tableOf : TableHead → ℕ → List VoterSlotRecord → Bool → VoterReplacementRecord → VoterSlotTable
 tableOf h n s b r =
     record {
@@ -244,8 +257,10 @@ tableHeadOf t =
       «configuration_epoch» = t .«configuration_epoch»;
     }
 
--- ---- lengths that the fields hold, which the representability check has tested
+-- ---- lengths that the fields hold, which the representability check has tested: names of at most
+-- 2,048 bytes, snapshot ids of at most 256, counts of at most nine
 
+-- of an open request
 pub record ReplacementFits (r : VoterReplacementRecord) : Type 0 where
   pub candidate : r .attestation .«candidate_spiffe_id» .len ≤ 2048
   pub controller : r .attestation .«controller_spiffe_id» .len ≤ 2048
@@ -253,6 +268,7 @@ pub record ReplacementFits (r : VoterReplacementRecord) : Type 0 where
   pub successor : r .successor .count ≤ 9
   pub snapshot : r .evidence .snapshot .«snapshot_id» .len ≤ 256
 
+-- of a table
 pub record TableFits (t : VoterSlotTable) : Type 0 where
   pub count : t .count ≤ 9
   pub replacement : ReplacementFits (t .replacement)

@@ -1,7 +1,7 @@
--- What the readers' answers say: for each case document 01's number and the values. An answer that
--- carries a value is a reading of the format;
--- `report` is of an answer that comes with its value, and `outcome` puts both together, with the
--- blank where it is a refusal.
+-- What the readers' answers say: "For every case of an enum answer, a definition gives this paper's
+-- number and values" (document 01). `..Read` gives an answer that carries its value as a reading of
+-- the format, and `why..` the answer of its refusal; `report` is of an answer that comes next to
+-- its value, and `outcome` puts both together, with the blank where it is a refusal.
 -- Assumes nothing.
 use Prim.Native.Nat.{ℕ, _+_}
 use mathlib.Core.Bool.{Bool}
@@ -66,6 +66,7 @@ abbrev pub whySized : SizedRead → Answer
 whySized (sized-read.Read n at) = InvalidRecord
 whySized (sized-read.Refused a) = a
 
+-- a number of 64, of 16, of 8 bits
 abbrev pub u64Read : U64Read → Res ℕ
 u64Read (u64-read.Read x n) = ok x n
 u64Read (u64-read.Refused a) = no (numberOf a)
@@ -90,6 +91,7 @@ abbrev pub whyU8 : U8Read → Answer
 whyU8 (u8-read.Read x n) = InvalidRecord
 whyU8 (u8-read.Refused a) = a
 
+-- a yes or no
 abbrev pub boolRead : BoolRead → Res Bool
 boolRead (bool-read.Read x n) = ok x n
 boolRead (bool-read.Refused a) = no (numberOf a)
@@ -98,6 +100,7 @@ abbrev pub whyBool : BoolRead → Answer
 whyBool (bool-read.Read x n) = InvalidRecord
 whyBool (bool-read.Refused a) = a
 
+-- a slot and an incarnation
 abbrev pub identityRead : IdentityRead → Res VoterSlotIdentity
 identityRead (identity-read.Read x n) = ok x n
 identityRead (identity-read.Refused a) = no (numberOf a)
@@ -106,6 +109,7 @@ abbrev pub whyIdentity : IdentityRead → Answer
 whyIdentity (identity-read.Read x n) = InvalidRecord
 whyIdentity (identity-read.Refused a) = a
 
+-- a cut, one that may be absent, three of them
 abbrev pub logIdRead : LogIdRead → Res VoterSlotLogId
 logIdRead (log-id-read.Read x n) = ok x n
 logIdRead (log-id-read.Refused a) = no (numberOf a)
@@ -130,6 +134,7 @@ abbrev pub whyThreeCuts : ThreeCutsRead → Answer
 whyThreeCuts (three-cuts-read.Read x n) = InvalidRecord
 whyThreeCuts (three-cuts-read.Refused a) = a
 
+-- the times of an attestation
 abbrev pub timesRead : TimesRead → Res Times
 timesRead (times-read.Read x n) = ok x n
 timesRead (times-read.Refused a) = no (numberOf a)

@@ -31,7 +31,7 @@ use Rattle.control.specs.Control.{beginKind, advanceKind, markerKind, recordSna
 use Rattle.control.specs.Observation.{observeMembership}
 use Rattle.proved_cases.specs.Row.{Row}
 use Rattle.proved_cases.specs.Row.Row.{is-outcome}
-use Rattle.proved_cases.specs.Tables.{cut, key, memberOf, slotOf, idleWith, tableOf}
+use Rattle.proved_cases.specs.Tables.{cut, key, memberWith, freshSlot, idleWith, freshTable}
 
 -- ---- requests
 
@@ -109,14 +109,17 @@ unchecked r =
 
 -- ---- calls
 
+-- a call with its values
 pub data Act : Type 0 where
   commands : VoterSlotControl → VoterSlotLogId → Act
   observes : (ids counts nodes : List ℕ) → VoterSlotLogId → Act
 
+-- what it gives, by the definitions of `apply_control` and `observe_membership`
 abbrev pub does : Act → VoterSlotTable → Answer × VoterSlotTable
 does (commands c at) t = applyControl t c at
 does (observes ids counts nodes at) t = observeMembership t ids counts nodes at
 
+-- a Begin
 abbrev pub begins : VoterReplacementRequest → VoterSlotLogId → Act
 begins r at =
     commands (record { kind = beginKind; request = r; «request_id» = blankRequestId; «request_digest» = blankRequestDigest; step = blankVoterReplacementStep }) at
@@ -131,25 +134,28 @@ abbrev pub mixed : (kind : ℕ) → VoterReplacementRequest → (id : ℕ) → V
 mixed kind r id at =
     commands (record { kind = kind; request = r; «request_id» = replicate 16 id; «request_digest» = blankRequestDigest; step = blankVoterReplacementStep }) at
 
+-- a Marker
 abbrev pub marks : (id : ℕ) → VoterSlotLogId → Act
 marks id at = names markerKind id id blankVoterReplacementStep at
 
-abbrev pub stepWith : ℕ → VoterSnapshotEvidence → VoterSlotLogId → VoterReplacementStep
-stepWith kind snapshot mark = record { kind = kind; snapshot = snapshot; «caught_up» = mark }
+-- a step of these parts
+abbrev pub stepBy : ℕ → VoterSnapshotEvidence → VoterSlotLogId → VoterReplacementStep
+stepBy kind snapshot mark = record { kind = kind; snapshot = snapshot; «caught_up» = mark }
 
 -- a step with no part
 abbrev pub bare : ℕ → VoterReplacementStep
-bare kind = stepWith kind blankVoterSnapshotEvidence (cut 0 0)
+bare kind = stepBy kind blankVoterSnapshotEvidence (cut 0 0)
 
+-- a snapshot at that cut, with the id `s`
 abbrev pub snapshotAt : VoterSlotLogId → VoterSnapshotEvidence
 snapshotAt at = record { cut = at; «snapshot_id» = record { len = 1; bytes = 115 ∷ replicate 255 0 }; digest = key 4 }
 
 -- each step: of request id, with its part, at a cut
 abbrev pub snapshots : ℕ → (taken at : VoterSlotLogId) → Act
-snapshots id taken at = names advanceKind id id (stepWith recordSnapshotKind (snapshotAt taken) (cut 0 0)) at
+snapshots id taken at = names advanceKind id id (stepBy recordSnapshotKind (snapshotAt taken) (cut 0 0)) at
 
 abbrev pub catches : ℕ → (mark at : VoterSlotLogId) → Act
-catches id mark at = names advanceKind id id (stepWith recordCaughtUpKind blankVoterSnapshotEvidence mark) at
+catches id mark at = names advanceKind id id (stepBy recordCaughtUpKind blankVoterSnapshotEvidence mark) at
 
 abbrev pub continues : ℕ → VoterSlotLogId → Act
 continues id at = names advanceKind id id (bare recordContinuationKind) at
@@ -176,9 +182,11 @@ rowsOf t (makes act next ∷ responses) = is-outcome (does act t) 0 next ∷ row
 
 -- ---- request 21: slot 2 of three, in incarnation 2; from its Begin to Finalize
 
+-- the table before it
 abbrev pub start : VoterSlotTable
-start = tableOf 3
+start = freshTable 3
 
+-- its request, for revision 1 and epoch 1
 abbrev pub first : VoterReplacementRequest
 first = request 1 1 21 2 1 2 9 5
 
@@ -194,12 +202,14 @@ both = 1 ∷ 2 ∷ 3 ∷ 65538 ∷ []
 
 -- three slots and their members, with these in place of slot 2
 abbrev pub around : VoterSlotRecord → List VoterSlotRecord
-around two = slotOf 1 ∷ two ∷ slotOf 3 ∷ replicate 6 blankVoterSlotRecord
+around two = freshSlot 1 ∷ two ∷ freshSlot 3 ∷ replicate 6 blankVoterSlotRecord
 
-abbrev pub configurationOf : ℕ → VoterSlotMember → VoterConfiguration
-configurationOf epoch two =
-    record { epoch = epoch; members = memberOf 1 1 1 1 ∷ two ∷ memberOf 3 1 3 1 ∷ replicate 6 blankVoterSlotMember; count = 3 }
+-- the configuration of that epoch, with this member in slot 2
+abbrev pub configurationWith : ℕ → VoterSlotMember → VoterConfiguration
+configurationWith epoch two =
+    record { epoch = epoch; members = memberWith 1 1 1 1 ∷ two ∷ memberWith 3 1 3 1 ∷ replicate 6 blankVoterSlotMember; count = 3 }
 
+-- a table of these parts, with this request open
 abbrev pub openWith : (revision epoch : ℕ) → List VoterSlotRecord → VoterReplacementRecord → VoterSlotTable
 openWith revision epoch slots op = tableWith start revision epoch slots true op
 
@@ -209,16 +219,17 @@ operationOf revision a candidate phase evidence =
     record {
       «expected_revision» = revision;
       attestation = a;
-      predecessor = configurationOf 1 (memberOf 2 1 2 1);
-      successor = configurationOf 2 candidate;
+      predecessor = configurationWith 1 (memberWith 2 1 2 1);
+      successor = configurationWith 2 candidate;
       phase = phase;
       evidence = evidence;
     }
 
+-- with request 21 open, in these phases
 abbrev pub openFirst : (revision epoch slotPhase phase : ℕ) → VoterReplacementEvidence → VoterSlotTable
 openFirst revision epoch slotPhase phase evidence =
-    openWith revision epoch (around (slotWith (memberOf 2 2 9 5) 1 slotPhase false blankVoterReplacementResult))
-    (operationOf 1 (attest 21 2 1 2 9 5) (memberOf 2 2 9 5) phase evidence)
+    openWith revision epoch (around (slotWith (memberWith 2 2 9 5) 1 slotPhase false blankVoterReplacementResult))
+    (operationOf 1 (attest 21 2 1 2 9 5) (memberWith 2 2 9 5) phase evidence)
 
 -- evidence of a prepare alone
 abbrev pub prepareAt : VoterSlotLogId → VoterReplacementEvidence
@@ -226,6 +237,7 @@ prepareAt at =
     evidenceWith at false blankVoterSnapshotEvidence blankOptionalLogId blankOptionalLogId blankOptionalLogId blankOptionalLogId blankOptionalLogId
     blankOptionalLogId
 
+-- after its Begin, and after each step up to Finalize
 abbrev pub isPrepared : VoterSlotTable
 isPrepared = openFirst 2 1 pending prepared (prepareAt (cut 2 10))
 
@@ -278,6 +290,7 @@ isUniform =
     (evidenceWith (cut 2 10) true (snapshotAt (cut 2 10)) (present (cut 2 12)) (present (cut 2 16)) (present (cut 2 18)) (present (cut 2 19)) (present (cut 2 21))
     (present (cut 2 22)))
 
+-- a receipt of these parts; the digest is told by the id's byte
 abbrev pub receiptWith : (id incarnation revision epoch kind : ℕ) → VoterSlotLogId → VoterReplacementResult
 receiptWith id incarnation revision epoch kind terminal =
     record {
@@ -292,49 +305,54 @@ receiptWith id incarnation revision epoch kind terminal =
 
 -- slot 2 with the receipt of its Finalize at revision 11
 abbrev pub replacedSlot : VoterSlotRecord
-replacedSlot = slotWith (memberOf 2 2 9 5) 1 voting true (receiptWith 21 2 11 2 completed (cut 2 23))
+replacedSlot = slotWith (memberWith 2 2 9 5) 1 voting true (receiptWith 21 2 11 2 completed (cut 2 23))
 
 -- at that revision
 abbrev pub isFinalizedAt : ℕ → VoterSlotTable
 isFinalizedAt revision = idleWith revision 2 3 (around replacedSlot)
 
+-- after Finalize
 abbrev pub isFinalized : VoterSlotTable
 isFinalized = isFinalizedAt 11
 
 -- ---- request 25, after it: slot 3, at a lower cut
 
+-- its request, for revision 11 and epoch 2
 abbrev pub next : VoterReplacementRequest
 next = request 11 2 25 3 1 3 9 5
 
+-- after its Begin
 abbrev pub isNext : VoterSlotTable
 isNext =
-    openWith 12 2 (slotOf 1 ∷ replacedSlot ∷ slotWith (memberOf 3 2 9 5) 1 pending false blankVoterReplacementResult ∷ replicate 6 blankVoterSlotRecord)
+    openWith 12 2 (freshSlot 1 ∷ replacedSlot ∷ slotWith (memberWith 3 2 9 5) 1 pending false blankVoterReplacementResult ∷ replicate 6 blankVoterSlotRecord)
     (record {
       «expected_revision» = 11;
       attestation = attest 25 3 1 3 9 5;
-      predecessor = configurationOf 2 (memberOf 2 2 9 5);
+      predecessor = configurationWith 2 (memberWith 2 2 9 5);
       successor =
-          record { epoch = 3; members = memberOf 1 1 1 1 ∷ memberOf 2 2 9 5 ∷ memberOf 3 2 9 5 ∷ replicate 6 blankVoterSlotMember; count = 3 };
+          record { epoch = 3; members = memberWith 1 1 1 1 ∷ memberWith 2 2 9 5 ∷ memberWith 3 2 9 5 ∷ replicate 6 blankVoterSlotMember; count = 3 };
       phase = prepared;
       evidence = prepareAt (cut 1 2);
     })
 
 -- ---- request 26, after it too: slot 2 again, in incarnation 3
 
+-- after its Begin; the receipt of 21 stays
 abbrev pub isReplacedAgain : VoterSlotTable
 isReplacedAgain =
-    openWith 12 2 (around (slotWith (memberOf 2 3 10 6) 2 pending true (replacedSlot .«last_result»)))
+    openWith 12 2 (around (slotWith (memberWith 2 3 10 6) 2 pending true (replacedSlot .«last_result»)))
     (record {
       «expected_revision» = 11;
       attestation = attest 26 2 2 9 10 6;
-      predecessor = configurationOf 2 (memberOf 2 2 9 5);
-      successor = configurationOf 3 (memberOf 2 3 10 6);
+      predecessor = configurationWith 2 (memberWith 2 2 9 5);
+      successor = configurationWith 3 (memberWith 2 3 10 6);
       phase = prepared;
       evidence = prepareAt (cut 1 2);
     })
 
 -- ---- requests 22 and 24, of which each supersedes the one before it; 23 is for another slot
 
+-- the three requests
 abbrev pub second : VoterReplacementRequest
 second = request 4 1 22 2 2 9 10 6
 
@@ -352,9 +370,10 @@ bothNext = 1 ∷ 2 ∷ 3 ∷ 131074 ∷ []
 -- Begin that superseded it, the table's epoch.
 abbrev pub openSecond : (revision slotPhase phase : ℕ) → VoterReplacementEvidence → VoterSlotTable
 openSecond revision slotPhase phase evidence =
-    openWith revision 1 (around (slotWith (memberOf 2 3 10 6) 2 slotPhase true (receiptWith 21 2 5 1 superseded (cut 2 14))))
-    (operationOf 4 (attest 22 2 2 9 10 6) (memberOf 2 3 10 6) phase evidence)
+    openWith revision 1 (around (slotWith (memberWith 2 3 10 6) 2 slotPhase true (receiptWith 21 2 5 1 superseded (cut 2 14))))
+    (operationOf 4 (attest 22 2 2 9 10 6) (memberWith 2 3 10 6) phase evidence)
 
+-- 22 after its Begin, and after two steps
 abbrev pub isSuperseded : VoterSlotTable
 isSuperseded = openSecond 5 pending prepared (prepareAt (cut 2 14))
 
@@ -373,11 +392,12 @@ hasSecondLearner =
 -- the receipt of 22 has taken the place of that of 21
 abbrev pub isSupersededAgain : VoterSlotTable
 isSupersededAgain =
-    openWith 8 1 (around (slotWith (memberOf 2 4 11 7) 3 pending true (receiptWith 22 3 8 1 superseded (cut 2 18))))
-    (operationOf 7 (attest 24 2 3 10 11 7) (memberOf 2 4 11 7) prepared (prepareAt (cut 2 18)))
+    openWith 8 1 (around (slotWith (memberWith 2 4 11 7) 3 pending true (receiptWith 22 3 8 1 superseded (cut 2 18))))
+    (operationOf 7 (attest 24 2 3 10 11 7) (memberWith 2 4 11 7) prepared (prepareAt (cut 2 18)))
 
 -- ---- Fenced, with no continuation
 
+-- after the fence
 abbrev pub isFencedAlone : VoterSlotTable
 isFencedAlone =
     openFirst 7 1 catchingUp fenced
@@ -392,15 +412,15 @@ preparedWith slots = openWith 2 1 slots (isPrepared .replacement)
 
 -- slot 2 of the candidate, in that phase
 abbrev pub candidateIn : ℕ → VoterSlotRecord
-candidateIn phase = slotWith (memberOf 2 2 9 5) 1 phase false blankVoterReplacementResult
+candidateIn phase = slotWith (memberWith 2 2 9 5) 1 phase false blankVoterReplacementResult
 
 -- slot of that number in its first incarnation, pending
 abbrev pub pendingOf : ℕ → VoterSlotRecord
-pendingOf slot = slotWith (memberOf slot 1 slot 1) 0 pending false blankVoterReplacementResult
+pendingOf slot = slotWith (memberWith slot 1 slot 1) 0 pending false blankVoterReplacementResult
 
 -- Prepared, where the attested incarnation is 2^47
 abbrev pub attestedLast : List VoterSlotRecord → VoterSlotTable
-attestedLast slots = openWith 2 1 slots (operationOf 1 (attest 21 2 (2 ^ 47) 2 9 5) (memberOf 2 2 9 5) prepared (prepareAt (cut 2 10)))
+attestedLast slots = openWith 2 1 slots (operationOf 1 (attest 21 2 (2 ^ 47) 2 9 5) (memberWith 2 2 9 5) prepared (prepareAt (cut 2 10)))
 
 -- Prepared, where the epoch of the predecessor is full
 abbrev pub epochFull : VoterSlotTable
@@ -409,8 +429,8 @@ epochFull =
     (record {
       «expected_revision» = 1;
       attestation = attest 21 2 1 2 9 5;
-      predecessor = configurationOf full (memberOf 2 1 2 1);
-      successor = configurationOf 1 (memberOf 2 2 9 5);
+      predecessor = configurationWith full (memberWith 2 1 2 1);
+      successor = configurationWith 1 (memberWith 2 2 9 5);
       phase = prepared;
       evidence = prepareAt (cut 2 10);
     })

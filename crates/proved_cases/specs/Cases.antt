@@ -23,7 +23,7 @@ use Rattle.records.specs.Representable.{representableMember, representableResul
 use Rattle.records.specs.Validation.{validResult, validSlot, validSlots, validity, validate, validConfiguration, validAttestation, validOperationHead, isCurrentEpoch, validOperation, retiredMember, validTarget, validateMember, validateMembers, validateOperation}
 use Rattle.records.specs.declared.records.VoterSlotTable.{VoterSlotTable}
 use Rattle.layout.specs.Layout.{table, magicAndVersion, headTest, tableHead, epoch, slotCount, slots, slot, slotMember, identity, slotId, incarnation, binding, choice, result, magic, configuration, members, member, resultHead, version, claims, claimsEnd, claimsNames, claimsSlot, claimsRequest, times, attestation, spiffeId, snapshotId, string, sized, logId, optionalLogId, snapshot, evidence, threeCuts, change, replacement}
-use Rattle.codec.specs.Codec.{decodeVoterSlotTable, tableBytes, encodeVoterSlotTable, restarted, restartOutcome, bounded, decoded as answered, decodeLostVoterAttestation}
+use Rattle.codec.specs.Codec.{decodeVoterSlotTable, tableBytes, encodeVoterSlotTable, restarted, restartOutcome, bounded, decoded, decodeLostVoterAttestation}
 use Rattle.records.specs.Successor.{resultSucceeds, slotSucceeds, requestSucceeds, ownReceipt, requestEnded, endedSucceeds, replacementSucceeds, headSucceeds, succession, validateSuccessorOf}
 use Rattle.control.specs.Control.{settle, representableStep, representableControl, currentConfiguration, validRequest, requestCheck, isOpenRequest, receiptIndex, knownDigest, repeated, openCheck, isExpected, isCurrent, candidateCheck, fullCheck, beginCheck, begunSlot, begunOperation, begin, recordSnapshot, recordCaughtUp, recordContinuation, fence, finalizedSlot, finalize, isCompleted, takeStep, advanceOpen, advance, marker, decide, applyControl}
 use Rattle.control.specs.Blank.{blankConsensusIdentity, blankVoterReplacementRequest, blankVoterReplacementStep, sameConsensusIdentity, sameVoterReplacementRequest, sameVoterReplacementStep}
@@ -31,10 +31,10 @@ use Rattle.control.specs.Observation.{isRising, allRising, insertId, contains, 
 use Rattle.control.specs.Retired.{isRetiredIdentity, retiredTest}
 use Rattle.control.specs.Quorum.{countsIn, among, isMajority, isQuorum}
 use Rattle.journal.specs.Records.{sizedBytes, counted, markerBody, noSnapshotPart, snapshotPart, stepBody, advanceBody, anyIdentity, candidate, expected, beginHead, beginBody, nodeIds, nodeSets, observationBody, markOf, knownMark, frame}
-use Rattle.journal.specs.Replay.{markerControl, markerAsked, snapshotIdOf, snapshotOf, stepOf, advanceOf, advanceControl, advanceAsked, beginOf, beginControl, beginAsked, observationAsked, formed, attested, asking, answered as answered-call, called, opened, opening, step, firstEntry, entriesIn, entries, run, ended, decimalIn, decimal, revisionOf, lineOf, lines, replayFrom, replay}
-use Rattle.proved_cases.specs.Row.{Row, Every, every as every-row}
+use Rattle.journal.specs.Replay.{markerControl, markerAsked, snapshotIdOf, snapshotOf, stepOf, advanceOf, advanceControl, advanceAsked, beginOf, beginControl, beginAsked, observationAsked, formed, attested, asking, answered, called, opened, opening, step, firstEntry, entriesIn, entries, run, ended, decimalIn, decimal, revisionOf, lineOf, lines, replayFrom, replay}
+use Rattle.proved_cases.specs.Row.{Row, EveryRow, everyRow}
 use Rattle.proved_cases.specs.Row.Row.{is-number, is-yes, is-no}
-use Rattle.proved_cases.specs.Tables.{cut, tableOf}
+use Rattle.proved_cases.specs.Tables.{cut, freshTable}
 use Rattle.proved_cases.specs.Calls.{around, candidateIn, attestedLast}
 use Rattle.proved_cases.specs.LogRows.{replayRows}
 use Rattle.proved_cases.specs.ControlRows.{wholeReplacement, supersession, beginOrder, advanceOrder, observationOrder, invalidTables, retiredRows, quorumRows}
@@ -46,26 +46,29 @@ use Rattle.proved_cases.specs.ControlRows.{wholeReplacement, supersessio
 abbrev pub slotBytes : ℕ → List ℕ
 slotBytes slot = (0 ∷ slot ∷ replicate 7 0) ++ (1 ∷ replicate 79 0) ++ (1 ∷ voting ∷ 0 ∷ [])
 
+-- so many slots from that number on
 abbrev pub slotsBytes : ℕ → ℕ → List ℕ
 slotsBytes slot zero = []
 slotsBytes slot (suc n) = slotBytes slot ++ slotsBytes (slot + 1) n
 
+-- the whole table
 abbrev pub bytesOf : ℕ → List ℕ
 bytesOf n = magic ++ (0 ∷ 1 ∷ replicate 71 0) ++ (1 ∷ replicate 7 0) ++ (1 ∷ n ∷ slotsBytes 1 n) ++ (0 ∷ [])
 
 -- The number that reading the bytes of a table gives.
 abbrev pub readNumber : List ℕ → ℕ
-readNumber bs = answered blankVoterSlotTable (decodeVoterSlotTable bs) .0
+readNumber bs = decoded blankVoterSlotTable (decodeVoterSlotTable bs) .0
 
 -- The number that writing a table into so many bytes gives, and a restart with such a buffer.
 abbrev pub writeNumber : VoterSlotTable → ℕ → ℕ
-writeNumber t room = answered [] (encodeVoterSlotTable t (replicate room 0)) .0
+writeNumber t room = decoded [] (encodeVoterSlotTable t (replicate room 0)) .0
 
 abbrev pub restartNumber : VoterSlotTable → ℕ → ℕ
 restartNumber t room = restartOutcome t (replicate room 0) .0 .0
 
 -- ---- the table
 
+-- each row a case of document 01, or a call of control or a log
 abbrev pub rows : List Row
 rows =
     -- slot 1, incarnation 2: node 65,537
@@ -88,11 +91,11 @@ rows =
     ∷ is-no (follows (cut 2 11) (cut 3 10) false)
     ∷ is-no (follows (cut 4 10) (cut 3 10) false)
     -- counts 1 and 9 pass, 0 and 2 do not; 10 as a value is 30
-    ∷ is-number (numberOf (validate (tableOf 1))) 0
-    ∷ is-number (numberOf (validate (tableOf 9))) 0
-    ∷ is-number (numberOf (validate (tableOf 0))) 6
-    ∷ is-number (numberOf (validate (tableOf 2))) 6
-    ∷ is-number (numberOf (validate (tableOf 10))) 30
+    ∷ is-number (numberOf (validate (freshTable 1))) 0
+    ∷ is-number (numberOf (validate (freshTable 9))) 0
+    ∷ is-number (numberOf (validate (freshTable 0))) 6
+    ∷ is-number (numberOf (validate (freshTable 2))) 6
+    ∷ is-number (numberOf (validate (freshTable 10))) 30
     -- `OPVI` alone: 6; with version 2: 4; `OPVX` with version 2: 6
     ∷ is-number (readNumber magic) 6
     ∷ is-number (readNumber (magic ++ (0 ∷ 2 ∷ []))) 4
@@ -105,14 +108,14 @@ rows =
     ∷ is-number (readNumber (bytesOf 9)) 0
     -- a table of one slot takes 180 bytes: into one less 32, which comes last, after 30 and
     -- validity's 6 and 3
-    ∷ is-number (writeNumber (tableOf 1) 180) 0
-    ∷ is-number (writeNumber (tableOf 1) 179) 32
-    ∷ is-number (writeNumber (tableOf 10) 0) 30
-    ∷ is-number (writeNumber (tableOf 2) 0) 6
+    ∷ is-number (writeNumber (freshTable 1) 180) 0
+    ∷ is-number (writeNumber (freshTable 1) 179) 32
+    ∷ is-number (writeNumber (freshTable 10) 0) 30
+    ∷ is-number (writeNumber (freshTable 2) 0) 6
     ∷ is-number (writeNumber (attestedLast (around (candidateIn pending))) 0) 3
     -- a restart in just as many bytes is accepted
-    ∷ is-number (restartNumber (tableOf 1) 180) 0
-    ∷ is-number (restartNumber (tableOf 1) 179) 32
+    ∷ is-number (restartNumber (freshTable 1) 180) 0
+    ∷ is-number (restartNumber (freshTable 1) 179) 32
     -- commands and observations
     ∷ (wholeReplacement
     ++ supersession
@@ -128,6 +131,6 @@ rows =
 
 -- ---- the theorem
 
-pub cases : Every rows
-unfolding validateVoterIncarnation validateVoterSlotIdentity newVoterSlotIdentity nodeId fromNodeId isIn startsWith isName fits widthIn decodedChar charsFrom allChars eqList allTrue sameVoterSlotIdentity sameSpiffeId sameSnapshotId sameVoterSlotLogId sameOptionalLogId sameVoterSlotMember sameVoterReplacementResult sameVoterSlotRecord sameVoterSnapshotEvidence sameVoterConfiguration sameLostVoterAttestationV1 sameVoterReplacementEvidence sameVoterReplacementRecord blankVoterSlotIdentity blankSpiffeId blankSnapshotId blankVoterSlotLogId blankOptionalLogId blankVoterSlotMember blankVoterReplacementResult blankVoterSlotRecord blankVoterSnapshotEvidence blankVoterConfiguration blankLostVoterAttestationV1 blankVoterReplacementEvidence blankVoterReplacementRecord allBelow representableMember representableResult representableSlotRecord representable follows validResult validSlot validSlots validity validate validateSlotId decodeVoterSlotTable bounded andThen whole pick gate answered tableBytes encodeVoterSlotTable restarted restartOutcome be encVec table magicAndVersion headTest via check dep raw decSeq decCheck decMap decRaw uint held decUint val tableHead epoch slotCount slots slot slotMember identity slotId incarnation binding choice result opt either always flag flagTest padded vec decVec isUtf8 isSnapshotId every blankVoterSlotTable sameVoterSlotTable firstFrom validStage stageOr validStages inOrder validContinuation validEvidence retainsCut retainsMarker retainsCuts retains laterOf latest isText representableOptionalLogId representableConfiguration representableAttestation representableEvidence representableReplacement validConfiguration validAttestation validOperationHead isCurrentEpoch validOperation retiredMember validTarget validateMember validateMembers validateOperation resultSucceeds slotSucceeds requestSucceeds ownReceipt requestEnded endedSucceeds replacementSucceeds headSucceeds succession validateSuccessorOf settle blankConsensusIdentity blankVoterReplacementRequest blankVoterReplacementStep sameConsensusIdentity sameVoterReplacementRequest sameVoterReplacementStep representableStep representableControl currentConfiguration validRequest requestCheck isOpenRequest receiptIndex knownDigest repeated openCheck isExpected isCurrent candidateCheck fullCheck beginCheck begunSlot begunOperation begin recordSnapshot recordCaughtUp recordContinuation fence finalizedSlot finalize isCompleted takeStep advanceOpen advance marker decide applyControl isRising allRising insertId contains unionIds difference splitSets total representableSets memberIdsBelow isObsolete mayLinger seePredecessor seeSets seeFrom observed observe observeMembership isRetiredIdentity retiredTest countsIn among isMajority isQuorum configuration members member resultHead version claims claimsEnd claimsNames claimsSlot claimsRequest times attestation spiffeId snapshotId string sized logId optionalLogId snapshot evidence threeCuts change replacement decodeLostVoterAttestation nextVoterIncarnation sizedBytes counted markerBody noSnapshotPart snapshotPart stepBody advanceBody anyIdentity candidate expected beginHead beginBody nodeIds nodeSets observationBody markOf knownMark frame markerControl markerAsked snapshotIdOf snapshotOf stepOf advanceOf advanceControl advanceAsked beginOf beginControl beginAsked observationAsked formed attested asking answered-call called opened opening step firstEntry entriesIn entries run ended decimalIn decimal revisionOf lineOf lines replayFrom replay flatten
-cases = every-row rows tt
+pub cases : EveryRow rows
+unfolding validateVoterIncarnation validateVoterSlotIdentity newVoterSlotIdentity nodeId fromNodeId isIn startsWith isName fits widthIn decodedChar charsFrom allChars eqList allTrue sameVoterSlotIdentity sameSpiffeId sameSnapshotId sameVoterSlotLogId sameOptionalLogId sameVoterSlotMember sameVoterReplacementResult sameVoterSlotRecord sameVoterSnapshotEvidence sameVoterConfiguration sameLostVoterAttestationV1 sameVoterReplacementEvidence sameVoterReplacementRecord blankVoterSlotIdentity blankSpiffeId blankSnapshotId blankVoterSlotLogId blankOptionalLogId blankVoterSlotMember blankVoterReplacementResult blankVoterSlotRecord blankVoterSnapshotEvidence blankVoterConfiguration blankLostVoterAttestationV1 blankVoterReplacementEvidence blankVoterReplacementRecord allBelow representableMember representableResult representableSlotRecord representable follows validResult validSlot validSlots validity validate validateSlotId decodeVoterSlotTable bounded andThen whole pick gate decoded tableBytes encodeVoterSlotTable restarted restartOutcome be encVec table magicAndVersion headTest via check dep raw decSeq decCheck decMap decRaw uint held decUint val tableHead epoch slotCount slots slot slotMember identity slotId incarnation binding choice result opt either always flag flagTest padded vec decVec isUtf8 isSnapshotId every blankVoterSlotTable sameVoterSlotTable firstFrom validStage stageOr validStages inOrder validContinuation validEvidence retainsCut retainsMarker retainsCuts retains laterOf latest isText representableOptionalLogId representableConfiguration representableAttestation representableEvidence representableReplacement validConfiguration validAttestation validOperationHead isCurrentEpoch validOperation retiredMember validTarget validateMember validateMembers validateOperation resultSucceeds slotSucceeds requestSucceeds ownReceipt requestEnded endedSucceeds replacementSucceeds headSucceeds succession validateSuccessorOf settle blankConsensusIdentity blankVoterReplacementRequest blankVoterReplacementStep sameConsensusIdentity sameVoterReplacementRequest sameVoterReplacementStep representableStep representableControl currentConfiguration validRequest requestCheck isOpenRequest receiptIndex knownDigest repeated openCheck isExpected isCurrent candidateCheck fullCheck beginCheck begunSlot begunOperation begin recordSnapshot recordCaughtUp recordContinuation fence finalizedSlot finalize isCompleted takeStep advanceOpen advance marker decide applyControl isRising allRising insertId contains unionIds difference splitSets total representableSets memberIdsBelow isObsolete mayLinger seePredecessor seeSets seeFrom observed observe observeMembership isRetiredIdentity retiredTest countsIn among isMajority isQuorum configuration members member resultHead version claims claimsEnd claimsNames claimsSlot claimsRequest times attestation spiffeId snapshotId string sized logId optionalLogId snapshot evidence threeCuts change replacement decodeLostVoterAttestation nextVoterIncarnation sizedBytes counted markerBody noSnapshotPart snapshotPart stepBody advanceBody anyIdentity candidate expected beginHead beginBody nodeIds nodeSets observationBody markOf knownMark frame markerControl markerAsked snapshotIdOf snapshotOf stepOf advanceOf advanceControl advanceAsked beginOf beginControl beginAsked observationAsked formed attested asking answered called opened opening step firstEntry entriesIn entries run ended decimalIn decimal revisionOf lineOf lines replayFrom replay flatten
+cases = everyRow rows tt

@@ -20,8 +20,8 @@ use Rattle.control.specs.Quorum.{countsIn, isQuorum}
 use Rattle.control.specs.Retired.{retiredTest, retiredNumber}
 use Rattle.proved_cases.specs.Row.{Row}
 use Rattle.proved_cases.specs.Row.Row.{is-number, is-yes, is-no}
-use Rattle.proved_cases.specs.Tables.{cut, memberOf, slotOf, placesOf, idleWith, tableOf}
-use Rattle.proved_cases.specs.Calls.{attestOf, requestOf, candidateOf, request, unchecked, Act, begins, names, mixed, marks, bare, stepWith, snapshotAt, snapshots, catches, continues, fences, finalizes, rowsOf, start, first, old, new, both, around, openSecond, isPrepared, isInstalled, hasLearnerAt, hasLearner, isCaughtUp, isContinued, isFenced, isJointTable, isUniform, isFinalizedAt, isFinalized, next, isNext, isReplacedAgain, isFencedAlone, second, otherSlot, third, bothNext, isSuperseded, isSecondInstalled, hasSecondLearner, isSupersededAgain, preparedWith, candidateIn, pendingOf, attestedLast, epochFull}
+use Rattle.proved_cases.specs.Tables.{cut, memberWith, freshSlot, placesOf, idleWith, freshTable}
+use Rattle.proved_cases.specs.Calls.{attestOf, requestOf, candidateOf, request, unchecked, Act, begins, names, mixed, marks, bare, stepBy, snapshotAt, snapshots, catches, continues, fences, finalizes, rowsOf, start, first, old, new, both, around, openSecond, isPrepared, isInstalled, hasLearnerAt, hasLearner, isCaughtUp, isContinued, isFenced, isJointTable, isUniform, isFinalizedAt, isFinalized, next, isNext, isReplacedAgain, isFencedAlone, second, otherSlot, third, bothNext, isSuperseded, isSecondInstalled, hasSecondLearner, isSupersededAgain, preparedWith, candidateIn, pendingOf, attestedLast, epochFull}
 use Rattle.proved_cases.specs.Calls.Act.{observes}
 use Rattle.proved_cases.specs.Calls.Response.{gives, makes}
 
@@ -200,20 +200,20 @@ abbrev pub beginOrder : List Row
 beginOrder =
     rowsOf start
     -- 30 and a cut of zeros: a candidate of slot 0
-    (gives (begins (requestOf 1 7 1 (memberOf 0 2 9 5) (attestOf 21 21 7 2 1 2 9 5) 21 8) (cut 0 0)) 30
+    (gives (begins (requestOf 1 7 1 (memberWith 0 2 9 5) (attestOf 21 21 7 2 1 2 9 5) 21 8) (cut 0 0)) 30
     -- and a Begin that names a request
     ∷ gives (mixed beginKind first 21 (cut 0 0)) 30
     -- 12 and 13: the digest recomputed and the revision differ
     ∷ gives (begins (unchecked (request 9 1 21 2 1 2 9 5)) (cut 2 10)) 12
     -- 12 and 13: the expected revision is 0; the expected cluster is not the attested one
     ∷ gives (begins (request 0 1 21 2 1 2 9 5) (cut 2 10)) 12
-    ∷ gives (begins (requestOf 1 8 1 (memberOf 2 2 9 5) (attestOf 21 21 7 2 1 2 9 5) 21 8) (cut 2 10)) 12
+    ∷ gives (begins (requestOf 1 8 1 (memberWith 2 2 9 5) (attestOf 21 21 7 2 1 2 9 5) 21 8) (cut 2 10)) 12
     -- 12: the candidate has another key, or another generation, than the attested
-    ∷ gives (begins (requestOf 1 7 1 (memberOf 2 2 10 5) (attestOf 21 21 7 2 1 2 9 5) 21 8) (cut 2 10)) 12
-    ∷ gives (begins (requestOf 1 7 1 (memberOf 2 2 9 6) (attestOf 21 21 7 2 1 2 9 5) 21 8) (cut 2 10)) 12
+    ∷ gives (begins (requestOf 1 7 1 (memberWith 2 2 10 5) (attestOf 21 21 7 2 1 2 9 5) 21 8) (cut 2 10)) 12
+    ∷ gives (begins (requestOf 1 7 1 (memberWith 2 2 9 6) (attestOf 21 21 7 2 1 2 9 5) 21 8) (cut 2 10)) 12
     -- 12: the candidate of another slot; the attested incarnation is 2^47, and 22 is not given
-    ∷ gives (begins (requestOf 1 7 1 (memberOf 3 2 9 5) (attestOf 21 21 7 2 1 2 9 5) 21 8) (cut 2 10)) 12
-    ∷ gives (begins (requestOf 1 7 1 (memberOf 2 (2 ^ 47) 9 5) (attestOf 21 21 7 2 (2 ^ 47) 2 9 5) 21 8) (cut 2 10)) 12
+    ∷ gives (begins (requestOf 1 7 1 (memberWith 3 2 9 5) (attestOf 21 21 7 2 1 2 9 5) 21 8) (cut 2 10)) 12
+    ∷ gives (begins (requestOf 1 7 1 (memberWith 2 (2 ^ 47) 9 5) (attestOf 21 21 7 2 (2 ^ 47) 2 9 5) 21 8) (cut 2 10)) 12
     -- 13: the slot is missing; the revision, the epoch, the configuration's id, the cluster, the
     -- incarnation or the old descriptor differs; the key is the old one too
     ∷ gives (begins (request 1 1 21 4 1 4 4 5) (cut 2 10)) 13
@@ -230,7 +230,7 @@ beginOrder =
     ∷ gives (begins (request 1 1 21 2 1 2 2 5) (cut 2 10)) 12
     ∷ [])
     -- one slot: 13 before 16, and 16 before step 5's 12
-    ++ rowsOf (tableOf 1) (gives (begins (request 9 1 21 1 1 1 1 5) (cut 2 10)) 13 ∷ gives (begins (request 1 1 21 1 1 1 1 5) (cut 2 10)) 16 ∷ [])
+    ++ rowsOf (freshTable 1) (gives (begins (request 9 1 21 1 1 1 1 5) (cut 2 10)) 13 ∷ gives (begins (request 1 1 21 1 1 1 1 5) (cut 2 10)) 16 ∷ [])
     -- a full epoch: step 5's 12 before 23
     ++ rowsOf (idleWith 1 full 3 (placesOf 3 9 1))
     (gives (begins (request 1 full 21 2 1 2 2 5) (cut 2 10)) 12 ∷ gives (begins (request 1 full 21 2 1 2 9 5) (cut 2 10)) 23 ∷ [])
@@ -254,7 +254,7 @@ beginOrder =
     ∷ gives (begins foreign (cut 1 1)) 0
     -- 15 is for the attested slot: the candidate's is 12; and 15 comes before the index and before
     -- 12
-    ∷ gives (begins (requestOf 2 7 1 (memberOf 3 3 10 6) (attestOf 22 22 7 2 2 9 10 6) 22 8) (cut 2 11)) 12
+    ∷ gives (begins (requestOf 2 7 1 (memberWith 3 3 10 6) (attestOf 22 22 7 2 2 9 10 6) 22 8) (cut 2 11)) 12
     ∷ gives (begins (unchecked otherSlot) (cut 2 10)) 15
     -- 25 for the index comes before 12; the term does not: a lower one comes after 12, 13 and step
     -- 5's 12
@@ -277,9 +277,9 @@ advanceOrder =
     -- 30 and a cut of zeros: no step is of kind 5; a Finalize has no mark; a Marker has no step; a
     -- Finalize has no snapshot; a Marker has no request; no command is of kind 3
     (gives (names advanceKind 21 21 (bare 5) (cut 0 0)) 30
-    ∷ gives (names advanceKind 21 21 (stepWith finalizeKind blankVoterSnapshotEvidence (cut 1 1)) (cut 0 0)) 30
+    ∷ gives (names advanceKind 21 21 (stepBy finalizeKind blankVoterSnapshotEvidence (cut 1 1)) (cut 0 0)) 30
     ∷ gives (names markerKind 21 21 (bare recordCaughtUpKind) (cut 0 0)) 30
-    ∷ gives (names advanceKind 21 21 (stepWith finalizeKind (snapshotAt (cut 1 1)) (cut 0 0)) (cut 0 0)) 30
+    ∷ gives (names advanceKind 21 21 (stepBy finalizeKind (snapshotAt (cut 1 1)) (cut 0 0)) (cut 0 0)) 30
     ∷ gives (mixed markerKind first 21 (cut 0 0)) 30
     ∷ gives (names 3 21 21 blankVoterReplacementStep (cut 0 0)) 30
     -- 13 and 14: another id and another digest; 14 and the cut of prepare
@@ -321,7 +321,7 @@ observationOrder =
     ∷ gives (observes old (3 ∷ []) (1 ∷ 1 ∷ []) (cut 0 0)) 31
     ∷ [])
     -- 30 of the table comes before 31
-    ++ rowsOf (tableOf 10) (gives (observes (3 ∷ 2 ∷ []) (2 ∷ []) [] (cut 0 0)) 30 ∷ [])
+    ++ rowsOf (freshTable 10) (gives (observes (3 ∷ 2 ∷ []) (2 ∷ []) [] (cut 0 0)) 30 ∷ [])
     -- a full revision: 31 before 24; 24 before 25, and for an idle observation that matches
     ++ rowsOf (idleWith full 1 3 (placesOf 3 9 1))
     (gives (observes (1 ∷ 3 ∷ 2 ∷ []) (3 ∷ []) old (cut 0 0)) 31
@@ -336,23 +336,23 @@ observationOrder =
 abbrev pub invalidTables : List Row
 invalidTables =
     -- no slots: one empty set and no nodes is what the table has; no set is not
-    rowsOf (tableOf 0) (gives (observes [] (0 ∷ []) [] (cut 0 0)) 0 ∷ gives (observes [] [] [] (cut 0 0)) 25 ∷ gives (begins first (cut 2 10)) 25 ∷ [])
+    rowsOf (freshTable 0) (gives (observes [] (0 ∷ []) [] (cut 0 0)) 0 ∷ gives (observes [] [] [] (cut 0 0)) 25 ∷ gives (begins first (cut 2 10)) 25 ∷ [])
     -- slot 1 twice: the set has it once
-    ++ rowsOf (idleWith 1 1 2 (slotOf 1 ∷ slotOf 1 ∷ replicate 7 blankVoterSlotRecord)) (gives (observes (1 ∷ []) (1 ∷ []) (1 ∷ []) (cut 0 0)) 0 ∷ [])
+    ++ rowsOf (idleWith 1 1 2 (freshSlot 1 ∷ freshSlot 1 ∷ replicate 7 blankVoterSlotRecord)) (gives (observes (1 ∷ []) (1 ∷ []) (1 ∷ []) (cut 0 0)) 0 ∷ [])
     -- Prepared, where the slot being replaced is Voting: its phase would change, and the successor
     -- check refuses that
     ++ rowsOf (preparedWith (around (candidateIn voting))) (gives (observes old (3 ∷ []) old (cut 0 0)) 25 ∷ [])
     -- the wrong phase is another slot's, which an observation does not write; a repeated Begin is
     -- 25 all the same
-    ++ rowsOf (preparedWith (slotOf 1 ∷ candidateIn pending ∷ pendingOf 3 ∷ replicate 6 blankVoterSlotRecord))
+    ++ rowsOf (preparedWith (freshSlot 1 ∷ candidateIn pending ∷ pendingOf 3 ∷ replicate 6 blankVoterSlotRecord))
     (gives (observes old (3 ∷ []) old (cut 0 0)) 0 ∷ gives (begins first (cut 2 10)) 25 ∷ [])
     -- the slot being replaced is absent
-    ++ rowsOf (preparedWith (around (slotOf 4))) (gives (observes old (3 ∷ []) old (cut 0 0)) 25 ∷ [])
+    ++ rowsOf (preparedWith (around (freshSlot 4))) (gives (observes old (3 ∷ []) old (cut 0 0)) 25 ∷ [])
     -- an attested incarnation of 2^47: 3, also with a fault in a later slot; a fault in an earlier
     -- slot is 6. A command answers 25
     ++ (is-number (numberOf (validate (attestedLast (around (candidateIn pending))))) 3
-    ∷ is-number (numberOf (validate (attestedLast (slotOf 1 ∷ candidateIn pending ∷ pendingOf 3 ∷ replicate 6 blankVoterSlotRecord)))) 3
-    ∷ is-number (numberOf (validate (attestedLast (pendingOf 1 ∷ candidateIn pending ∷ slotOf 3 ∷ replicate 6 blankVoterSlotRecord)))) 6
+    ∷ is-number (numberOf (validate (attestedLast (freshSlot 1 ∷ candidateIn pending ∷ pendingOf 3 ∷ replicate 6 blankVoterSlotRecord)))) 3
+    ∷ is-number (numberOf (validate (attestedLast (pendingOf 1 ∷ candidateIn pending ∷ freshSlot 3 ∷ replicate 6 blankVoterSlotRecord)))) 6
     ∷ [])
     ++ rowsOf (attestedLast (around (candidateIn pending))) (gives (marks 21 (cut 2 11)) 25 ∷ [])
     -- a full epoch of the predecessor has none after it
@@ -381,9 +381,9 @@ retiredRows =
     ∷ is-number (asked isPrepared (2 ^ 63)) 100
     ∷ is-number (asked isPrepared 4) 100
     -- a slot number that occurs twice: every slot is looked at
-    ∷ is-number (asked (idleWith 1 1 2 (slotOf 2 ∷ candidateIn pending ∷ replicate 7 blankVoterSlotRecord)) 2) 101
+    ∷ is-number (asked (idleWith 1 1 2 (freshSlot 2 ∷ candidateIn pending ∷ replicate 7 blankVoterSlotRecord)) 2) 101
     -- a table of ten slots
-    ∷ is-number (asked (tableOf 10) 2) 30
+    ∷ is-number (asked (freshTable 10) 2) 30
     ∷ []
 
 -- What Quorum says that it does not say: node 2 is being replaced by 65,538, and `wholeReplacement`
@@ -405,6 +405,6 @@ quorumRows =
     -- node 2 counts no more
     ∷ is-no (countsIn isUniform 2)
     -- of five, three are a quorum, and two are not
-    ∷ is-yes (isQuorum (tableOf 5) (1 ∷ 3 ∷ 5 ∷ []))
-    ∷ is-no (isQuorum (tableOf 5) (1 ∷ 3 ∷ []))
+    ∷ is-yes (isQuorum (freshTable 5) (1 ∷ 3 ∷ 5 ∷ []))
+    ∷ is-no (isQuorum (freshTable 5) (1 ∷ 3 ∷ []))
     ∷ []

@@ -1,6 +1,8 @@
--- The table and the attestation of OrderBytes, field by field: what must be read from those bytes. No two fields hold the same unless validity asks for it,
--- so that two fields which changed places in the format, the reader and the writer alike are seen. OrderLaws has the theorems.
--- Document 01, "Ported": the records of records.rs in the bytes of codec.rs. The values are those of `oracle/oracle/src/ordered.rs`.
+-- The table and the attestation of OrderBytes, field by field: what must be read from those bytes.
+-- No two fields hold the same unless validity asks for it, so that two fields which changed places
+-- in the format, the reader and the writer alike are seen. OrderLaws has the theorems.
+-- Document 01, "Ported": the records of records.rs in the bytes of codec.rs. The values are those
+-- of `oracle/oracle/src/ordered.rs`.
 -- Assumes nothing.
 use Prim.Native.Nat.{ℕ}
 use mathlib.Core.Bool.{true, false}
@@ -28,6 +30,7 @@ use Rattle.proved_cases.specs.OrderBytes.{filled}
 
 -- ---- members and receipts
 
+-- slot 259
 abbrev pub firstMember : VoterSlotMember
 firstMember =
     record { identity = identityOf 259 21; «key_digest» = filled 32 0x31; «descriptor_digest» = filled 32 0x41; «admission_generation» = 351 }
@@ -42,10 +45,12 @@ abbrev pub secondMember : VoterSlotMember
 secondMember =
     record { identity = identityOf 516 42; «key_digest» = filled 32 0x32; «descriptor_digest» = filled 32 0x42; «admission_generation» = 352 }
 
+-- slot 773
 abbrev pub thirdMember : VoterSlotMember
 thirdMember =
     record { identity = identityOf 773 63; «key_digest» = filled 32 0x33; «descriptor_digest» = filled 32 0x43; «admission_generation» = 353 }
 
+-- with the receipt of its own incarnation
 abbrev pub firstSlot : VoterSlotRecord
 firstSlot =
     record {
@@ -85,6 +90,7 @@ secondSlot =
           };
     }
 
+-- as the first
 abbrev pub thirdSlot : VoterSlotRecord
 thirdSlot =
     record {
@@ -114,6 +120,7 @@ candidateName = record { len = 12; bytes = scheme ++ (0x61 ∷ 0x2F ∷ 0x62 ∷
 abbrev pub controllerName : SpiffeId
 controllerName = record { len = 10; bytes = scheme ++ (0x63 ∷ []) ++ filled 2038 0 }
 
+-- eighteen fields, no two alike
 unfoldable pub orderedAttestation : LostVoterAttestationV1
 orderedAttestation =
     record {
@@ -139,19 +146,22 @@ orderedAttestation =
 
 -- ---- the open request
 
-abbrev pub predecessor : VoterConfiguration
-predecessor = record { epoch = 514; members = firstMember ∷ replacedMember ∷ thirdMember ∷ replicate 6 blankVoterSlotMember; count = 3 }
+-- the configurations differ in slot 516
+abbrev pub orderedPredecessor : VoterConfiguration
+orderedPredecessor = record { epoch = 514; members = firstMember ∷ replacedMember ∷ thirdMember ∷ replicate 6 blankVoterSlotMember; count = 3 }
 
-abbrev pub successor : VoterConfiguration
-successor = record { epoch = 515; members = firstMember ∷ secondMember ∷ thirdMember ∷ replicate 6 blankVoterSlotMember; count = 3 }
+abbrev pub orderedSuccessor : VoterConfiguration
+orderedSuccessor = record { epoch = 515; members = firstMember ∷ secondMember ∷ thirdMember ∷ replicate 6 blankVoterSlotMember; count = 3 }
 
 -- `snap`
 abbrev pub snapshotName : SnapshotId
 snapshotName = record { len = 4; bytes = (0x73 ∷ 0x6E ∷ 0x61 ∷ 0x70 ∷ []) ++ filled 252 0 }
 
+-- a cut that is present
 abbrev pub presentCut : ℕ → ℕ → OptionalLogId
 presentCut term index = record { «is_some» = true; cut = cut term index }
 
+-- every cut is present, and no two are alike
 abbrev pub orderedEvidence : VoterReplacementEvidence
 orderedEvidence =
     record {
@@ -166,19 +176,21 @@ orderedEvidence =
       uniform = presentCut 617 627;
     }
 
+-- in phase Uniform
 abbrev pub orderedRequest : VoterReplacementRecord
 orderedRequest =
     record {
       «expected_revision» = 301;
       attestation = orderedAttestation;
-      predecessor = predecessor;
-      successor = successor;
+      predecessor = orderedPredecessor;
+      successor = orderedSuccessor;
       phase = uniform;
       evidence = orderedEvidence;
     }
 
 -- ---- the table
 
+-- revision and epoch, and the three slots
 unfoldable pub orderedTable : VoterSlotTable
 orderedTable =
     record {

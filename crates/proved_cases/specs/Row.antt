@@ -1,5 +1,6 @@
 -- What a row of the table of cases says, and how all rows are computed at once. Cases has the table
 -- and its theorem.
+-- For document 01, "The contracts": "rows of one table that a sole theorem covers".
 -- Assumes nothing.
 use Prim.Native.Nat.{ℕ}
 use mathlib.Core.Path.{_≡_, refl}
@@ -19,24 +20,28 @@ pub data Row : Type 0 where
   is-no : Bool → Row
   is-outcome : Answer × VoterSlotTable → ℕ → VoterSlotTable → Row
 
+-- the claim of one row
 abbrev pub Holds : Row → Type 0
 Holds (is-number found expected) = found ≡ expected
 Holds (is-yes answer) = answer ≡ true
 Holds (is-no answer) = answer ≡ false
 Holds (is-outcome found number table) = (numberOf (found .0) ≡ number) × (sameVoterSlotTable (found .1) table ≡ true)
 
-abbrev pub Every : List Row → Type 0
-Every [] = Unit {0}
-Every (r ∷ rs) = Holds r × Every rs
+-- of all of them
+abbrev pub EveryRow : List Row → Type 0
+EveryRow [] = Unit {0}
+EveryRow (r ∷ rs) = Holds r × EveryRow rs
 
 -- ---- the same as a test, which is computed
 
+-- of one row
 abbrev pub holds : Row → Bool
 holds (is-number found expected) = eqb found expected
 holds (is-yes answer) = answer
 holds (is-no answer) = not answer
 holds (is-outcome found number table) = eqb (numberOf (found .0)) number && sameVoterSlotTable (found .1) table
 
+-- of all of them
 abbrev pub all : List Row → Bool
 all [] = true
 all (r ∷ rs) = holds r && all rs
@@ -58,6 +63,6 @@ row (is-outcome found number table) h =
     let p = both (eqb (numberOf (found .0)) number) (sameVoterSlotTable (found .1) table) h in
     (eqb→eq (numberOf (found .0)) number (p .0), says-yes (sameVoterSlotTable (found .1) table) (p .1))
 
-pub every : (rs : List Row) → T (all rs) → Every rs
-every [] h = tt
-every (r ∷ rs) h = let p = both (holds r) (all rs) h in (row r (p .0), every rs (p .1))
+pub everyRow : (rs : List Row) → T (all rs) → EveryRow rs
+everyRow [] h = tt
+everyRow (r ∷ rs) h = let p = both (holds r) (all rs) h in (row r (p .0), everyRow rs (p .1))

@@ -1,5 +1,6 @@
 -- The tables that the rows start from: slots 1 to n, each in its first incarnation, with no request
 -- open.
+-- For document 01, "Cases (P: proved)": "counts 1, 9 pass".
 -- Assumes nothing.
 use Prim.Native.Nat.{ℕ, zero, suc, _+_}
 use mathlib.Core.Bool.{false, cond}
@@ -15,6 +16,7 @@ use Rattle.records.specs.declared.records.VoterSlotMember.{VoterSlotMember}
 use Rattle.records.specs.declared.records.VoterSlotRecord.{VoterSlotRecord}
 use Rattle.records.specs.declared.records.VoterSlotTable.{VoterSlotTable}
 
+-- a cut of that term and index
 abbrev pub cut : ℕ → ℕ → VoterSlotLogId
 cut term index = record { term = term; index = index }
 
@@ -22,19 +24,20 @@ cut term index = record { term = term; index = index }
 abbrev pub key : ℕ → List ℕ
 key b = replicate 32 b
 
-abbrev pub memberOf : (slot incarnation digest generation : ℕ) → VoterSlotMember
-memberOf slot incarnation digest generation =
+-- a member of these parts; both its digests are of one byte
+abbrev pub memberWith : (slot incarnation digest generation : ℕ) → VoterSlotMember
+memberWith slot incarnation digest generation =
     record { identity = identityOf slot incarnation; «key_digest» = key digest; «descriptor_digest» = key digest; «admission_generation» = generation }
 
 -- A slot of that number in its first incarnation, voting, with no receipt; its digests are of its
 -- number.
-abbrev pub slotOf : ℕ → VoterSlotRecord
-slotOf slot = slotWith (memberOf slot 1 slot 1) 0 voting false blankVoterReplacementResult
+abbrev pub freshSlot : ℕ → VoterSlotRecord
+freshSlot slot = slotWith (memberWith slot 1 slot 1) 0 voting false blankVoterReplacementResult
 
 -- The slots 1 to n in the first places, blanks after them: k places from number i on.
 abbrev pub placesOf : ℕ → ℕ → ℕ → List VoterSlotRecord
 placesOf n zero i = []
-placesOf n (suc k) i = cond (leb i n) (slotOf i) blankVoterSlotRecord ∷ placesOf n k (i + 1)
+placesOf n (suc k) i = cond (leb i n) (freshSlot i) blankVoterSlotRecord ∷ placesOf n k (i + 1)
 
 -- A table with no request open.
 abbrev pub idleWith : (revision epoch count : ℕ) → List VoterSlotRecord → VoterSlotTable
@@ -51,5 +54,5 @@ idleWith revision epoch count slots =
     }
 
 -- A table of revision 1 of epoch 1 with n slots; n above 9 is a count that its places cannot have.
-abbrev pub tableOf : ℕ → VoterSlotTable
-tableOf n = idleWith 1 1 n (placesOf n 9 1)
+abbrev pub freshTable : ℕ → VoterSlotTable
+freshTable n = idleWith 1 1 n (placesOf n 9 1)

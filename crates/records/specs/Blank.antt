@@ -1,5 +1,7 @@
--- The blank of each record: each number 0, each bool false, each byte 0. Written by scripts/records.py.
--- Document 01: "the blank table or blank attestation, all zero"; "2,048 or 256 bytes and a length, zero behind it".
+-- The blank of each record: each number 0, each bool false, each byte 0.
+-- Written by scripts/records.py.
+-- Document 01: "the blank table or blank attestation, all zero"; "2,048 or 256 bytes and a length,
+-- zero behind it".
 -- Assumes nothing.
 use mathlib.Core.Bool.{false}
 use lib.ListN.{replicate}

@@ -1,4 +1,5 @@
--- When two records are the same: each field is, in the order of declaration; arrays element by element. Written by scripts/records.py.
+-- When two records are the same: each field is, in the order of declaration; arrays element by
+-- element. Written by scripts/records.py.
 -- From voter_slots/records.rs and identity.rs: the `PartialEq` that the Rust derives.
 -- Assumes nothing.
 use Prim.Native.Nat.{ℕ}

@@ -16,7 +16,7 @@ use Rattle.records.specs.declared.records.SnapshotId.{SnapshotId}
 use Rattle.records.specs.declared.records.VoterSlotLogId.{VoterSlotLogId}
 use Rattle.records.specs.declared.records.VoterReplacementEvidence.{VoterReplacementEvidence}
 
--- `VoterSlotLogId::validate`
+-- `VoterSlotLogId::validate`: no term or index of 0
 abbrev pub validLogId : VoterSlotLogId → Bool
 validLogId cut = ltb 0 (cut .term) && ltb 0 (cut .index)
 
@@ -31,10 +31,11 @@ unfoldable pub validStage : OptionalLogId → Bool → VoterSlotLogId → Bool �
 validStage stage due previous allowEqual =
     Bool·beq (stage .«is_some») due && (not (stage .«is_some») || (validLogId (stage .cut) && follows (stage .cut) previous allowEqual))
 
--- The cut that the next stage follows.
+-- The cut that the next stage follows: this one, where it is present.
 unfoldable pub stageOr : OptionalLogId → VoterSlotLogId → VoterSlotLogId
 stageOr stage previous = cond (stage .«is_some») (stage .cut) previous
 
+-- the snapshot's cut as a stage
 abbrev pub snapshotCut : VoterReplacementEvidence → OptionalLogId
 snapshotCut e = record { «is_some» = e .«has_snapshot»; cut = e .snapshot .cut }
 
@@ -61,7 +62,7 @@ inOrder continuation other isSnapshot =
     || cond (leb (other .cut .index) (continuation .index)) (follows continuation (other .cut) isSnapshot) (follows (other .cut) continuation false)
 
 -- The continuation, where there is one: after prepare, before the fence, and in order with the
--- snapshot, the learner and the mark.
+-- snapshot, the learner and the mark. It may equal the snapshot's cut, and no other.
 unfoldable pub validContinuation : VoterReplacementEvidence → Bool
 validContinuation e =
     let c = e .continuation .cut in
@@ -95,6 +96,7 @@ retainsMarker new old oldPhase =
     not (old .«is_some»)
     || (new .«is_some» && (sameVoterSlotLogId (new .cut) (old .cut) || (ltb oldPhase fenced && follows (new .cut) (old .cut) false)))
 
+-- so of each of these
 unfoldable pub retainsCuts : VoterReplacementEvidence → VoterReplacementEvidence → Bool
 retainsCuts new old =
     retainsCut (new .learner) (old .learner)

@@ -1,4 +1,5 @@
--- What every value that the program holds has: each number fits its type, each array has its length. Written by scripts/records.py.
+-- What every value that the program holds has: each number fits its type, each array has its
+-- length. Written by scripts/records.py.
 -- From the types of voter_slots/records.rs and identity.rs: for theorems over all records.
 -- Assumes nothing.
 use Prim.Native.Nat.{ℕ, zero, suc, _<_, _^_}

@@ -13,10 +13,11 @@ use Rattle.records.specs.declared.records.VoterSlotRecord.{VoterSlotReco
 use Rattle.records.specs.declared.records.VoterConfiguration.{VoterConfiguration}
 use Rattle.records.specs.declared.records.VoterSlotTable.{VoterSlotTable}
 
+-- `MAX_FIXED_VOTER_SLOTS`: "nine places always"
 abbrev pub maxFixedVoterSlots : ℕ
 maxFixedVoterSlots = 9
 
--- fewer slots leave no surviving quorum
+-- "Under 3 slots 16": fewer leave no surviving quorum
 abbrev pub minReplacementSlots : ℕ
 minReplacementSlots = 3
 
@@ -76,7 +77,7 @@ unfoldable pub firstFrom : (ℕ → Bool) → ℕ → ℕ → ℕ
 firstFrom p zero i = i
 firstFrom p (suc k) i = cond (p i) i (firstFrom p k (i + 1))
 
--- What is read after the end of a list; no code does that.
+-- What is read after the end of a list; no code does that: a cut, a member, a slot.
 abbrev noLogId : VoterSlotLogId
 noLogId = record { term = 0; index = 0 }
 

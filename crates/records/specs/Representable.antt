@@ -1,6 +1,7 @@
 -- The representability check (document 01, "Refusals from the input"), part by part. A call gives
 -- 30 to "one that the Rust types cannot hold, count above 9, text length above its field, nonzero
--- filler behind a count or in an absent part".
+-- filler behind a count or in an absent part". The Rust types are those of records.rs and
+-- identity.rs; what is not tested here (a revision, a digest, a time) may be any value.
 -- Assumes nothing.
 use Prim.Native.Nat.{ℕ}
 use mathlib.Core.Bool.{Bool, true, cond, _&&_}
@@ -26,6 +27,7 @@ use Rattle.records.specs.declared.records.VoterReplacementEvidence.{Vote
 use Rattle.records.specs.declared.records.VoterReplacementRecord.{VoterReplacementRecord}
 use Rattle.records.specs.declared.records.VoterSlotTable.{VoterSlotTable}
 
+-- filler
 abbrev pub isZero : ℕ → Bool
 isZero b = eqb b 0
 
@@ -33,6 +35,7 @@ isZero b = eqb b 0
 unfoldable pub isText : ℕ → ℕ → List ℕ → Bool
 isText most len bytes = leb len most and isUtf8 (take len bytes) and every isZero (drop len bytes)
 
+-- a name, a snapshot id
 abbrev pub representableSpiffeId : SpiffeId → Bool
 representableSpiffeId s = isText maxSpiffeIdBytes (s .len) (s .bytes)
 
@@ -43,13 +46,16 @@ representableSnapshotId s = isText maxSnapshotIdBytes (s .len) (s .bytes)
 unfoldable pub representableOptionalLogId : OptionalLogId → Bool
 representableOptionalLogId o = cond (o .«is_some») true (sameVoterSlotLogId (o .cut) blankVoterSlotLogId)
 
+-- `SlotId`, `VoterIncarnation`
 unfoldable pub representableMember : VoterSlotMember → Bool
 representableMember m = isSlotId (m .identity .slot) && isVoterIncarnation (m .identity .incarnation)
 
+-- `VoterIncarnation`, `ConsensusConfigurationEpoch`, `VoterReplacementResultKind`
 unfoldable pub representableResult : VoterReplacementResult → Bool
 representableResult r =
     isVoterIncarnation (r .incarnation) and isConfigurationEpoch (r .«configuration_epoch») and leb (r .kind) superseded
 
+-- its member, `VoterSlotPhase`, and its receipt, present or blank
 unfoldable pub representableSlotRecord : VoterSlotRecord → Bool
 representableSlotRecord s =
     representableMember (s .member)
@@ -63,12 +69,14 @@ memberPlace past m = cond past (sameVoterSlotMember m blankVoterSlotMember) (rep
 abbrev pub slotPlace : Bool → VoterSlotRecord → Bool
 slotPlace past s = cond past (sameVoterSlotRecord s blankVoterSlotRecord) (representableSlotRecord s)
 
+-- its epoch, "count above 9", its nine places
 unfoldable pub representableConfiguration : VoterConfiguration → Bool
 representableConfiguration c =
     isConfigurationEpoch (c .epoch)
     and leb (c .count) maxFixedVoterSlots
     and allBelow (λ i. memberPlace (leb (c .count) i) (memberAt c i)) maxFixedVoterSlots
 
+-- `SlotId`, `VoterIncarnation`, both names, `VoterLossReason`
 unfoldable pub representableAttestation : LostVoterAttestationV1 → Bool
 representableAttestation a =
     isSlotId (a .slot)
@@ -78,12 +86,15 @@ representableAttestation a =
     and leb storageLost (a .reason)
     and leb (a .reason) timeBoundLoss
 
+-- its id; cut and digest may be any
 abbrev pub representableSnapshot : VoterSnapshotEvidence → Bool
 representableSnapshot s = representableSnapshotId (s .«snapshot_id»)
 
+-- the snapshot, present or blank
 abbrev pub representableOptionalSnapshot : VoterReplacementEvidence → Bool
 representableOptionalSnapshot e = cond (e .«has_snapshot») (representableSnapshot (e .snapshot)) (sameVoterSnapshotEvidence (e .snapshot) blankVoterSnapshotEvidence)
 
+-- each stage, present or blank; prepare may be any cut
 unfoldable pub representableEvidence : VoterReplacementEvidence → Bool
 representableEvidence e =
     representableOptionalSnapshot e
@@ -94,6 +105,7 @@ representableEvidence e =
     and representableOptionalLogId (e .joint)
     and representableOptionalLogId (e .uniform)
 
+-- its parts, and `VoterReplacementPhase`
 unfoldable pub representableReplacement : VoterReplacementRecord → Bool
 representableReplacement r =
     representableAttestation (r .attestation)
@@ -102,7 +114,8 @@ representableReplacement r =
     and leb (r .phase) uniform
     and representableEvidence (r .evidence)
 
--- 30 of a whole table
+-- 30 of a whole table: its epoch, "count above 9", its nine places, and the open request, present
+-- or blank
 unfoldable pub representable : VoterSlotTable → Bool
 representable t =
     isConfigurationEpoch (t .«configuration_epoch»)

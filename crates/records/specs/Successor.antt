@@ -1,5 +1,6 @@
--- The successor check: `VoterSlotTable::validate_successor_of` of validation.rs. 30; the new
--- table's number; the old one's; 7.
+-- The successor check: `VoterSlotTable::validate_successor_of` of validation.rs, in its order. 30;
+-- the new table's number; the old one's; 7. The Rust says what is a regression; the tests here say
+-- what is none.
 -- Document 01: "Every changed table must pass the successor check", "7: successor check:
 -- regression".
 -- Assumes nothing.
@@ -29,6 +30,9 @@ resultSucceeds new old =
     and leb (old .«configuration_epoch») (new .«configuration_epoch»)
     and (not (eqb (new .revision) (old .revision) || eqb (new .incarnation) (old .incarnation)) || sameVoterReplacementResult new old)
 
+-- A slot: its number stays; retired-through and incarnation do not fall; in one incarnation the
+-- member stays and the phase does not fall; a new one has a greater generation; a receipt stays or
+-- is replaced.
 unfoldable pub slotSucceeds : VoterSlotRecord → VoterSlotRecord → Bool
 slotSucceeds new old =
     let mine = new .member .identity .incarnation in
@@ -86,6 +90,7 @@ endedSucceeds new old =
     (cond (eqb (old .attestation .«expected_incarnation») maxVoterIncarnation) IncarnationExhausted
     (orRegression (s .«has_last_result» && requestEnded (new .«configuration_epoch») old (s .«last_result»)) Accepted))
 
+-- The request that was open is open still, told by its id, or has ended.
 unfoldable pub replacementSucceeds : VoterSlotTable → VoterSlotTable → Answer
 replacementSucceeds new old =
     cond (not (old .«has_replacement»)) Accepted
@@ -102,7 +107,7 @@ headSucceeds new old =
     and leb (old .«configuration_epoch») (new .«configuration_epoch»)
     and eqb (new .count) (old .count)
 
--- The check of two tables that are valid.
+-- The check of two tables that are valid: tables of one revision are the same table.
 unfoldable pub succession : VoterSlotTable → VoterSlotTable → Answer
 succession new old =
     orRegression (headSucceeds new old)

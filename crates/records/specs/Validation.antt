@@ -47,8 +47,8 @@ validConfiguration c =
 abbrev pub validSpiffeId : SpiffeId → Bool
 validSpiffeId s = leb (s .len) maxSpiffeIdBytes && isName (take (s .len) (s .bytes))
 
--- Both names of an attestation are valid: what `validate_operation` requires, since its caller
--- looks at the names.
+-- Both names of an attestation are valid. No rule of its own: it is what the inner function
+-- `validate_operation` requires, since its caller looks at the names.
 pub record NamesHold (a : LostVoterAttestationV1) : Type 0 where
   pub candidate : validSpiffeId (a .«candidate_spiffe_id») ≡ true
   pub controller : validSpiffeId (a .«controller_spiffe_id») ≡ true
@@ -98,8 +98,8 @@ abbrev pub distinctResults : VoterSlotRecord → VoterSlotRecord → Bool
 distinctResults a b =
     not (a .«has_last_result» and b .«has_last_result» and eqBytes (a .«last_result» .«request_id») (b .«last_result» .«request_id»))
 
--- "odd count, 1 to 9, slot numbers strictly rising. Revision above 0"; each slot is valid, and no two
--- have a receipt of one request.
+-- "odd count, 1 to 9, slot numbers strictly rising. Revision above 0"; each slot is valid, and no
+-- two have a receipt of one request.
 unfoldable pub validSlots : VoterSlotTable → Bool
 validSlots t =
     validCount (t .count)
@@ -163,8 +163,8 @@ supersededReceipt s c =
     and eqb (s .«last_result» .kind) superseded
     and sameVoterSlotLogId (s .«last_result» .terminal) (c .prepare)
 
--- The member that is being replaced: the attested one, or, where the attested one was a candidate,
--- the one before it.
+-- The member that is being replaced: the attested one with the attested descriptor; or an earlier
+-- one, where the attested one was a candidate that was superseded.
 unfoldable pub retiredMember : Claims → VoterSlotRecord → VoterSlotMember → Bool
 retiredMember c s predecessor =
     cond (eqb (predecessor .identity .incarnation) (c .«expected_incarnation»))
@@ -213,20 +213,21 @@ validateMembers t (suc n) =
 abbrev pub hasTarget : VoterSlotTable → Bool
 hasTarget t = not (allBelow (λ i. not (eqb (slotAt t i .member .identity .slot) (t .replacement .attestation .slot))) (t .count))
 
--- `validate_operation`: 6, then the first refusal of the slots (3 among them), then 6 where no slot is
--- the target.
+-- `validate_operation`: 6, then the first refusal of the slots (3 among them), then 6 where no slot
+-- is the target.
 unfoldable pub validateOperation : VoterSlotTable → Answer
 validateOperation t =
     requireOf (validOperation t (t .replacement))
     (cond (isAccepted (validateMembers t (t .count))) (requireOf (hasTarget t) Accepted) (validateMembers t (t .count)))
 
--- Validity of a table that has passed the representability check.
+-- `VoterSlotTable::validate`, of a table that has passed the representability check: the slots;
+-- then the open request, or with none open the phase Voting in every slot.
 unfoldable pub validity : VoterSlotTable → Answer
 validity t =
     requireOf (validSlots t)
     (cond (t .«has_replacement») (validateOperation t)
     (requireOf (allBelow (λ i. eqb (slotAt t i .phase) voting) (t .count)) Accepted))
 
--- `VoterSlotTable::validate`, after 30
+-- the same after 30: "Exactly validation.rs, and nothing in the table that gets 30."
 unfoldable pub validate : VoterSlotTable → Answer
 validate t = cond (representable t) (validity t) Unrepresentable

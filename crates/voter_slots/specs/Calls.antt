@@ -1,6 +1,7 @@
 -- The service's boundary, of a table and what is asked of it: what `voter_slots_apply` and
 -- `voter_slots_observe` give, and what they leave in the bytes lent. The order of refusals: 33; the
 -- table reader's number; the attestation reader's; 30; 31; the call; 32 last.
+-- Document 01: "The Rust service calls through functions over numbers and bytes."
 -- Assumes nothing.
 use Prim.Native.Nat.{ℕ}
 use mathlib.Core.Bool.{Bool, cond, false, true}
@@ -18,7 +19,7 @@ use Rattle.journal.specs.Replay.Asking.{bad, refused, asks}
 use Rattle.voter_slots.specs.declared.result.VoterSlotsResult.{VoterSlotsResult}
 use Rattle.voter_slots.specs.Export.{leaves, withTable, written}
 
--- the longest body of a record
+-- the longest body of a record: "a 16-bit body size"
 abbrev pub mostBody : ℕ
 mostBody = 65535
 
@@ -30,6 +31,7 @@ markedCommand n = cond (eqb n 19787) Mk (cond (eqb n 16708) Ad (cond (eqb n 1696
 unfoldable pub commandOf : ℕ → ℕ → Mark
 commandOf mark len = cond (leb len mostBody) (markedCommand mark) Unknown
 
+-- the same of an observation
 unfoldable pub observationOf : ℕ → Mark
 observationOf len = cond (leb len mostBody) Ob Unknown
 

@@ -1,6 +1,7 @@
 -- The service's boundary, of a table alone: what `voter_slots_read`, `voter_slots_write` and
--- `voter_slots_retired` give, and what they leave in the bytes lent. The order of refusals: the table
--- reader's number; the call; 32 last. A call that is refused leaves every lent byte as it was.
+-- `voter_slots_retired` give, and what they leave in the bytes lent. The order of refusals: the
+-- table reader's number; the call; 32 last. A call that is refused leaves every lent byte as it
+-- was. Document 01: "The Rust service calls through functions over numbers and bytes."
 -- Assumes nothing.
 use Prim.Native.Nat.{ℕ}
 use mathlib.Core.Path.{_≡_}
@@ -44,6 +45,7 @@ resultOf t n =
 abbrev pub ReadAs : List ℕ → VoterSlotTable → Type 0
 ReadAs bs t = _≡_ {A = ℕ × VoterSlotTable} (decoded blankVoterSlotTable (decodeVoterSlotTable bs)) (0, t)
 
+-- by what the table's reader gives
 unfoldable pub readBy : ℕ → Res VoterSlotTable → VoterSlotsResult
 readBy len (ok t n) = resultOf t len
 readBy len (no k) = refusedResult k
@@ -58,6 +60,7 @@ readOf bs = readBy (length bs) (decodeVoterSlotTable bs)
 abbrev pub leaves : ℕ → List ℕ → VoterSlotsResult × List ℕ
 leaves k out = (refusedResult k, out)
 
+-- by what the writer gives
 unfoldable pub writtenBy : VoterSlotTable → List ℕ → Res (List ℕ) → VoterSlotsResult × List ℕ
 writtenBy t out (ok after n) = (resultOf t n, after)
 writtenBy t out (no k) = leaves k out
@@ -77,6 +80,7 @@ writeOf bs out = withTable (decodeVoterSlotTable bs) out (λ t. written t out)
 
 -- ---- the retired test
 
+-- by what the table's reader gives
 unfoldable pub retiredBy : ℕ → Res VoterSlotTable → ℕ
 retiredBy node (ok t n) = retiredNumber (retiredTest t node)
 retiredBy node (no k) = k

@@ -31,6 +31,7 @@ stays k t = (refusedResult k, t)
 
 -- ---- reading
 
+-- by what the table's reader gives
 unfoldable pub readOver : VoterSlotTable → ℕ → Res VoterSlotTable → VoterSlotsResult × VoterSlotTable
 readOver t len (ok read n) = (resultOf read len, read)
 readOver t len (no k) = stays k t
