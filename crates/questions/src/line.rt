@@ -18,7 +18,8 @@ pub fn new() -> Line {
 }
 
 impl Line {
-    // The line with a byte more. One that is full stays as it is; no line of this program is as long.
+    // The line with a byte more. One that is full stays as it is; no line of this program is as
+    // long.
     pub fn byte(self, b: u8) -> Line {
         let at = self.at;
         if LINE_SIZE <= at {

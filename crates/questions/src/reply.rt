@@ -11,8 +11,8 @@ pub enum Reply {
     Number(u64),
     Pair(u64, u64),
     Triple(u64, u64, u64),
-    // A table that was read: its revision, the count of its bytes, their checksum, and the checksum of
-    // its raw form.
+    // A table that was read: its revision, the count of its bytes, their checksum, and the checksum
+    // of its raw form.
     Table(u64, u64, u64, u64),
     // The body is not of the question's form: 33.
     Malformed,

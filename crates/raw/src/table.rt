@@ -1,7 +1,7 @@
 // Table values in the bodies of questions: the raw form of oracle/FORMAT.md, 8,062 bytes that are
 // carried as pieces, and the table that they stand for. Every field has its place, so that a table
-// may be invalid in every way. A byte outside the bytes given counts as 0. What the records of calls
-// (`raw_calls`) have too is read from a body of at most 70,000 bytes.
+// may be invalid in every way. A byte outside the bytes given counts as 0. What the records of
+// calls (`raw_calls`) have too is read from a body of at most 70,000 bytes.
 ghost use Prim.Native.Nat.{_+_, _≤_};
 use crate::number::be16;
 use crate::number::be64;

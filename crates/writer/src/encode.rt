@@ -97,6 +97,7 @@ fn put_log_id(buffer: &mut [u8], at: usize, id: VoterSlotLogId) -> usize
     put_be(buffer, at, 8, id.index)
 }
 
+// The flag of an optional part.
 fn put_flag(buffer: &mut [u8], at: usize, yes: bool) -> usize
     requires { ⌜ at + length (flag .enc yes) ≤ length (now buffer) ⌝ }
     ensures { λ r. ⌜ Put (flag .enc yes) at (now (buffer .entry)) (now (buffer .exit)) r ⌝ }
@@ -107,6 +108,7 @@ fn put_flag(buffer: &mut [u8], at: usize, yes: bool) -> usize
     put_be(buffer, at, 1, 0)
 }
 
+// A cut, or none.
 fn put_optional_log_id(buffer: &mut [u8], at: usize, optional: OptionalLogId) -> usize
     requires { ⌜ at + length (optionalLogId .enc optional) ≤ length (now buffer) ⌝ }
     ensures { λ r. ⌜ Put (optionalLogId .enc optional) at (now (buffer .entry)) (now (buffer .exit)) r ⌝ }
@@ -129,6 +131,7 @@ fn put_binding(buffer: &mut [u8], at: usize, m: VoterSlotMember) -> usize
     put_be(buffer, at, 8, m.admission_generation)
 }
 
+// A member of a configuration.
 fn put_member(buffer: &mut [u8], at: usize, m: VoterSlotMember) -> usize
     requires { ⌜ at + length (member .enc m) ≤ length (now buffer) ⌝ }
     ensures { λ r. ⌜ Put (member .enc m) at (now (buffer .entry)) (now (buffer .exit)) r ⌝ }
@@ -138,6 +141,7 @@ fn put_member(buffer: &mut [u8], at: usize, m: VoterSlotMember) -> usize
     put_binding(buffer, at, m)
 }
 
+// The first so many of the nine places.
 fn put_members(
     buffer: &mut [u8],
     at: usize,
@@ -168,6 +172,7 @@ fn put_configuration(buffer: &mut [u8], at: usize, c: VoterConfiguration) -> usi
     put_members(buffer, at, places, c.count)
 }
 
+// The front of a receipt.
 fn put_result_head(buffer: &mut [u8], at: usize, x: VoterReplacementResult) -> usize
     requires { ⌜ at + length (resultHead .enc (resultHeadOf x)) ≤ length (now buffer) ⌝ }
     ensures { λ r. ⌜ Put (resultHead .enc (resultHeadOf x)) at (now (buffer .entry)) (now (buffer .exit)) r ⌝ }
@@ -178,6 +183,7 @@ fn put_result_head(buffer: &mut [u8], at: usize, x: VoterReplacementResult) -> u
     put_be(buffer, at, 8, x.revision)
 }
 
+// A receipt.
 fn put_result(buffer: &mut [u8], at: usize, x: VoterReplacementResult) -> usize
     requires { ⌜ at + length (result .enc x) ≤ length (now buffer) ⌝ }
     ensures { λ r. ⌜ Put (result .enc x) at (now (buffer .entry)) (now (buffer .exit)) r ⌝ }
@@ -189,6 +195,7 @@ fn put_result(buffer: &mut [u8], at: usize, x: VoterReplacementResult) -> usize
     put_log_id(buffer, at, terminal)
 }
 
+// A receipt, or none.
 fn put_optional_result(
     buffer: &mut [u8],
     at: usize,
@@ -205,6 +212,7 @@ fn put_optional_result(
     at
 }
 
+// The front of a slot.
 fn put_slot_member(buffer: &mut [u8], at: usize, s: VoterSlotRecord) -> usize
     requires { ⌜ at + length (slotMember .enc (slotMemberOf s)) ≤ length (now buffer) ⌝ }
     ensures { λ r. ⌜ Put (slotMember .enc (slotMemberOf s)) at (now (buffer .entry)) (now (buffer .exit)) r ⌝ }
@@ -216,6 +224,7 @@ fn put_slot_member(buffer: &mut [u8], at: usize, s: VoterSlotRecord) -> usize
     put_binding(buffer, at, m)
 }
 
+// A slot.
 fn put_slot(buffer: &mut [u8], at: usize, s: VoterSlotRecord) -> usize
     requires { ⌜ at + length (slot .enc s) ≤ length (now buffer) ⌝ }
     ensures { λ r. ⌜ Put (slot .enc s) at (now (buffer .entry)) (now (buffer .exit)) r ⌝ }
@@ -226,6 +235,7 @@ fn put_slot(buffer: &mut [u8], at: usize, s: VoterSlotRecord) -> usize
     put_optional_result(buffer, at, s.has_last_result, last_result)
 }
 
+// The first so many of the nine places.
 fn put_slots(
     buffer: &mut [u8],
     at: usize,
@@ -303,6 +313,7 @@ fn put_claims_names(buffer: &mut [u8], at: usize, a: LostVoterAttestationV1) -> 
     put_bytes(buffer, at, &a.signing_key_digest)
 }
 
+// The times of an attestation.
 fn put_times(buffer: &mut [u8], at: usize, a: LostVoterAttestationV1) -> usize
     requires { ⌜ at + length (times .enc (timesOf a)) ≤ length (now buffer) ⌝ }
     ensures { λ r. ⌜ Put (times .enc (timesOf a)) at (now (buffer .entry)) (now (buffer .exit)) r ⌝ }
@@ -351,6 +362,7 @@ fn put_boxed_attestation(buffer: &mut [u8], at: usize, a: LostVoterAttestationV1
     put_attestation(buffer, at, a)
 }
 
+// The evidence of a snapshot.
 fn put_snapshot(buffer: &mut [u8], at: usize, s: VoterSnapshotEvidence) -> usize
     requires { ⌜ (at + length (snapshot .enc s) ≤ length (now buffer)) × (s .«snapshot_id» .len ≤ 256) ⌝ }
     ensures { λ r. ⌜ Put (snapshot .enc s) at (now (buffer .entry)) (now (buffer .exit)) r ⌝ }
@@ -362,6 +374,7 @@ fn put_snapshot(buffer: &mut [u8], at: usize, s: VoterSnapshotEvidence) -> usize
     put_bytes(buffer, at, &s.digest)
 }
 
+// A snapshot, or none.
 fn put_optional_snapshot(
     buffer: &mut [u8],
     at: usize,
@@ -378,6 +391,7 @@ fn put_optional_snapshot(
     at
 }
 
+// Three of the cuts that end the evidence.
 fn put_three_cuts(buffer: &mut [u8], at: usize, cuts: ThreeCuts) -> usize
     requires { ⌜ at + length (threeCuts .enc cuts) ≤ length (now buffer) ⌝ }
     ensures { λ r. ⌜ Put (threeCuts .enc cuts) at (now (buffer .entry)) (now (buffer .exit)) r ⌝ }
@@ -390,6 +404,7 @@ fn put_three_cuts(buffer: &mut [u8], at: usize, cuts: ThreeCuts) -> usize
     put_optional_log_id(buffer, at, third)
 }
 
+// The evidence of a replacement.
 fn put_evidence(buffer: &mut [u8], at: usize, e: VoterReplacementEvidence) -> usize
     requires { ⌜ (at + length (evidence .enc e) ≤ length (now buffer)) × (e .snapshot .«snapshot_id» .len ≤ 256) ⌝ }
     ensures { λ r. ⌜ Put (evidence .enc e) at (now (buffer .entry)) (now (buffer .exit)) r ⌝ }
@@ -404,6 +419,7 @@ fn put_evidence(buffer: &mut [u8], at: usize, e: VoterReplacementEvidence) -> us
     put_three_cuts(buffer, at, late)
 }
 
+// What an open request changes, and how far it is.
 fn put_change(buffer: &mut [u8], at: usize, x: VoterReplacementRecord) -> usize
     requires { ⌜ (at + length (change .enc (changeOf x)) ≤ length (now buffer)) × ((x .predecessor .count ≤ 9) × (x .successor .count ≤ 9)) ⌝ }
     ensures { λ r. ⌜ Put (change .enc (changeOf x)) at (now (buffer .entry)) (now (buffer .exit)) r ⌝ }
@@ -415,6 +431,7 @@ fn put_change(buffer: &mut [u8], at: usize, x: VoterReplacementRecord) -> usize
     put_be(buffer, at, 1, x.phase as u64)
 }
 
+// An open request.
 fn put_replacement(buffer: &mut [u8], at: usize, x: VoterReplacementRecord) -> usize
     requires { ⌜ (at + length (replacement .enc x) ≤ length (now buffer)) × ReplacementFits x ⌝ }
     ensures { λ r. ⌜ Put (replacement .enc x) at (now (buffer .entry)) (now (buffer .exit)) r ⌝ }
@@ -427,6 +444,7 @@ fn put_replacement(buffer: &mut [u8], at: usize, x: VoterReplacementRecord) -> u
     put_evidence(buffer, at, e)
 }
 
+// An open request, or none.
 fn put_optional_replacement(
     buffer: &mut [u8],
     at: usize,
@@ -452,6 +470,7 @@ fn put_head(buffer: &mut [u8], at: usize) -> usize
     put_be(buffer, at, 2, VERSION)
 }
 
+// The front of a table, after the magic and the version.
 fn put_table_head(buffer: &mut [u8], at: usize, t: VoterSlotTable) -> usize
     requires { ⌜ at + length (tableHead .enc (tableHeadOf t)) ≤ length (now buffer) ⌝ }
     ensures { λ r. ⌜ Put (tableHead .enc (tableHeadOf t)) at (now (buffer .entry)) (now (buffer .exit)) r ⌝ }
@@ -476,7 +495,7 @@ pub fn put_table(buffer: &mut [u8], at: usize, t: VoterSlotTable) -> usize
     put_optional_replacement(buffer, at, t.has_replacement, x)
 }
 
-// How many bytes each takes.
+// How many bytes each takes: the slots in use,
 fn slots_size(places: [VoterSlotRecord; MAX_FIXED_VOTER_SLOTS], count: usize) -> usize
     requires { ⌜ count ≤ 9 ⌝ }
     ensures { λ r. ⌜ r ≡ length (slots count .enc places) ⌝ }
@@ -494,6 +513,7 @@ fn slots_size(places: [VoterSlotRecord; MAX_FIXED_VOTER_SLOTS], count: usize) ->
     size
 }
 
+// three cuts, with the flag of each,
 fn three_cuts_size(cuts: ThreeCuts) -> usize
     ensures { λ r. ⌜ r ≡ length (threeCuts .enc cuts) ⌝ }
 {
@@ -515,6 +535,7 @@ fn three_cuts_size(cuts: ThreeCuts) -> usize
     first + second + third
 }
 
+// a configuration,
 fn configuration_size(c: VoterConfiguration) -> usize
     requires { ⌜ c .count ≤ 9 ⌝ }
     ensures { λ r. ⌜ r ≡ length (configuration .enc c) ⌝ }
@@ -522,6 +543,7 @@ fn configuration_size(c: VoterConfiguration) -> usize
     CONFIGURATION_SIZE + MEMBER_SIZE * c.count
 }
 
+// the evidence of a replacement,
 fn evidence_size(e: VoterReplacementEvidence) -> usize
     requires { ⌜ e .snapshot .«snapshot_id» .len ≤ 256 ⌝ }
     ensures { λ r. ⌜ r ≡ length (evidence .enc e) ⌝ }
@@ -535,6 +557,7 @@ fn evidence_size(e: VoterReplacementEvidence) -> usize
     EVIDENCE_SIZE + cuts
 }
 
+// an open request,
 fn replacement_size(x: VoterReplacementRecord) -> usize
     requires { ⌜ ReplacementFits x ⌝ }
     ensures { λ r. ⌜ r ≡ length (replacement .enc x) ⌝ }
@@ -547,6 +570,7 @@ fn replacement_size(x: VoterReplacementRecord) -> usize
     REPLACEMENT_SIZE + attestation_size(a) + configurations + evidence_size(e)
 }
 
+// and a table.
 pub fn table_size(t: VoterSlotTable) -> usize
     requires { ⌜ TableFits t ⌝ }
     ensures { λ r. ⌜ r ≡ length (table .enc t) ⌝ }
