@@ -4,9 +4,9 @@
  * crosses as the body of a replay record (docs/01-scope.md, section "Replay program"): numbers are
  * big-endian, and a body has at most VOTER_SLOTS_BODY_BYTES bytes.
  *
- * Every function may be called from any thread: they keep nothing, allocate nothing and print nothing.
- * A call takes at most 256 KB of stack. Bytes need no alignment. A buffer that is written must overlap no
- * other buffer of the same call. A pointer may be NULL where its length is 0.
+ * Every function may be called from any thread: they keep nothing, allocate nothing and print
+ * nothing. A call takes at most 256 KB of stack. Bytes need no alignment. A buffer that is written
+ * must overlap no other buffer of the same call. A pointer may be NULL where its length is 0.
  */
 #ifndef VOTER_SLOTS_H
 #define VOTER_SLOTS_H
@@ -67,7 +67,8 @@ enum {
     VOTER_SLOTS_NO_PHASE = 255
 };
 
-/* What a call gives. Refused: `open_phase` is VOTER_SLOTS_NO_PHASE, and all after `answer` is 0 else. */
+/* What a call gives. Refused: `open_phase` is VOTER_SLOTS_NO_PHASE, and all after `answer` is 0
+ * else. */
 typedef struct voter_slots_result {
     uint32_t answer;
     uint32_t slots;      /* how many slots the table has */
@@ -81,8 +82,8 @@ typedef struct voter_slots_result {
 /* Reads a table. */
 voter_slots_result voter_slots_read(const uint8_t *table, size_t table_len);
 
-/* Reads a table and writes it to the start of `out`. Refused, no byte of `out` is written; this holds
- * for the next two functions too. */
+/* Reads a table and writes it to the start of `out`. Refused, no byte of `out` is written; this
+ * holds for the next two functions too. */
 voter_slots_result voter_slots_write(const uint8_t *table, size_t table_len, uint8_t *out,
                                      size_t out_len);
 
@@ -92,27 +93,28 @@ voter_slots_result voter_slots_apply(const uint8_t *table, size_t table_len, uin
                                      const uint8_t *body, size_t body_len, uint8_t *out,
                                      size_t out_len);
 
-/* Applies an observation (the body of an OB), and writes the table afterwards as voter_slots_apply. */
+/* Applies an observation (the body of an OB), and writes the table afterwards as
+ * voter_slots_apply. */
 voter_slots_result voter_slots_observe(const uint8_t *table, size_t table_len, const uint8_t *body,
                                        size_t body_len, uint8_t *out, size_t out_len);
 
-/* Whether a node must not count any more: VOTER_SLOTS_NOT_RETIRED, VOTER_SLOTS_RETIRED, or the answer
- * of a table that is refused. A number that is no node's id is not retired. */
+/* Whether a node must not count any more: VOTER_SLOTS_NOT_RETIRED, VOTER_SLOTS_RETIRED, or the
+ * answer of a table that is refused. A number that is no node's id is not retired. */
 uint32_t voter_slots_retired(const uint8_t *table, size_t table_len, uint64_t node);
 
 /* ---- a table that is kept in memory
  *
- * The same calls on a table value, for a service that makes many: a table's bytes are read and written
- * only by voter_slots_table_read and voter_slots_table_write. The value is opaque. It is all zero before
- * its first reading (`voter_slots_table table = {{0}};`), and only these functions write it: with bytes of
- * another origin the behaviour is undefined. It may be copied and moved, but not compared byte by byte and
- * not stored: it has filler, and its form may change. Its pointer is never NULL, and it overlaps no buffer
- * of the call.
+ * The same calls on a table value, for a service that makes many: a table's bytes are read and
+ * written only by voter_slots_table_read and voter_slots_table_write. The value is opaque. It is
+ * all zero before its first reading (`voter_slots_table table = {{0}};`), and only these functions
+ * write it: with bytes of another origin the behaviour is undefined. It may be copied and moved,
+ * but not compared byte by byte and not stored: it has filler, and its form may change. Its pointer
+ * is never NULL, and it overlaps no buffer of the call.
  *
- * A call that is refused, a reading too, leaves its value as it was. While a call runs that takes it
- * without `const`, whatever it answers, no other thread may use it; the others may run side by side. Until
- * a reading is accepted every other call is refused, with VOTER_SLOTS_UNREPRESENTABLE unless the body or
- * its attestation is refused first.
+ * A call that is refused, a reading too, leaves its value as it was. While a call runs that takes
+ * it without `const`, whatever it answers, no other thread may use it; the others may run side by
+ * side. Until a reading is accepted every other call is refused, with VOTER_SLOTS_UNREPRESENTABLE
+ * unless the body or its attestation is refused first.
  */
 typedef struct voter_slots_table {
     uint64_t words[1057];
@@ -126,8 +128,8 @@ voter_slots_result voter_slots_table_read(voter_slots_table *table, const uint8_
 voter_slots_result voter_slots_table_write(const voter_slots_table *table, uint8_t *out,
                                            size_t out_len);
 
-/* Applies a command, of which `mark` is the mark; `count` is 0. Accepted, nothing changed where `revision`
- * is the one before. */
+/* Applies a command, of which `mark` is the mark; `count` is 0. Accepted, nothing changed where
+ * `revision` is the one before. */
 voter_slots_result voter_slots_table_apply(voter_slots_table *table, uint32_t mark,
                                            const uint8_t *body, size_t body_len);
 

@@ -2,8 +2,11 @@
 
 use crate::LogId;
 
-/// Bytes so far. What has no place in its size makes the whole nothing: an empty body is of no form,
-/// so that the call refuses it.
+/// The version of a table and of an attestation.
+pub(crate) const VERSION: u16 = 1;
+
+/// Bytes so far. What has no place in its size makes the whole nothing: an empty body is of no
+/// form, so that the call refuses it.
 #[derive(Default)]
 pub(crate) struct Writer {
     bytes: Vec<u8>,

@@ -18,8 +18,8 @@ pub(crate) struct Outcome {
 /// Size of a table value, in words; `bin/bindings` holds it to the header's.
 const WORDS: usize = 1057;
 
-/// Room for a table value; see `voter_slots_table` in `bindings/c/voter_slots.h`. All zero, it is the
-/// blank table, which no call but a reading accepts.
+/// Room for a table value; see `voter_slots_table` in `bindings/c/voter_slots.h`. All zero, it is
+/// the blank table, which no call but a reading accepts.
 #[derive(Clone)]
 #[repr(C)]
 pub(crate) struct Value([MaybeUninit<u64>; WORDS]);
@@ -72,10 +72,10 @@ extern "C" {
     fn voter_slots_table_retired(table: *const Value, node: u64) -> u32;
 }
 
-// SAFETY, of each call: every pointer and length is that of a slice that lives throughout it, and the
-// slice that is written is borrowed `&mut`, so that it overlaps no other. The archive keeps no pointer.
-// A `Value` is zero when it is made, which is the blank table, and only the archive writes it; its filler
-// may be anything and is never looked at.
+// SAFETY, of each call: every pointer and length is that of a slice that lives throughout it, and
+// the slice that is written is borrowed `&mut`, so that it overlaps no other. The archive keeps no
+// pointer. A `Value` is zero when it is made, which is the blank table, and only the archive writes
+// it; its filler may be anything and is never looked at.
 
 pub(crate) fn read(table: &[u8]) -> Outcome {
     unsafe { voter_slots_read(table.as_ptr(), table.len()) }

@@ -1,10 +1,11 @@
-//! The table of voter slots says which incarnation of each voter of a Raft group counts. Its code is
-//! proved: every answer of this crate is the one that `docs/01-scope.md` of its repository defines,
-//! and a retired voter never counts again.
+//! The table of voter slots says which incarnation of each voter of a Raft group counts. Its code
+//! is proved: every answer of this crate is the one that `docs/01-scope.md` of its repository
+//! defines, and a retired voter never counts again.
 //!
-//! A service keeps one [`Table`] for each group, applies committed [`Command`]s and [`Observation`]s of
-//! the engine's membership to it in the order of the log, and stores its bytes with each change. A
-//! [`LiveTable`] answers the same and spares the reading and writing of the bytes in each call.
+//! A service keeps one [`Table`] for each group, applies committed [`Command`]s and
+//! [`Observation`]s of the engine's membership to it in the order of the log, and stores its bytes
+//! with each change. A [`LiveTable`] answers the same and spares the reading and writing of the
+//! bytes in each call.
 //!
 //! ```
 //! use voter_slots::{first_table, Change, FirstVoter, LogId, Marker, Observation, Refusal, Table};

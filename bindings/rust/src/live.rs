@@ -5,11 +5,12 @@ use crate::table::{accepted, count, is_retired};
 use crate::MAX_TABLE_BYTES;
 use crate::{Change, Command, CommandKind, Observation, OpenRequest, Record, Refusal, Table};
 
-/// A table that is kept as a value: a call changes it in place, and reads and writes no bytes of a table.
+/// A table that is kept as a value: a call changes it in place, and reads and writes no bytes of a
+/// table.
 ///
 /// A [`Table`] keeps its bytes, and each call reads and writes them. Both answer the same: take a
-/// `LiveTable` where calls come often, and [`encode`](LiveTable::encode) it where it is stored. It is
-/// made by reading bytes and in no other way, so it is always valid.
+/// `LiveTable` where calls come often, and [`encode`](LiveTable::encode) it where it is stored. It
+/// is made by reading bytes and in no other way, so it is always valid.
 ///
 /// ```
 /// use voter_slots::{first_table, Change, FirstVoter, LiveTable, LogId, Observation, Refusal, Table};

@@ -3,8 +3,8 @@ use std::fmt;
 
 macro_rules! refusals {
     ($($name:ident = $number:literal, $text:literal;)*) => {
-        /// Why a call was refused: nothing was changed. Each case has the number of document 01 and,
-        /// where the original Rust has one, its name.
+        /// Why a call was refused: nothing was changed. Each case has the number of document 01
+        /// and, where the original Rust has one, its name.
         #[derive(Clone, Copy, Debug, PartialEq, Eq, Hash, PartialOrd, Ord)]
         #[non_exhaustive]
         #[repr(u8)]
