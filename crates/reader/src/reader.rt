@@ -54,7 +54,7 @@ pub fn read_incarnation(bytes: &[u8]) -> U64Read
 }
 
 // `SlotId::new` of a number that was read
-pub fn read_slot_id(bytes: &[u8]) -> U16Read
+fn read_slot_id(bytes: &[u8]) -> U16Read
     ensures { λ r. ⌜ u16Read r ≡ slotId .dec (now (bytes .entry)) ⌝ }
 {
     let number = read_u16(bytes);
@@ -141,7 +141,7 @@ pub fn read_log_id(bytes: &[u8]) -> LogIdRead
 }
 
 // `optional(Reader::log_id)`
-pub fn read_optional_log_id(bytes: &[u8]) -> OptionalLogIdRead
+fn read_optional_log_id(bytes: &[u8]) -> OptionalLogIdRead
     ensures { λ r. ⌜ optionalLogIdRead r ≡ optionalLogId .dec (now (bytes .entry)) ⌝ }
 {
     let first = read_flag(bytes);
