@@ -41,7 +41,7 @@ fn put_reply(line: Line, reply: Reply) -> Line {
         Reply::Pair(a, b) => line.number(a).byte(b' ').number(b),
         Reply::Triple(a, b, c) => line.number(a).byte(b' ').number(b).byte(b' ').number(c),
         Reply::Table(a, b, c, d) => put_table(line, a, b, c, d),
-        Reply::Malformed => line.number(33),
+        Reply::Malformed => line.number(number(Answer::BadRecord)),
     }
 }
 
