@@ -1,5 +1,6 @@
-//! Times the rules on text next to Rust's standard library, on the same inputs in the same run. `bin/bench` builds and runs it.
-//! The original checks a name by `str::from_utf8`, then by `chars` (control characters and white space).
+//! Times the rules on text next to Rust's standard library, on the same inputs in the same run.
+//! `bin/bench` builds and runs it. The original checks a name by `str::from_utf8`, then by `chars`
+//! (control characters and white space).
 
 use std::hint::black_box;
 use std::time::Instant;
@@ -21,9 +22,21 @@ struct Rule {
 }
 
 const RULES: [Rule; 3] = [
-    Rule { name: "is_utf8", port: port_utf8, rust: rust_utf8 },
-    Rule { name: "is_name", port: port_name, rust: rust_name },
-    Rule { name: "is_snapshot_id", port: port_snapshot_id, rust: rust_snapshot_id },
+    Rule {
+        name: "is_utf8",
+        port: port_utf8,
+        rust: rust_utf8,
+    },
+    Rule {
+        name: "is_name",
+        port: port_name,
+        rust: rust_name,
+    },
+    Rule {
+        name: "is_snapshot_id",
+        port: port_snapshot_id,
+        rust: rust_snapshot_id,
+    },
 ];
 
 // The exported functions ask nothing of their caller but a slice, passed as its two parts.
@@ -61,12 +74,19 @@ fn rust_snapshot_id(bytes: &[u8]) -> bool {
 }
 
 fn main() {
-    println!("{:<16}{:<28}{:>10}{:>10}{:>8}", "rule", "input", "port ns", "Rust ns", "ratio");
+    println!(
+        "{:<16}{:<28}{:>10}{:>10}{:>8}",
+        "rule", "input", "port ns", "Rust ns", "ratio"
+    );
     for rule in &RULES {
         for (label, bytes) in inputs(rule.name) {
             assert_eq!((rule.port)(&bytes), (rule.rust)(&bytes));
             let (port, rust) = measured(rule, &bytes);
-            println!("{:<16}{label:<28}{port:>10.1}{rust:>10.1}{:>8.2}", rule.name, port / rust);
+            println!(
+                "{:<16}{label:<28}{port:>10.1}{rust:>10.1}{:>8.2}",
+                rule.name,
+                port / rust
+            );
         }
     }
 }
@@ -97,19 +117,42 @@ fn median(mut times: Vec<f64>) -> f64 {
 
 /// Text that every rule accepts, of the sizes that the rule allows.
 fn inputs(rule: &str) -> Vec<(String, Vec<u8>)> {
-    let sizes: &[usize] = if rule == "is_snapshot_id" { &[40, 256] } else { &[40, 2000] };
+    let sizes: &[usize] = if rule == "is_snapshot_id" {
+        &[40, 256]
+    } else {
+        &[40, 2000]
+    };
     let largest = sizes[sizes.len() - 1];
-    let mut inputs: Vec<_> =
-        sizes.iter().map(|&size| (format!("{size} ASCII bytes"), filled(size, &["voter-07."]))).collect();
-    inputs.push((format!("{largest} bytes, mixed scripts"), filled(largest, &MIXED)));
-    inputs.push((format!("{largest} bytes, one script"), filled(largest, &["日本語"])));
+    let mut inputs: Vec<_> = sizes
+        .iter()
+        .map(|&size| (format!("{size} ASCII bytes"), filled(size, &["voter-07."])))
+        .collect();
+    inputs.push((
+        format!("{largest} bytes, mixed scripts"),
+        filled(largest, &MIXED),
+    ));
+    inputs.push((
+        format!("{largest} bytes, one script"),
+        filled(largest, &["日本語"]),
+    ));
     inputs
 }
 
-const MIXED: [&str; 10] =
-    ["порт", "κόσμος", "日本語", "한국어", "שלום", "नमस्ते", "ไทย", "voter", "😀", "é—x"];
+const MIXED: [&str; 10] = [
+    "порт",
+    "κόσμος",
+    "日本語",
+    "한국어",
+    "שלום",
+    "नमस्ते",
+    "ไทย",
+    "voter",
+    "😀",
+    "é—x",
+];
 
-/// `spiffe://`, then the parts in an order that no branch predictor learns, then ASCII up to the size.
+/// `spiffe://`, then the parts in an order that no branch predictor learns, then ASCII up to the
+/// size.
 fn filled(size: usize, parts: &[&str]) -> Vec<u8> {
     let mut text = String::from("spiffe://");
     let mut state: u32 = 7;

@@ -731,8 +731,9 @@ def zero_test(field):
 def zero_code():
     parts = ['''
 // Whether a record is blank, field by field, with no blank made. %s
-// No loop is left early, so that many bytes are compared at once. Where three arrays stand in front,
-// the first is tested by itself: LLVM would make one test of them and take it apart byte by byte.
+//
+// The forms are those of equality.rt: no loop is left early, and the first of three arrays in front
+// is tested by itself.
 ghost use mathlib.Core.Path.{_≡_};
 ghost use lib.ListN.{replicate};
 ghost use Rattle.identity.specs.Text.{every};

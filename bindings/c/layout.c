@@ -1,5 +1,6 @@
-/* That `voter_slots_table` has the size and alignment of the table value, and that the value lies as C lays
- * it out: crates/records/src/records.rt, whose structs are `#[repr(C)]`. Ends with 0 where all holds. */
+/* That `voter_slots_table` has the size and alignment of the table value, and that the value lies
+ * as C lays it out: crates/records/src/records.rt, whose structs are `#[repr(C)]`. Ends with 0
+ * where all holds. */
 #include "values.h"
 #include "voter_slots.h"
 

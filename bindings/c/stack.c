@@ -1,5 +1,5 @@
-/* How much stack the calls take: plays logs of replay records on a thread whose stack is painted before,
- * and fails where more than 256 KB of it are used. usage: stack LOG... */
+/* How much stack the calls take: plays logs of replay records on a thread whose stack is painted
+ * before, and fails where more than 256 KB of it are used. usage: stack LOG... */
 #define _GNU_SOURCE
 #include "voter_slots.h"
 

@@ -46,8 +46,9 @@ static bool is_refused(voter_slots_result r, uint32_t answer) {
            r.open_slot == 0 && r.open_phase == VOTER_SLOTS_NO_PHASE;
 }
 
-/* The same call on a table that is kept in memory: it answers what the call over bytes does (`told`), and the
- * table afterwards has the bytes that were written (`out`). There is no buffer that could be too short. */
+/* The same call on a table that is kept in memory: it answers what the call over bytes does
+ * (`told`), and the table afterwards has the bytes that were written (`out`). There is no buffer
+ * that could be too short. */
 static void check_kept(const buffer *table, uint32_t mark, const buffer *body,
                        voter_slots_result told, const uint8_t *out) {
     uint8_t *t = exact(table->bytes, table->len);
@@ -115,8 +116,8 @@ static void check_kept(const buffer *table, uint32_t mark, const buffer *body,
     free(kept);
 }
 
-/* Mark 0 is an observation, mark 1 the writer. A refusal must leave `out` alone, and what is written must be
- * read again as the result says; bytes after it stay. */
+/* Mark 0 is an observation, mark 1 the writer. A refusal must leave `out` alone, and what is
+ * written must be read again as the result says; bytes after it stay. */
 static voter_slots_result call(const buffer *table, uint32_t mark, const buffer *body, size_t room,
                                buffer *next) {
     uint8_t *t = exact(table->bytes, table->len);

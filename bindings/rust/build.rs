@@ -1,5 +1,5 @@
-//! Links `libvoter_slots.a`: from the folder that `VOTER_SLOTS_LIB` names, else from this repository's
-//! target/staticlib.
+//! Links `libvoter_slots.a`: from the folder that `VOTER_SLOTS_LIB` names, else from this
+//! repository's target/staticlib.
 
 use std::path::PathBuf;
 use std::{env, process};

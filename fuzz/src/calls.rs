@@ -1,7 +1,7 @@
-//! The service's library against the original, record by record. A TB brings a table, be it refused or
-//! not, and every other record is a call on the table that stands. Compared are the whole result and
-//! every byte of the buffer that is lent, the bytes around it included. The same records go through a
-//! table value too (`values.rs`).
+//! The service's library against the original, record by record. A TB brings a table, be it refused
+//! or not, and every other record is a call on the table that stands. Compared are the whole result
+//! and every byte of the buffer that is lent, the bytes around it included. The same records go
+//! through a table value too (`values.rs`).
 
 use std::cell::RefCell;
 
@@ -102,8 +102,8 @@ pub fn seed_of(log: &[u8]) -> u64 {
     number ^ number >> 29
 }
 
-/// The records of a log. An unknown mark does not end them here, and of a body that is cut short the
-/// bytes that are there are taken.
+/// The records of a log. An unknown mark does not end them here, and of a body that is cut short
+/// the bytes that are there are taken.
 pub fn records(mut log: &[u8]) -> impl Iterator<Item = (Mark, &[u8])> {
     std::iter::from_fn(move || {
         let (mark, rest) = log.split_first_chunk::<2>()?;
@@ -115,8 +115,8 @@ pub fn records(mut log: &[u8]) -> impl Iterator<Item = (Mark, &[u8])> {
     })
 }
 
-/// What the call gives by the original, in the order of docs/BINDINGS.md: 33, the number of the table's
-/// reader, that of the attestation's reader, 30, 31, the call's.
+/// What the call gives by the original, in the order of docs/BINDINGS.md: 33, the number of the
+/// table's reader, that of the attestation's reader, 30, 31, the call's.
 fn expected(given: &Given, mark: Mark, body: &[u8]) -> Result<VoterSlotTable, u8> {
     let body = Body::read(mark, body).ok_or(BAD_FORM)?;
     let mut table = given.table.clone()?;

@@ -1,6 +1,6 @@
-//! How much code the inputs reach. Where FUZZ_COVERAGE names a file, a line for each counter is written
-//! to it at the end: part, address, 1 where it is a function's entry, and 1 where it was reached.
-//! fuzz/coverage.py sums them up.
+//! How much code the inputs reach. Where FUZZ_COVERAGE names a file, a line for each counter is
+//! written to it at the end: part, address, 1 where it is a function's entry, and 1 where it was
+//! reached. fuzz/coverage.py sums them up.
 
 use std::io::Write;
 use std::slice;
@@ -36,8 +36,8 @@ static PARTS: OnceLock<Option<Mutex<Vec<Part>>>> = OnceLock::new();
 
 fn part((name, ends): (&'static str, &Ends)) -> Part {
     let count = ends.stop as usize - ends.start as usize;
-    // SAFETY: the linker lays the counters and the addresses of a part one after the other, as many of
-    // the one as of the other.
+    // SAFETY: the linker lays the counters and the addresses of a part one after the other, as many
+    // of the one as of the other.
     unsafe {
         Part {
             name,

@@ -1,5 +1,5 @@
-//! Bytes that end where the memory ends: one byte further on is a page that nothing may touch, so that
-//! a read or a write past the end of what was lent stops the process.
+//! Bytes that end where the memory ends: one byte further on is a page that nothing may touch, so
+//! that a read or a write past the end of what was lent stops the process.
 
 use std::ffi::c_void;
 use std::{ptr, slice};

@@ -1,8 +1,8 @@
-//! Fuzzing: a log of replay records goes to the original Rust and to the port, in one process. Where
-//! the two differ, the process ends, and libFuzzer keeps the log. See README.md.
+//! Fuzzing: a log of replay records goes to the original Rust and to the port, in one process.
+//! Where the two differ, the process ends, and libFuzzer keeps the log. See README.md.
 
-// The oracle's own modules: the values of a record as the original's types, the call, the lines of a
-// log, and the generator of records. They are compiled here as they stand.
+// The oracle's own modules: the values of a record as the original's types, the call, the lines of
+// a log, and the generator of records. They are compiled here as they stand.
 #[allow(dead_code)]
 #[path = "../../oracle/oracle/src/answer.rs"]
 mod answer;

@@ -1,5 +1,6 @@
-//! New logs from old ones. Changes that know the form keep the records whole, so that an input reaches
-//! the calls and not the reader of records alone; libFuzzer's own changes of bytes come in between.
+//! New logs from old ones. Changes that know the form keep the records whole, so that an input
+//! reaches the calls and not the reader of records alone; libFuzzer's own changes of bytes come in
+//! between.
 
 use original::{decode_voter_slot_table, encode_voter_slot_table, VoterSlotTable};
 

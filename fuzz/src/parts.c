@@ -1,5 +1,6 @@
-/* The ends of the counters, and of the table of their addresses, of each part of the harness: the linker's own names. They are
- * asked for here, in C, since rustc inserts those of the Rust code itself, and would not have them declared twice. */
+/* The ends of the counters, and of the table of their addresses, of each part of the harness: the
+ * linker's own names. They are asked for here, in C, since rustc inserts those of the Rust code
+ * itself, and would not have them declared twice. */
 #include <stddef.h>
 #include <stdint.h>
 

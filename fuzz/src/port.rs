@@ -1,6 +1,6 @@
-//! The port's code, made safe to call: the service's library and the replay program, each built twice
-//! from the proved crates. `plain` is the code that is delivered; `guided` is the same with counters,
-//! which tell libFuzzer how far an input gets.
+//! The port's code, made safe to call: the service's library and the replay program, each built
+//! twice from the proved crates. `plain` is the code that is delivered; `guided` is the same with
+//! counters, which tell libFuzzer how far an input gets.
 
 /// What a call gives; see `voter_slots_result` in `bindings/c/voter_slots.h`.
 #[derive(Clone, Copy, Debug, PartialEq, Eq)]
@@ -123,9 +123,9 @@ pub const LIBRARIES: [Library; 2] = [
     ),
 ];
 
-// SAFETY, of each call: every pointer and length is that of a slice that lives throughout it, and the
-// slice that is written is borrowed `&mut`, so that it overlaps no other. A value has its size, is
-// aligned, and its flags are 0 or 1 (`values.rs`).
+// SAFETY, of each call: every pointer and length is that of a slice that lives throughout it, and
+// the slice that is written is borrowed `&mut`, so that it overlaps no other. A value has its size,
+// is aligned, and its flags are 0 or 1 (`values.rs`).
 impl Library {
     pub fn read(&self, table: &[u8]) -> Outcome {
         unsafe { (self.read)(table.as_ptr(), table.len()) }

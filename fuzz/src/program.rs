@@ -1,6 +1,6 @@
-//! The replay program against the original, line by line. The program runs in this process: its `read`
-//! and `write` are the two functions here. How much a read brings, and whether one is interrupted or
-//! fails, follows from the log.
+//! The replay program against the original, line by line. The program runs in this process: its
+//! `read` and `write` are the two functions here. How much a read brings, and whether one is
+//! interrupted or fails, follows from the log.
 
 use std::cell::RefCell;
 use std::slice;
@@ -49,8 +49,8 @@ fn failed(error: i32) -> isize {
 }
 
 impl Io {
-    /// Everything at once, in pieces, with interrupted reads, with a read that fails, or with an output
-    /// that is closed after some bytes.
+    /// Everything at once, in pieces, with interrupted reads, with a read that fails, or with an
+    /// output that is closed after some bytes.
     fn new(log: &[u8], expected: usize) -> Self {
         let mut random = Random::for_kind(seed_of(log), "program");
         let mut io = Self {
@@ -172,8 +172,9 @@ pub fn compare(log: &[u8]) {
     }
 }
 
-/// The lines of a log that cannot be read past a place: those of the whole records before it, and of an
-/// unknown mark. The second part: the program gets as far as the read that fails, and says so.
+/// The lines of a log that cannot be read past a place: those of the whole records before it, and
+/// of an unknown mark. The second part: the program gets as far as the read that fails, and says
+/// so.
 fn until(log: &[u8], place: usize) -> (String, bool) {
     let part = &log[..place];
     let mut whole = 0;

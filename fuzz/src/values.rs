@@ -1,6 +1,7 @@
-//! The calls on a table value that the caller lends, against the original. One value goes from record to
-//! record, from the blank one on; and now and then a record meets a value that is damaged. Compared are
-//! the result and every field of the value afterwards, what is written of it, and the retired test.
+//! The calls on a table value that the caller lends, against the original. One value goes from
+//! record to record, from the blank one on; and now and then a record meets a value that is
+//! damaged. Compared are the result and every field of the value afterwards, what is written of it,
+//! and the retired test.
 
 use original::{encode_voter_slot_table, VoterSlotTable};
 
@@ -80,8 +81,8 @@ fn value_of(fields: &[Field], raw: &[u8]) -> Vec<u8> {
     value
 }
 
-/// A value that is lent to each build of the library: what its fields must be, and the table that the
-/// original's types hold of it, or 30.
+/// A value that is lent to each build of the library: what its fields must be, and the table that
+/// the original's types hold of it, or 30.
 struct Lent {
     places: [Fenced; 2],
     value: Vec<u8>,
@@ -120,8 +121,8 @@ impl Values {
         self.standing.look(random, out);
     }
 
-    /// For half of the records the standing table with a field or two changed: the value, and the table
-    /// that is held of it. A flag stays 0 or 1.
+    /// For half of the records the standing table with a field or two changed: the value, and the
+    /// table that is held of it. A flag stays 0 or 1.
     fn damage(&self, random: &mut Random) -> Option<(Vec<u8>, Result<VoterSlotTable, u8>)> {
         let table = self.standing.table.as_ref().ok()?;
         if random.chance(50) {
@@ -226,8 +227,8 @@ impl Lent {
     }
 }
 
-/// What a call on a value gives by the original, in the order of docs/BINDINGS.md: 33, the number of the
-/// attestation's reader, 30, 31, the call's.
+/// What a call on a value gives by the original, in the order of docs/BINDINGS.md: 33, the number
+/// of the attestation's reader, 30, 31, the call's.
 fn expected(
     table: &Result<VoterSlotTable, u8>,
     mark: Mark,

@@ -1,5 +1,5 @@
-//! Links the port's static libraries where a feature asks for one: `port` the benchmark's, `service` the
-//! service's. `bin/bench` and `bin/bench-bindings` build them first.
+//! Links the port's static libraries where a feature asks for one: `port` the benchmark's,
+//! `service` the service's. `bin/bench` and `bin/bench-bindings` build them first.
 
 fn main() {
     println!("cargo:rerun-if-changed=build.rs");

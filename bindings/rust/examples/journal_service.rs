@@ -1,18 +1,21 @@
-//! A service around a table, to start from: it applies a log of records and keeps the table in a file.
+//! A service around a table, to start from: it applies a log of records and keeps the table in a
+//! file.
 //!
 //!     journal_service STATE LOG
 //!
-//! For each record of LOG it prints a line with the place after the record, the answer and the revision:
-//! that line confirms the record. It may be killed at any moment. Started again, it goes on from the last
-//! record that changed the table. That one was stored and may not have been confirmed, so its line is
-//! printed again, and so are the lines of records after it, which changed nothing. So every record is
-//! confirmed at least once, in order, no change that was confirmed is lost, and none is made twice.
+//! For each record of LOG it prints a line with the place after the record, the answer and the
+//! revision: that line confirms the record. It may be killed at any moment. Started again, it goes
+//! on from the last record that changed the table. That one was stored and may not have been
+//! confirmed, so its line is printed again, and so are the lines of records after it, which changed
+//! nothing. So every record is confirmed at least once, in order, no change that was confirmed is
+//! lost, and none is made twice.
 //!
 //! What makes it so:
-//! - STATE holds the table and the place in the log that it stands for, as one file. So the two never
-//!   disagree.
-//! - A change is stored before it is confirmed: a new file is written and synced, takes STATE's name by a
-//!   rename, and the folder is synced. Whoever opens STATE finds the old file or the new one, whole.
+//! - STATE holds the table and the place in the log that it stands for, as one file. So the two
+//!   never disagree.
+//! - A change is stored before it is confirmed: a new file is written and synced, takes STATE's
+//!   name by a rename, and the folder is synced. Whoever opens STATE finds the old file or the new
+//!   one, whole.
 
 use std::error::Error;
 use std::fs::{self, File};

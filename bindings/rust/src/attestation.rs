@@ -1,10 +1,12 @@
-use crate::bytes::Writer;
+use crate::bytes::{Writer, VERSION};
 
 /// How the loss was established.
 #[derive(Clone, Copy, Debug, PartialEq, Eq, Hash)]
 #[repr(u8)]
 pub enum LossReason {
+    /// The controller verified loss of the prior durable state.
     StorageLost = 1,
+    /// The controller applied its authorized time-bound loss policy.
     TimeBoundLoss = 2,
 }
 
@@ -13,23 +15,41 @@ pub enum LossReason {
 /// make them.
 #[derive(Clone, Debug, PartialEq, Eq, Hash)]
 pub struct LostVoterAttestation {
+    /// Caller-stable idempotency identity.
     pub request_id: [u8; 16],
+    /// Canonical request-body digest, excluding its own field and proofs.
     pub request_digest: [u8; 32],
+    /// Fresh-installation cluster identity.
     pub cluster_instance: [u8; 32],
+    /// Target logical slot.
     pub slot: u16,
+    /// Exact incarnation whose loss the controller declares.
     pub expected_incarnation: u64,
+    /// Prior incarnation's selected descriptor digest.
     pub old_descriptor_digest: [u8; 32],
+    /// Selected candidate's independent public-key digest.
     pub candidate_key_digest: [u8; 32],
+    /// Monotonic platform selection generation.
     pub admission_generation: u64,
+    /// Candidate workload identity.
     pub candidate_spiffe_id: String,
+    /// Controller identity authorized by the current platform policy.
     pub controller_spiffe_id: String,
+    /// Controller signing credential's SPKI digest.
     pub signing_key_digest: [u8; 32],
+    /// Explicit controller loss-policy decision.
     pub reason: LossReason,
+    /// Policy digest interpreted by the trusted admission adapter.
     pub policy_digest: [u8; 32],
+    /// Unix milliseconds at the beginning of the loss observation.
     pub observation_start_ms: u64,
+    /// Unix milliseconds at the loss decision.
     pub decision_ms: u64,
+    /// Unix milliseconds at issuance.
     pub issued_ms: u64,
+    /// Exclusive validity deadline in Unix milliseconds.
     pub expires_ms: u64,
+    /// Raw P-256 `r || s`.
     pub signature: [u8; 64],
 }
 
@@ -38,7 +58,7 @@ impl LostVoterAttestation {
     #[must_use]
     pub fn encode(&self) -> Vec<u8> {
         let mut out = Writer::default();
-        out.u16(1);
+        out.u16(VERSION);
         out.bytes(&self.request_id);
         out.bytes(&self.request_digest);
         out.bytes(&self.cluster_instance);

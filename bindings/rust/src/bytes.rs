@@ -2,6 +2,9 @@
 
 use crate::LogId;
 
+/// The version of a table and of an attestation.
+pub(crate) const VERSION: u16 = 1;
+
 /// Bytes so far. What has no place in its size makes the whole nothing: an empty body is of no
 /// form, so that the call refuses it.
 #[derive(Default)]

@@ -5,7 +5,9 @@ use crate::bytes::Writer;
 /// A log position, a "cut".
 #[derive(Clone, Copy, Debug, Default, PartialEq, Eq, Hash, PartialOrd, Ord)]
 pub struct LogId {
+    /// Engine leader term.
     pub term: u64,
+    /// Engine log index.
     pub index: u64,
 }
 
@@ -86,8 +88,11 @@ impl Command {
 /// Names a request at a cut.
 #[derive(Clone, Debug, PartialEq, Eq, Hash)]
 pub struct Marker {
+    /// Engine cut of the command.
     pub cut: LogId,
+    /// The open request.
     pub request_id: [u8; 16],
+    /// Its canonical digest.
     pub request_digest: [u8; 32],
 }
 
@@ -104,24 +109,35 @@ impl From<Marker> for Command {
 /// One step of the open request.
 #[derive(Clone, Debug, PartialEq, Eq, Hash)]
 pub enum Step {
+    /// Retains the exact verified initial snapshot, before its learner is added.
     RecordSnapshot {
+        /// Full committed cut included by the artifact.
         cut: LogId,
         /// 1 to 256 bytes without control characters.
         snapshot_id: String,
+        /// Digest of the verified artifact.
         digest: [u8; 32],
     },
+    /// Retains a separately verified, durably applied current-term marker.
     RecordCaughtUp(LogId),
+    /// Retains this command's exact committed capability-continuation cut.
     RecordContinuation,
+    /// Published only when the store's authority switch applies with effect atomically.
     Fence,
+    /// Retains completion after the engine's uniform entry applied.
     Finalize,
 }
 
 /// Takes the open request one step on.
 #[derive(Clone, Debug, PartialEq, Eq, Hash)]
 pub struct Advance {
+    /// Engine cut of the command.
     pub cut: LogId,
+    /// The open request.
     pub request_id: [u8; 16],
+    /// Its canonical digest.
     pub request_digest: [u8; 32],
+    /// The required next step.
     pub step: Step,
 }
 
@@ -157,10 +173,15 @@ impl From<Advance> for Command {
 /// The voter that takes the lost one's place.
 #[derive(Clone, Debug, PartialEq, Eq, Hash)]
 pub struct Candidate {
+    /// The slot that the lost voter had.
     pub slot: u16,
+    /// One more than the attested incarnation.
     pub incarnation: u64,
+    /// Digest of its public key.
     pub key_digest: [u8; 32],
+    /// Digest of its immutable selected descriptor.
     pub descriptor_digest: [u8; 32],
+    /// Strictly increasing platform selection generation for this slot.
     pub admission_generation: u64,
 }
 
@@ -170,17 +191,25 @@ pub struct Candidate {
 /// supplies both, and they are compared with what the request and its attestation say.
 #[derive(Clone, Debug, PartialEq, Eq, Hash)]
 pub struct Begin {
+    /// Engine cut of the command.
     pub cut: LogId,
+    /// Exact compare-and-set table revision.
     pub expected_revision: u64,
+    /// The cluster's identity digest.
     pub expected_cluster_id: [u8; 32],
+    /// Digest of the exact current uniform configuration.
     pub expected_configuration_id: [u8; 32],
+    /// Epoch of that configuration.
     pub expected_configuration_epoch: u64,
+    /// Selected successor of the lost voter.
     pub candidate: Candidate,
     /// The bytes of the attestation;
     /// [`LostVoterAttestation::encode`](crate::LostVoterAttestation::encode) makes such bytes. The
     /// service has checked the signature.
     pub attestation: Vec<u8>,
+    /// The request digest, as the service recomputed it.
     pub supplied_request_digest: [u8; 32],
+    /// The id of the table's current configuration, as the service computed it.
     pub supplied_configuration_id: [u8; 32],
 }
 

@@ -1,8 +1,12 @@
+/// Bytes of a mark and a size.
+const HEAD: usize = 4;
+
 /// A record of document 01's log: a mark of two bytes, a 16-bit size, the body.
 #[derive(Clone, Copy, Debug, PartialEq, Eq, Hash)]
 pub struct Record<'a> {
     /// TB a table, BG, AD, MK a command, OB an observation.
     pub mark: [u8; 2],
+    /// What stands after the size.
     pub body: &'a [u8],
 }
 
@@ -18,7 +22,7 @@ impl<'a> Record<'a> {
     /// ```
     #[must_use]
     pub fn split_first(bytes: &'a [u8]) -> Option<(Self, &'a [u8])> {
-        let (head, rest) = (bytes.get(..4)?, &bytes[4..]);
+        let (head, rest) = (bytes.get(..HEAD)?, &bytes[HEAD..]);
         let size = usize::from(u16::from_be_bytes([head[2], head[3]]));
         let record = Record {
             mark: [head[0], head[1]],

@@ -1,7 +1,7 @@
 use std::fmt;
 use std::num::NonZeroU16;
 
-use crate::bytes::Writer;
+use crate::bytes::{Writer, VERSION};
 use crate::ffi::{self, Outcome};
 use crate::{Command, CommandKind, Observation, Record, Refusal};
 
@@ -12,12 +12,19 @@ pub const MAX_TABLE_BYTES: usize = 8072;
 #[derive(Clone, Copy, Debug, PartialEq, Eq, Hash, PartialOrd, Ord)]
 #[repr(u8)]
 pub enum Phase {
+    /// Prepare committed; prior incarnation retired.
     Prepared = 0,
+    /// Verified out-of-band snapshot installed before learner addition.
     SnapshotInstalled = 1,
+    /// Exact learner membership committed.
     LearnerAdded = 2,
+    /// Candidate durably applied the current-term catch-up marker.
     CaughtUp = 3,
+    /// Authority fence applied with effect; only forward completion is allowed.
     Fenced = 4,
+    /// Exact joint membership committed.
     Joint = 5,
+    /// Successor uniform membership committed; a finalize may end the request.
     Uniform = 6,
 }
 
@@ -41,6 +48,7 @@ impl Phase {
 pub struct OpenRequest {
     /// The slot whose voter is replaced.
     pub slot: NonZeroU16,
+    /// How far it has come.
     pub phase: Phase,
 }
 
@@ -242,12 +250,25 @@ impl fmt::Debug for Table {
     }
 }
 
+/// The first revision, epoch and incarnation.
+const FIRST: u64 = 1;
+
+/// The phase of a slot that votes.
+const VOTING: u8 = 2;
+
+/// The flag of a part that is absent.
+const ABSENT: u8 = 0;
+
 /// A voter of a first installation, in incarnation 1.
 #[derive(Clone, Debug, PartialEq, Eq, Hash)]
 pub struct FirstVoter {
+    /// Stable ordinal of the immutable installation manifest, 1 to 65,535.
     pub slot: u16,
+    /// Digest of its public key.
     pub key_digest: [u8; 32],
+    /// Digest of its immutable selected descriptor.
     pub descriptor_digest: [u8; 32],
+    /// Platform selection generation, above 0.
     pub admission_generation: u64,
 }
 
@@ -261,22 +282,22 @@ pub fn first_table(
 ) -> Vec<u8> {
     let mut out = Writer::default();
     out.bytes(b"OPVI");
-    out.u16(1);
+    out.u16(VERSION);
     out.bytes(cluster_instance);
     out.bytes(manifest_digest);
-    out.u64(1);
-    out.u64(1);
+    out.u64(FIRST); // revision
+    out.u64(FIRST); // epoch
     out.count8(voters.len());
     for voter in voters {
         out.u16(voter.slot);
-        out.u64(1);
-        out.u64(0);
+        out.u64(FIRST); // incarnation
+        out.u64(FIRST - 1); // retired through
         out.bytes(&voter.key_digest);
         out.bytes(&voter.descriptor_digest);
         out.u64(voter.admission_generation);
-        out.u8(2);
-        out.u8(0);
+        out.u8(VOTING);
+        out.u8(ABSENT); // no receipt
     }
-    out.u8(0);
+    out.u8(ABSENT); // no open request
     out.end()
 }

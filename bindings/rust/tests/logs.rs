@@ -1,5 +1,6 @@
-//! Logs of document 01's records through this crate: the lines of the stored ones, and every table of
-//! those in the folder that `VOTER_SLOTS_LOGS` names, which `bin/bindings` has the original make.
+//! Logs of document 01's records through this crate: the lines of the stored ones, and every table
+//! of those in the folder that `VOTER_SLOTS_LOGS` names, which `bin/bindings` has the original
+//! make.
 
 use std::fs;
 use std::path::{Path, PathBuf};

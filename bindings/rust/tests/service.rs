@@ -61,8 +61,8 @@ fn expected(log: &[u8]) -> (Vec<String>, Table) {
     (lines, table)
 }
 
-/// Runs the service until it has printed so many lines, waits a little and kills it. Gives the lines
-/// that it had printed.
+/// Runs the service until it has printed so many lines, waits a little and kills it. Gives the
+/// lines that it had printed.
 fn killed(state: &Path, log: &Path, lines: usize, wait: Duration) -> Vec<String> {
     let mut program = Program::new(service())
         .args([state, log])

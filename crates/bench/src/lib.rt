@@ -36,7 +36,8 @@ pub extern "C" fn bench_is_snapshot_id(bytes: &[u8]) -> bool
 }
 
 // So many bytes are looked at, so many times, as the representability check does with most of a
-// table. One of them is left out in every second turn, so that no turn's result is kept for the next.
+// table. One of them is left out in every second turn, so that no turn's result is kept for the
+// next.
 #[no_mangle]
 pub extern "C" fn bench_zeros(bytes: &[u8], turns: u64) -> u64 {
     let mut refused = 0;
@@ -79,8 +80,9 @@ pub extern "C" fn bench_representable(raw: &[u8], turns: u64) -> u64 {
     answers
 }
 
-// The successor check of two tables, given in their raw form, so many times. The newer one's revision
-// is set where it lies: of two tables that take turns each call would get a copy of 8.4 KB.
+// The successor check of two tables, given in their raw form, so many times. The newer one's
+// revision is set where it lies: of two tables that take turns each call would get a copy of 8.4
+// KB.
 #[no_mangle]
 pub extern "C" fn bench_successor(new: &[u8], old: &[u8], turns: u64) -> u64 {
     let mut table = table_of_bytes(new);

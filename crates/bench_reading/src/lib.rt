@@ -6,8 +6,8 @@ use identity::answer::accepted;
 use identity::answer::number;
 use records::blank::blank_voter_slot_table;
 
-// Reading a table's bytes, so many times. The last table is asked for the phase of a slot, 0 to 2, by
-// a number that the compiler does not know: so each table is kept, and kept whole.
+// Reading a table's bytes, so many times. The last table is asked for the phase of a slot, 0 to 2,
+// by a number that the compiler does not know: so each table is kept, and kept whole.
 #[no_mangle]
 pub extern "C" fn bench_decode(bytes: &[u8], turns: u64) -> u64 {
     let mut kept = blank_voter_slot_table();
@@ -25,8 +25,8 @@ pub extern "C" fn bench_decode(bytes: &[u8], turns: u64) -> u64 {
     answers | third(kept.slots[place].phase)
 }
 
-// The least that a reading of this form does, so many times: a table is returned with an answer, the
-// blank one with a refusal, and kept where it is accepted. Nothing is read.
+// The least that a reading of this form does, so many times: a table is returned with an answer,
+// the blank one with a refusal, and kept where it is accepted. Nothing is read.
 #[no_mangle]
 pub extern "C" fn bench_returned(turns: u64) -> u64 {
     let mut kept = blank_voter_slot_table();

@@ -24,8 +24,8 @@ const LARGEST_TABLE: usize = 8072;
 // The longest buffer that a question may ask for.
 const LONGEST_BUFFER: usize = 70000;
 
-// The table's bytes are read, written again and read again by a restart, whose table is the one that
-// is checked.
+// The table's bytes are read, written again and read again by a restart, whose table is the one
+// that is checked.
 pub fn read_table(body: &[u8]) -> Reply {
     let decoded = decode_voter_slot_table(body);
     let answer = decoded.answer;

@@ -1,7 +1,8 @@
-// Answers questions about text, identifiers, bytes and tables, from standard input to standard output,
-// one line for each. oracle/FORMAT.md has the format; `oracle cases` answers the same questions by the
-// original. `call_cases` has the questions about commands, observations and the retired test: a check
-// loads the proofs of all that is called, and those of one program for all are too many.
+// Answers questions about text, identifiers, bytes and tables, from standard input to standard
+// output, one line for each. oracle/FORMAT.md has the format; `oracle cases` answers the same
+// questions by the original. `call_cases` has the questions about commands, observations and the
+// retired test: a check loads the proofs of all that is called, and those of one program for all
+// are too many.
 mod bytes;
 mod reply;
 

@@ -30,14 +30,16 @@ use records::validation::validate_table;
 use writer::encode::put_table;
 use writer::encode::table_size;
 
-// Most bytes of a table.
+// Hard ceiling for one complete durable slot table, independent of application size.
 pub const MAX_VOTER_SLOT_TABLE_BYTES: usize = 65536;
 
+// An answer, and the table that was read: the blank one with a refusal.
 pub struct DecodedTable {
     pub answer: Answer,
     pub table: VoterSlotTable,
 }
 
+// An answer, and the attestation that was read: the blank one with a refusal.
 pub struct DecodedAttestation {
     pub answer: Answer,
     pub attestation: LostVoterAttestationV1,
@@ -67,6 +69,7 @@ pub fn decode_voter_slot_table(bytes: &[u8]) -> DecodedTable
     DecodedTable { answer, table }
 }
 
+// A refused reading.
 fn no_table(answer: Answer) -> DecodedTable
     ensures { λ r. ⌜ (numberOf (r .answer), r .table) ≡ decoded blankVoterSlotTable (no (numberOf answer)) ⌝ }
 {
@@ -95,6 +98,7 @@ pub fn decode_lost_voter_attestation(bytes: &[u8]) -> DecodedAttestation
     }
 }
 
+// A refused reading.
 fn no_attestation(answer: Answer) -> DecodedAttestation
     ensures { λ r. ⌜ (numberOf (r .answer), r .attestation) ≡ decoded blankLostVoterAttestationV1 (no (numberOf answer)) ⌝ }
 {
@@ -104,8 +108,8 @@ fn no_attestation(answer: Answer) -> DecodedAttestation
     }
 }
 
-// The table's bytes at the start of the buffer, and their count; refused, nothing is written: the size
-// is computed before the first byte is put.
+// The table's bytes at the start of the buffer, and their count; refused, nothing is written: the
+// size is computed before the first byte is put.
 pub fn encode_voter_slot_table(buffer: &mut [u8], table: VoterSlotTable) -> Extent
     ensures { λ r. ⌜ (report r, now (buffer .exit)) ≡ outcome (now (buffer .entry)) (encodeVoterSlotTable table (now (buffer .entry))) ⌝ }
 {

@@ -1,10 +1,11 @@
-// Commands: the calls on a table that is known to be valid, by value and in place, and the entry point.
+// Commands: the calls on a table that is known to be valid, by value and in place, and the entry
+// point.
 //
-// Ported from crates/opc-consensus/src/voter_slots/control.rs (`apply_control`) of openpacketcore-sdk,
-// commit 717de332e7, Apache-2.0 (see NOTICE). Changed: what a command does is judged first, and then
-// the next table is made, if there is one. It is neither validated nor compared: that it would pass the
-// successor check is proved (specs/SettleLaws.antt). A table goes in by value and comes back with the
-// answer, or it is lent, and a thin call changes it in place.
+// Ported from crates/opc-consensus/src/voter_slots/control.rs (`apply_control`) of
+// openpacketcore-sdk, commit 717de332e7, Apache-2.0 (see NOTICE). Changed: what a command does is
+// judged first, and then the next table is made, if there is one. It is neither validated nor
+// compared: that it would pass the successor check is proved (specs/SettleLaws.antt). A table goes
+// in by value and comes back with the answer, or it is lent, and a thin call changes it in place.
 ghost use mathlib.Core.Path.{_≡_};
 ghost use Rattle.identity.specs.declared.answer.Answer.the-variants.{Accepted};
 ghost use Rattle.records.specs.Validation.{validate};
@@ -105,8 +106,8 @@ pub fn judge_entry(t: VoterSlotTable, c: VoterCommand) -> Judged
     either(passed, judged, Judged::Refuse(answer))
 }
 
-// A command on a table that is known to be valid, by value. The caller has tested that the cut has no
-// zero and that the command is representable (`checkedOf` accepted); then the answer is
+// A command on a table that is known to be valid, by value. The caller has tested that the cut has
+// no zero and that the command is representable (`checkedOf` accepted); then the answer is
 // `applyControl`'s (`entry-passed` of VerdictLaws; by the two tests, `valid-applied` of ApplyLaws).
 pub fn apply_to_valid(t: VoterSlotTable, c: VoterCommand) -> Controlled
     requires { ⌜ validate t ≡ Accepted ⌝ }
@@ -131,7 +132,8 @@ fn mark(t: VoterSlotTable, c: VoterCommand) -> Controlled
     }
 }
 
-// An Advance, by value. The caller has made the tests that `apply_to_valid` names (`valid-advance`).
+// An Advance, by value. The caller has made the tests that `apply_to_valid` names
+// (`valid-advance`).
 pub fn advance(t: VoterSlotTable, c: VoterAdvance) -> Controlled
     requires { ⌜ validate t ≡ Accepted ⌝ }
     ensures { λ r. ⌜ (r .answer, r .table) ≡ advanceOutcome t c ⌝ }
@@ -170,7 +172,8 @@ pub fn advance(t: VoterSlotTable, c: VoterAdvance) -> Controlled
     }
 }
 
-// `apply_to_valid` on a table that is lent: the same tests. It takes 5 KB: calls by kind are faster.
+// `apply_to_valid` on a table that is lent: the same tests. It takes 5 KB: calls by kind are
+// faster.
 pub fn apply_in_place(t: &mut VoterSlotTable, c: VoterCommand) -> Answer
     requires { ⌜ validate (now t) ≡ Accepted ⌝ }
     ensures { λ a. ⌜ (a, now (t .exit)) ≡ appliedOf (now (t .entry)) (c .control) (c .cut) ⌝ }

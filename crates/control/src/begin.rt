@@ -1,9 +1,9 @@
 // A Begin on a table that is known to be valid: judged, and then made.
 //
-// Ported from crates/opc-consensus/src/voter_slots/control.rs (`begin`) of openpacketcore-sdk, commit
-// 717de332e7, Apache-2.0 (see NOTICE). Changed: everything is judged before anything is made, and the
-// successor check of the table that is made stands here as a test of the cut. All parts are judged
-// before the first refusal is picked, as in judge.rt.
+// Ported from crates/opc-consensus/src/voter_slots/control.rs (`begin`) of openpacketcore-sdk,
+// commit 717de332e7, Apache-2.0 (see NOTICE). Changed: everything is judged before anything is
+// made, and the successor check of the table that is made stands here as a test of the cut. All
+// parts are judged before the first refusal is picked, as in judge.rt.
 ghost use Prim.Native.Nat.{_<_, _≤_};
 ghost use mathlib.Core.Path.{_≡_};
 ghost use mathlib.Core.Bool.{cond, false};
@@ -66,6 +66,7 @@ fn or_refuse(answer: Answer, next: Judged) -> Judged
     Judged::Refuse(answer)
 }
 
+// The first of two answers that is a refusal.
 fn first_refusal(answer: Answer, next: Answer) -> Answer
     ensures { λ a. ⌜ a ≡ firstRefusal answer next ⌝ }
 {
@@ -97,7 +98,8 @@ fn judge_known_request(
     either(open | receipt.found, repeated, fresh)
 }
 
-// The tests of a fresh request, in the order of the Rust, with the request check as it was answered.
+// The tests of a fresh request, in the order of the Rust, with the request check as it was
+// answered.
 fn begin_check(
     t: VoterSlotTable,
     r: VoterReplacementRequest,
@@ -164,8 +166,8 @@ fn is_later(t: VoterSlotTable, cut: VoterSlotLogId) -> bool
     !t.has_replacement | later
 }
 
-// The table with the request opened. No test is made again. The request is put together here: made by
-// a call of its own, the whole table would be copied once more.
+// The table with the request opened. No test is made again. The request is put together here: made
+// by a call of its own, the whole table would be copied once more.
 pub fn begin_table(t: VoterSlotTable, b: VoterBegin) -> VoterSlotTable
     requires { ⌜ (t .revision ≡ full → ⊥) × ((currentConfiguration t .epoch ≡ full → ⊥) × ((t .count ≤ 9) × (namedIndex t (b .request) < t .count))) ⌝ }
     ensures { λ u. ⌜ u ≡ begun t (b .request) (b .cut) ⌝ }
@@ -199,8 +201,8 @@ pub fn begin_table(t: VoterSlotTable, b: VoterBegin) -> VoterSlotTable
     u
 }
 
-// The first slot of that number gets the candidate. (Found here and not by `slot_index`, so that the
-// slots are copied once.)
+// The first slot of that number gets the candidate. (Found here and not by `slot_index`, so that
+// the slots are copied once.)
 fn begun_slots(t: VoterSlotTable, b: VoterBegin) -> [VoterSlotRecord; MAX_FIXED_VOTER_SLOTS]
     requires { ⌜ (t .revision ≡ full → ⊥) × ((t .count ≤ 9) × (namedIndex t (b .request) < t .count)) ⌝ }
     ensures { λ l. ⌜ l ≡ begunSlots t (b .request) (b .cut) ⌝ }
@@ -281,6 +283,7 @@ fn current_configuration(t: VoterSlotTable) -> VoterConfiguration
     }
 }
 
+// The members of the slots, place by place.
 fn members_of(
     slots: [VoterSlotRecord; MAX_FIXED_VOTER_SLOTS],
 ) -> [VoterSlotMember; MAX_FIXED_VOTER_SLOTS]

@@ -1,5 +1,5 @@
-// A command of any kind, with its cut: its judge, and the maker of each change, by the parts that its
-// kind uses.
+// A command of any kind, with its cut: its judge, and the maker of each change, by the parts that
+// its kind uses.
 //
 // Ported from crates/opc-consensus/src/voter_slots/control.rs (the match of `apply_control`) of
 // openpacketcore-sdk, commit 717de332e7, Apache-2.0 (see NOTICE). Changed: judged and made apart.

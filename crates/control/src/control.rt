@@ -1,8 +1,8 @@
 // Commands: what a committed control entry carries.
 //
 // Ported from crates/opc-consensus/src/voter_slots/control.rs of openpacketcore-sdk, commit
-// 717de332e7, Apache-2.0 (see NOTICE). Changed: a command and a step are a kind with its parts
-// as fields, and parts that the kind does not use are zero; the caller supplies the request digest as
+// 717de332e7, Apache-2.0 (see NOTICE). Changed: a command and a step are a kind with its parts as
+// fields, and parts that the kind does not use are zero; the caller supplies the request digest as
 // recomputed and the id of the current configuration.
 use identity::identity::ConsensusConfigurationId;
 use identity::identity::ConsensusIdentity;
@@ -59,8 +59,8 @@ pub struct VoterReplacementStep {
     pub caught_up: VoterSlotLogId,
 }
 
-// A command: the request of a Begin; the request's id and digest of an Advance or a Marker; the step
-// of an Advance.
+// A command: the request of a Begin; the request's id and digest of an Advance or a Marker; the
+// step of an Advance.
 pub struct VoterSlotControl {
     // `BEGIN`, `ADVANCE` or `MARKER`.
     pub kind: u8,
@@ -74,7 +74,8 @@ pub struct VoterSlotControl {
     pub step: VoterReplacementStep,
 }
 
-// An Advance with the cut at which it is committed: what its judge, its makers and its thin call take.
+// An Advance with the cut at which it is committed: what its judge, its makers and its thin call
+// take.
 pub struct VoterAdvance {
     // Original caller-stable request identity.
     pub request_id: ConsensusRequestId,

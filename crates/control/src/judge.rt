@@ -1,12 +1,12 @@
-// What a command does to a table that is known to be valid: refused, nothing, or which change is to be
-// made.
+// What a command does to a table that is known to be valid: refused, nothing, or which change is to
+// be made.
 //
 // Ported from crates/opc-consensus/src/voter_slots/control.rs of openpacketcore-sdk, commit
-// 717de332e7, Apache-2.0 (see NOTICE). Changed: a step is judged before anything is made, and what the
-// successor check would find in the changed table stands here as tests of the evidence
-// (specs/Judgement.antt). But for `judge_advance` a judge makes all its tests before it picks the first
-// refusal: a call after many early returns counts as cold to the compiler, which then copies the table
-// for it.
+// 717de332e7, Apache-2.0 (see NOTICE). Changed: a step is judged before anything is made, and what
+// the successor check would find in the changed table stands here as tests of the evidence
+// (specs/Judgement.antt). But for `judge_advance` and `judge_snapshot`, which have an arm for
+// another question each, a judge makes all its tests before it picks the first refusal: a call
+// after many early returns counts as cold to the compiler, which then copies the table for it.
 ghost use mathlib.Core.Path.{_≡_};
 ghost use mathlib.Core.Bool.{cond, false, not, _||_};
 ghost use Rattle.identity.specs.declared.answer.Answer.the-variants.{InvalidTransition};
@@ -37,7 +37,7 @@ pub enum Judged {
     Finalize,
 }
 
-// The picks: each is one test of a definition, and what it leads to.
+// The picks: each is one test of a definition, and what it leads to. A change, or else 25;
 pub fn change_if(test: bool, change: Judged) -> Judged
     ensures { λ r. ⌜ verdictOf r ≡ cond test (verdictOf change) (refused InvalidTransition) ⌝ }
 {
@@ -47,6 +47,7 @@ pub fn change_if(test: bool, change: Judged) -> Judged
     Judged::Refuse(Answer::InvalidTransition)
 }
 
+// accepted and unchanged, or else what comes next;
 pub fn keep_if(test: bool, otherwise: Judged) -> Judged
     ensures { λ r. ⌜ verdictOf r ≡ cond test kept (verdictOf otherwise) ⌝ }
 {
@@ -56,6 +57,7 @@ pub fn keep_if(test: bool, otherwise: Judged) -> Judged
     otherwise
 }
 
+// a refusal, or else what comes next;
 pub fn refuse_if(test: bool, answer: Answer, otherwise: Judged) -> Judged
     ensures { λ r. ⌜ verdictOf r ≡ cond test (refused answer) (verdictOf otherwise) ⌝ }
 {
@@ -65,6 +67,7 @@ pub fn refuse_if(test: bool, answer: Answer, otherwise: Judged) -> Judged
     otherwise
 }
 
+// one of two verdicts.
 pub fn either(test: bool, one: Judged, other: Judged) -> Judged
     ensures { λ r. ⌜ verdictOf r ≡ cond test (verdictOf one) (verdictOf other) ⌝ }
 {
@@ -191,6 +194,7 @@ fn is_completed(t: VoterSlotTable, id: [u8; 16], digest: [u8; 32]) -> bool
     !none
 }
 
+// The slot has the completed receipt of that request.
 fn is_receipt_of(slot: VoterSlotRecord, id: [u8; 16], digest: [u8; 32]) -> bool
     ensures { λ r. ⌜ r ≡ isReceiptOf id digest slot ⌝ }
 {
@@ -221,6 +225,7 @@ fn judge_open(
     refuse_if(!id, Answer::StaleIncarnation, same)
 }
 
+// The arms of `advance`, by the kind of the step.
 fn judge_step(t: VoterSlotTable, step: VoterReplacementStep, cut: VoterSlotLogId) -> Judged
     ensures { λ r. ⌜ verdictOf r ≡ judgeStep t step cut ⌝ }
 {

@@ -1,3 +1,4 @@
+// Layer four: commands, observations and the retired test, on values and on a table that is lent.
 pub mod apply;
 pub mod begin;
 pub mod command;

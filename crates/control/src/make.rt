@@ -1,11 +1,11 @@
-// The next table of each step of an Advance. Each is made of a table that is known to be valid and of
-// an Advance that was judged to change it, so nothing is tested again; the revision has room
+// The next table of each step of an Advance. Each is made of a table that is known to be valid and
+// of an Advance that was judged to change it, so nothing is tested again; the revision has room
 // (specs/VerdictLaws.antt says where that comes from).
 //
 // Ported from crates/opc-consensus/src/voter_slots/control.rs (the arms of `advance`) of
 // openpacketcore-sdk, commit 717de332e7, Apache-2.0 (see NOTICE). Changed: apart from the tests, as
-// functions of their own. Numbers are stored where they lie; a record is stored whole, made of parts
-// that were taken out first, which the compiler does not copy.
+// functions of their own. Numbers are stored where they lie; a record is stored whole, made of
+// parts that were taken out first, which the compiler does not copy.
 ghost use Prim.Native.Nat.{_<_, _≤_};
 ghost use mathlib.Core.Path.{_≡_};
 ghost use Rattle.records.specs.With.{withSnapshot};
@@ -112,8 +112,8 @@ fn with_snapshot(
     }
 }
 
-// The arm `Finalize` of `advance`: the slot being replaced gets the completed receipt, and no request is
-// open any more.
+// The arm `Finalize` of `advance`: the slot being replaced gets the completed receipt, and no
+// request is open any more.
 pub fn finalize_table(t: VoterSlotTable, c: VoterAdvance) -> VoterSlotTable
     requires { ⌜ (t .revision ≡ full → ⊥) × ((t .count ≤ 9) × (targetIndex t < t .count)) ⌝ }
     ensures { λ r. ⌜ r ≡ finalized t (c .cut) ⌝ }

@@ -1,9 +1,9 @@
 // Observed memberships.
 //
 // Ported from `observe_membership` of crates/opc-consensus/src/voter_slots/control.rs of
-// openpacketcore-sdk, commit 717de332e7, Apache-2.0 (see NOTICE). Changed: what is seen is judged before
-// anything is made, and the tests of a changed table stand here as tests of the evidence. Nothing is
-// validated first: ids may repeat there, and stand in any order.
+// openpacketcore-sdk, commit 717de332e7, Apache-2.0 (see NOTICE). Changed: what is seen is judged
+// before anything is made, and the tests of a changed table stand here as tests of the evidence.
+// Nothing is validated first: ids may repeat there, and stand in any order.
 ghost use Prim.Native.Nat.{_+_, _<_, _≤_};
 ghost use mathlib.Core.Path.{_≡_};
 ghost use mathlib.Core.Bool.{cond, false, true};
@@ -77,6 +77,7 @@ pub struct SetTests {
 
 // ---- what is seen
 
+// One of two.
 fn pick_seen(test: bool, one: Seen, other: Seen) -> Seen
     ensures { λ r. ⌜ sightOf r ≡ cond test (sightOf one) (sightOf other) ⌝ }
 {
@@ -145,6 +146,8 @@ fn test_sets(
     let one_old = is_one_set(sets, counts, old);
     let one_new = is_one_set(sets, counts, new);
     let two = are_two_sets(sets, counts, old, new);
+    // Asked only where the one set is the predecessor's: then its length is the `old.len()` of the
+    // Rust.
     let one_more = is_one_more(nodes.len(), sets.len());
     SetTests {
         no_candidate: candidate == NO_ID,
@@ -175,6 +178,8 @@ fn member_index(configuration: VoterConfiguration, slot: u16) -> usize
     i
 }
 
+// The identity is a superseded candidate's: of the slot being replaced, after the predecessor's
+// incarnation, and not after the attested one.
 fn is_obsolete(t: VoterSlotTable, identity: VoterSlotIdentity) -> bool
     requires { ⌜ t .replacement .predecessor .count ≤ 9 ⌝ }
     ensures { λ r. ⌜ r ≡ isObsolete (t .replacement) (Ok identity) ⌝ }
@@ -192,7 +197,7 @@ fn is_obsolete(t: VoterSlotTable, identity: VoterSlotIdentity) -> bool
         & (identity.incarnation <= t.replacement.attestation.expected_incarnation)
 }
 
-// A node of neither configuration, or none.
+// Whether the node of neither configuration, if there is one, is a superseded candidate.
 fn may_linger(t: VoterSlotTable, node: u64) -> bool
     requires { ⌜ t .replacement .predecessor .count ≤ 9 ⌝ }
     ensures { λ r. ⌜ r ≡ lingersAs (t .replacement) node ⌝ }
@@ -237,6 +242,7 @@ fn see_ids(
     see_by(phase, tests)
 }
 
+// `observe_membership` with a request open: what its arms tell apart.
 fn see(t: VoterSlotTable, sets: &[u64], counts: &[usize], nodes: &[u64]) -> Seen
     requires { ⌜ Supplied (now sets) (now counts) (now nodes) × ((t .replacement .predecessor .count ≤ 9) × (t .replacement .successor .count ≤ 9)) ⌝ }
     ensures { λ r. ⌜ sightOf r ≡ see (t .replacement) (splitSets (now (sets .entry)) (now (counts .entry))) (now (nodes .entry)) ⌝ }
@@ -254,7 +260,7 @@ fn see(t: VoterSlotTable, sets: &[u64], counts: &[usize], nodes: &[u64]) -> Seen
 
 // ---- the verdict
 
-// The picks of a judgement: each is one test of the definition, and what it leads to.
+// The picks: each is one test of a definition, and what it leads to. A verdict, or else 25;
 fn accept_if(test: bool, accepted: Observed) -> Observed
     ensures { λ r. ⌜ verdictOfObserved r ≡ cond test (verdictOfObserved accepted) (refused InvalidTransition) ⌝ }
 {
@@ -264,6 +270,7 @@ fn accept_if(test: bool, accepted: Observed) -> Observed
     Observed::Refuse(Answer::InvalidTransition)
 }
 
+// 24 where the revision is full, or else what comes next.
 fn refuse_full(revision: u64, otherwise: Observed) -> Observed
     ensures { λ r. ⌜ verdictOfObserved r ≡ cond (eqb revision full) (refused RevisionExhausted) (verdictOfObserved otherwise) ⌝ }
 {
@@ -273,7 +280,7 @@ fn refuse_full(revision: u64, otherwise: Observed) -> Observed
     otherwise
 }
 
-// Whether the cut comes next in the evidence.
+// Whether the cut comes next in the evidence, as that of the learner,
 fn is_learner_cut(t: VoterSlotTable, cut: VoterSlotLogId) -> bool
     ensures { λ r. ⌜ r ≡ learnerTest (t .replacement .evidence) cut ⌝ }
 {
@@ -286,6 +293,7 @@ fn is_learner_cut(t: VoterSlotTable, cut: VoterSlotLogId) -> bool
     later & (!continuation.is_some | in_order)
 }
 
+// of the joint membership,
 fn is_joint_cut(t: VoterSlotTable, cut: VoterSlotLogId) -> bool
     ensures { λ r. ⌜ r ≡ jointTest (t .replacement .evidence) cut ⌝ }
 {
@@ -293,6 +301,7 @@ fn is_joint_cut(t: VoterSlotTable, cut: VoterSlotLogId) -> bool
     log_id_follows(cut, fence, false)
 }
 
+// or of the uniform one.
 fn is_uniform_cut(t: VoterSlotTable, cut: VoterSlotLogId) -> bool
     ensures { λ r. ⌜ r ≡ uniformTest (t .replacement .evidence) cut ⌝ }
 {
@@ -302,8 +311,9 @@ fn is_uniform_cut(t: VoterSlotTable, cut: VoterSlotLogId) -> bool
 
 // ---- the slot being replaced
 //
-// All nine places are passed, and the place is compared in each turn: such a loop is written out by the
-// compiler, with a constant index in each turn. An index that is no constant has the table copied.
+// All nine places are passed, and the place is compared in each turn: such a loop is written out by
+// the compiler, with a constant index in each turn. An index that is no constant has the table
+// copied.
 
 // `slot_index`, with the places passed from the last to the first.
 fn slot_place(t: VoterSlotTable, slot: u16) -> usize
@@ -321,6 +331,7 @@ fn slot_place(t: VoterSlotTable, slot: u16) -> usize
     at
 }
 
+// The phase of the slot at a place.
 fn phase_at(t: VoterSlotTable, at: usize) -> u8
     requires { ⌜ at < 9 ⌝ }
     ensures { λ r. ⌜ r ≡ slotAt t at .phase ⌝ }
@@ -336,6 +347,7 @@ fn phase_at(t: VoterSlotTable, at: usize) -> u8
     phase
 }
 
+// The table with the phase of the slot at a place.
 fn with_phase(t: VoterSlotTable, at: usize, phase: u8) -> VoterSlotTable
     requires { ⌜ at < 9 ⌝ }
     ensures { λ r. ⌜ r ≡ tableWith t (t .revision) (t .«configuration_epoch») (set (t .slots) at (inPhase (slotAt t at) phase)) (t .«has_replacement») (t .replacement) ⌝ }
@@ -370,6 +382,7 @@ fn judge_known(t: VoterSlotTable, phase: u8, seen: Seen, cut: VoterSlotLogId) ->
     }
 }
 
+// A table without the slot being replaced is refused with 25.
 fn judge_seen(t: VoterSlotTable, seen: Seen, cut: VoterSlotLogId) -> Observed
     requires { ⌜ t .count ≤ 9 ⌝ }
     ensures { λ r. ⌜ verdictOfObserved r ≡ judgeSeen t (sightOf seen) cut ⌝ }
@@ -392,6 +405,7 @@ fn judge_members(members: &[u64], sets: &[u64], counts: &[usize], nodes: &[u64])
     accept_if(one & same, Observed::Keep)
 }
 
+// `observe_membership` with no request open.
 fn judge_closed(t: VoterSlotTable, sets: &[u64], counts: &[usize], nodes: &[u64]) -> Observed
     requires { ⌜ Supplied (now sets) (now counts) (now nodes) × ((t .count ≤ 9) × (t .«has_replacement» ≡ false)) ⌝ }
     ensures { λ r. ⌜ verdictOfObserved r ≡ judgeClosed t (splitSets (now (sets .entry)) (now (counts .entry))) (now (nodes .entry)) ⌝ }
@@ -469,6 +483,7 @@ fn confirm(t: VoterSlotTable, judged: Observed) -> Observed
     accept_if(valid, judged)
 }
 
+// The answer of an observation that was so judged.
 pub fn answer_of_observed(judged: Observed) -> Answer
     ensures { λ r. ⌜ r ≡ answerOfObserved (verdictOfObserved judged) ⌝ }
 {

@@ -1,9 +1,9 @@
-// The representability check of a command: whether the Rust types can hold it, and whether the parts
-// that its kind does not use are zero.
+// The representability check of a command: whether the Rust types can hold it, and whether the
+// parts that its kind does not use are zero.
 //
 // There is no such test in the original, whose types rule these values out. It is made after the
-// types of crates/opc-consensus/src/voter_slots/control.rs of openpacketcore-sdk, commit 717de332e7,
-// Apache-2.0 (see NOTICE). Document 01, number 30.
+// types of crates/opc-consensus/src/voter_slots/control.rs of openpacketcore-sdk, commit
+// 717de332e7, Apache-2.0 (see NOTICE). Document 01, number 30.
 ghost use mathlib.Core.Path.{_≡_};
 ghost use mathlib.Core.Bool.{cond, _&&_};
 ghost use Rattle.records.specs.Blank.{blankVoterSnapshotEvidence};
@@ -79,6 +79,7 @@ fn is_blank_request(request: VoterReplacementRequest) -> bool
             & (candidate & (attestation & (supplied_request_digest & supplied_configuration_id))))
 }
 
+// As in `zero` of records.
 fn is_blank_consensus_identity(x: ConsensusIdentity) -> bool
     ensures { λ r. ⌜ r ≡ sameConsensusIdentity x blankConsensusIdentity ⌝ }
 {
@@ -97,8 +98,8 @@ fn is_step_part(is_advance: bool, step: VoterReplacementStep) -> bool
     is_blank_step(step)
 }
 
-// A kind of the five; the snapshot is RecordSnapshot's, the mark RecordCaughtUp's. Any numbers are a
-// mark.
+// A kind of the five; the snapshot is RecordSnapshot's, the mark RecordCaughtUp's. Any numbers are
+// a mark.
 pub fn is_representable_step(step: VoterReplacementStep) -> bool
     ensures { λ r. ⌜ r ≡ representableStep step ⌝ }
 {
@@ -109,6 +110,7 @@ pub fn is_representable_step(step: VoterReplacementStep) -> bool
     (step.kind <= FINALIZE) & (snapshot & ((step.kind == RECORD_CAUGHT_UP) | no_mark))
 }
 
+// Only a RecordSnapshot has a snapshot.
 fn is_snapshot_part(is_used: bool, snapshot: VoterSnapshotEvidence) -> bool
     ensures { λ r. ⌜ r ≡ cond «is_used» (representableSnapshot snapshot) (sameVoterSnapshotEvidence snapshot blankVoterSnapshotEvidence) ⌝ }
 {

@@ -93,6 +93,7 @@ pub struct Receipt {
     pub same: bool,
 }
 
+// What the receipts of the slots in use say of the request of that id.
 pub fn find_receipt(t: VoterSlotTable, id: [u8; 16], digest: [u8; 32]) -> Receipt
     ensures { λ a. ⌜ a ≡ receiptState t id digest ⌝ }
 {
@@ -111,6 +112,7 @@ pub fn find_receipt(t: VoterSlotTable, id: [u8; 16], digest: [u8; 32]) -> Receip
     Receipt { found, same }
 }
 
+// The slot has a receipt of the request of that id.
 fn has_receipt(slot: VoterSlotRecord, id: [u8; 16]) -> bool
     ensures { λ a. ⌜ a ≡ hasReceipt id slot ⌝ }
 {
@@ -119,6 +121,7 @@ fn has_receipt(slot: VoterSlotRecord, id: [u8; 16]) -> bool
     slot.has_last_result & same
 }
 
+// The receipt of the slot, whether it is there or not, has that digest.
 fn has_digest(slot: VoterSlotRecord, digest: [u8; 32]) -> bool
     ensures { λ a. ⌜ a ≡ hasDigest digest slot ⌝ }
 {
@@ -158,6 +161,7 @@ pub struct Named {
     pub member: VoterSlotMember,
 }
 
+// `position(..)` and the member there.
 fn named_member(t: VoterSlotTable, number: u16) -> Named
     ensures { λ a. ⌜ a ≡ namedOf t number ⌝ }
 {
@@ -175,6 +179,7 @@ fn named_member(t: VoterSlotTable, number: u16) -> Named
     Named { found, member }
 }
 
+// One of two members.
 fn member_by(test: bool, one: VoterSlotMember, other: VoterSlotMember) -> VoterSlotMember
     ensures { λ a. ⌜ a ≡ cond test one other ⌝ }
 {

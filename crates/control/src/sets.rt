@@ -1,9 +1,10 @@
-// Sets of node ids, as the caller of an observation supplies them: one set after another in one slice,
-// with their counts in a second one. The ids of a table's members stand in the order of the members.
+// Sets of node ids, as the caller of an observation supplies them: one set after another in one
+// slice, with their counts in a second one. The ids of a table's members stand in the order of the
+// members.
 //
 // Ported from `observe_membership` of crates/opc-consensus/src/voter_slots/control.rs of
-// openpacketcore-sdk, commit 717de332e7, Apache-2.0 (see NOTICE). Changed: a BTreeSet is a slice that
-// rises strictly; a set is compared with the members' ids in any order, and nothing is sorted.
+// openpacketcore-sdk, commit 717de332e7, Apache-2.0 (see NOTICE). Changed: a BTreeSet is a slice
+// that rises strictly; a set is compared with the members' ids in any order, and nothing is sorted.
 ghost use Prim.Native.Nat.{_+_, _≤_};
 ghost use mathlib.Core.Path.{_≡_};
 ghost use mathlib.Core.Bool.{cond, _&&_};
@@ -23,7 +24,8 @@ use records::records::VoterSlotTable;
 // No id of a member or a node: those lie below 2^63.
 pub const NO_ID: u64 = u64::MAX;
 
-// Whether the counts add up to the length. What is left of it is counted down, so that no sum wraps.
+// Whether the counts add up to the length. What is left of it is counted down, so that no sum
+// wraps.
 pub fn add_up(counts: &[usize], len: usize) -> bool
     ensures { λ r. ⌜ r ≡ eqb (total (now (counts .entry))) len ⌝ }
 {
@@ -53,6 +55,7 @@ pub fn are_held(ids: &[u64]) -> bool
     all
 }
 
+// Whether the ids rise strictly.
 pub fn rises(ids: &[u64]) -> bool
     ensures { λ r. ⌜ r ≡ isRising (now (ids .entry)) ⌝ }
 {
@@ -83,6 +86,7 @@ pub fn sets_rise(sets: &[u64], counts: &[usize]) -> bool
     all
 }
 
+// Whether the id is in the set.
 pub fn contains(set: &[u64], id: u64) -> bool
     ensures { λ r. ⌜ r ≡ contains id (now (set .entry)) ⌝ }
 {
@@ -150,6 +154,7 @@ pub fn least_new(old: &[u64], new: &[u64]) -> u64
     least
 }
 
+// One of two ids.
 fn pick_id(test: bool, one: u64, other: u64) -> u64
     ensures { λ r. ⌜ r ≡ cond test one other ⌝ }
 {
@@ -159,7 +164,8 @@ fn pick_id(test: bool, one: u64, other: u64) -> u64
     other
 }
 
-// Whether the sets are this one alone. Their number is tested first: ids are compared each with each.
+// Whether the sets are this one alone. Their number is tested first: ids are compared each with
+// each.
 pub fn is_one_set(sets: &[u64], counts: &[usize], ids: &[u64]) -> bool
     ensures { λ r. ⌜ r ≡ isOneSet (now (sets .entry)) (now (counts .entry)) (now (ids .entry)) ⌝ }
 {
@@ -183,7 +189,7 @@ pub fn are_two_sets(sets: &[u64], counts: &[usize], old: &[u64], new: &[u64]) ->
     before & after
 }
 
-// Whether there is one more than so many at most.
+// Whether a length is at most one more than another. No sum is made, so that none can overflow.
 pub fn is_one_more(len: usize, than: usize) -> bool
     ensures { λ r. ⌜ r ≡ leb len (than + 1) ⌝ }
 {
@@ -195,7 +201,8 @@ pub fn is_one_more(len: usize, than: usize) -> bool
 
 // ---- the ids of members
 
-// What `member_ids` takes for a member's id: that of its identity, or 0.
+// What `member_ids` takes for a member's id: that of its identity. A member whose identity is not
+// in range, which the representability check refuses, has 0.
 fn value_of(number: NumberResult) -> u64
     ensures { λ r. ⌜ r ≡ valueOfNumber number ⌝ }
 {
@@ -205,6 +212,7 @@ fn value_of(number: NumberResult) -> u64
     }
 }
 
+// The node id of a slot and an incarnation, or 0.
 fn id_of(slot: u16, incarnation: u64) -> u64
     ensures { λ r. ⌜ r ≡ valueOfNumber (nodeId (identityOf slot incarnation)) ⌝ }
 {

@@ -1,13 +1,14 @@
 // The answers of every call of this project, one case for each number of document 01.
 //
 // Ported from crates/opc-consensus/src/voter_slots/mod.rs (`VoterSlotError`, 1 to 7) and
-// crates/opc-consensus/src/voter_slots/control.rs (`VoterReplacementError`, which 11 to 28 number in
-// its order; only those that document 01 lists are given) of openpacketcore-sdk, commit 717de332e7,
-// Apache-2.0 (see NOTICE). Changed: one enum for both, with a case for success and four of this
-// project (30 to 33), and a number for each.
+// crates/opc-consensus/src/voter_slots/control.rs (`VoterReplacementError`, which 11 to 28 number
+// in its order; only those that document 01 lists are given) of openpacketcore-sdk, commit
+// 717de332e7, Apache-2.0 (see NOTICE). Changed: one enum for both, with a case for success and four
+// of this project (30 to 33), and a number for each.
 ghost use mathlib.Core.Path.{_≡_};
 ghost use Rattle.identity.specs.Answer.{numberOf, isAccepted};
 
+// What a call answers: success, or the reason of its refusal.
 pub enum Answer {
     // No refusal.
     Accepted,

@@ -11,21 +11,28 @@ ghost use Rattle.identity.specs.Identity.{validateSlotId, validateVoterI
 use crate::answer::Answer;
 use crate::answer::accepted;
 
+// Fixed-width, domain-separated identity of one consensus cluster.
 pub type ConsensusClusterId = [u8; 32];
 
+// Fixed-width identity of one exact order-independent configuration.
 pub type ConsensusConfigurationId = [u8; 32];
 
+// Monotonic operator-controlled membership and configuration epoch.
 pub type ConsensusConfigurationEpoch = u64;
 
+// Canonical architecture-independent Raft node ordinal.
 pub type ConsensusNodeId = u64;
 
+// Durable fixed-width identity of one submitted command.
 pub type ConsensusRequestId = [u8; 16];
 
+// Stable nonzero slot ordinal assigned by the immutable installation manifest.
 pub type SlotId = u16;
 
+// Positive incarnation within a stable slot, never reused after retirement.
 pub type VoterIncarnation = u64;
 
-// Largest node id: the engine's stores keep signed numbers of 64 bits.
+// Largest node id, 2^63 - 1: the engine's stores keep signed numbers of 64 bits.
 pub const CONSENSUS_NODE_ID_MAX: ConsensusNodeId = 9223372036854775807;
 
 // Largest incarnation, 2^47: with it a node id still fits 63 bits.
@@ -44,7 +51,7 @@ pub struct ConsensusIdentity {
     pub configuration_epoch: ConsensusConfigurationEpoch,
 }
 
-// One incarnation of one slot.
+// Incarnation-qualified identity, scoped by the enclosing installation id.
 #[repr(C)]
 pub struct VoterSlotIdentity {
     // Stable ordinal assigned by the immutable installation manifest, 1 to 65,535.
@@ -109,8 +116,8 @@ pub fn is_configuration_epoch(value: ConsensusConfigurationEpoch) -> bool
     1 <= value
 }
 
-// `ConsensusNodeId::new`: a node id is 1 to 2^63 - 1. An observation refuses one from 2^63 on with 30;
-// 0, which the Rust's type can hold all the same, it compares.
+// `ConsensusNodeId::new`: a node id is 1 to 2^63 - 1. An observation does not ask this: it refuses
+// ids from 2^63 on with 30, and compares 0, which the Rust's type can hold all the same.
 pub fn is_consensus_node_id(value: ConsensusNodeId) -> bool
     ensures { λ r. ⌜ r ≡ isConsensusNodeId value ⌝ }
 {
@@ -130,7 +137,7 @@ impl VoterSlotIdentity {
         VoterSlotIdentityResult::Ok(identity)
     }
 
-    // Whether slot and incarnation are such. The slot is tested first.
+    // Whether the slot and the incarnation are in their ranges. The slot is tested first.
     pub fn validate(self) -> Answer
         ensures { λ r. ⌜ r ≡ validateVoterSlotIdentity self ⌝ }
     {

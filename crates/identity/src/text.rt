@@ -2,9 +2,9 @@
 //
 // Ported from the rules on text in crates/opc-consensus/src/voter_slots/validation.rs
 // (`LostVoterAttestationV1::validate`, `VoterReplacementEvidence::validate`) of openpacketcore-sdk,
-// commit 717de332e7, Apache-2.0 (see NOTICE). Changed: each rule is a function of bytes, with the test
-// for UTF-8 and the bound on the length in it; Rust's `char::is_control` and `char::is_whitespace` are
-// written out; the strict name is new.
+// commit 717de332e7, Apache-2.0 (see NOTICE). Changed: each rule is a function of bytes, with the
+// test for UTF-8 and the bound on the length in it; Rust's `char::is_control` and
+// `char::is_whitespace` are written out; the strict name is new.
 ghost use mathlib.Core.Path.{_≡_};
 ghost use Prim.Native.Nat.{_<_};
 ghost use Rattle.identity.specs.Utf8.{octets, within, allChars};
@@ -142,7 +142,7 @@ pub fn is_whitespace(code: u32) -> bool
     contains(&WHITE_SPACE, code)
 }
 
-// No early exit, so that several are compared at once.
+// Whether the code point is in the list. No early exit, so that several are compared at once.
 fn contains(list: &[u32], code: u32) -> bool
     ensures { λ r. ⌜ r ≡ isIn (now (list .entry)) code ⌝ }
 {
@@ -155,6 +155,7 @@ fn contains(list: &[u32], code: u32) -> bool
     found
 }
 
+// Whether the rule allows the code point.
 fn is_allowed(rule: Allowed, code: u32) -> bool
     ensures { λ r. ⌜ r ≡ allows rule code ⌝ }
 {
@@ -165,8 +166,8 @@ fn is_allowed(rule: Allowed, code: u32) -> bool
     }
 }
 
-// Whether the bytes are UTF-8 whose characters the rule allows. Text that is all ASCII, which nearly
-// every name is, is judged many bytes at a time.
+// Whether the bytes are UTF-8 whose characters the rule allows. Text that is all ASCII, which
+// nearly every name is, is judged many bytes at a time.
 fn all_allowed(bytes: &[u8], rule: Allowed) -> bool
     ensures { λ r. ⌜ r ≡ allChars (allows rule) (now (bytes .entry)) ⌝ }
 {
@@ -198,7 +199,7 @@ fn last_ascii(rule: Allowed) -> u8
     }
 }
 
-// No early exit, so that sixteen bytes are compared at once.
+// Whether every byte lies from low to high. No early exit, so that sixteen are compared at once.
 fn all_within(bytes: &[u8], low: u8, high: u8) -> bool
     ensures { λ r. ⌜ r ≡ every (within (octets low high)) (now (bytes .entry)) ⌝ }
 {
@@ -211,7 +212,7 @@ fn all_within(bytes: &[u8], low: u8, high: u8) -> bool
     all
 }
 
-// Character by character.
+// The same, character by character.
 fn all_chars(bytes: &[u8], rule: Allowed) -> bool
     ensures { λ r. ⌜ r ≡ allChars (allows rule) (now (bytes .entry)) ⌝ }
 {
@@ -287,6 +288,7 @@ fn next_part(part: Part, b: u8) -> Part
     }
 }
 
+// What a trust domain may hold.
 fn is_domain_byte(b: u8) -> bool
     ensures { λ r. ⌜ r ≡ isDomainByte b ⌝ }
 {
@@ -294,6 +296,7 @@ fn is_domain_byte(b: u8) -> bool
         | (((b'0' <= b) & (b <= b'9')) | ((b == b'.') | ((b == b'-') | (b == b'_'))))
 }
 
+// What a segment may hold: upper case letters too.
 fn is_segment_byte(b: u8) -> bool
     ensures { λ r. ⌜ r ≡ isSegmentByte b ⌝ }
 {

@@ -15,10 +15,10 @@ pub enum Decoded {
     Malformed,
 }
 
-// The character at the front of bytes. The first byte is judged by its range, which decides how many
-// bytes there are and the bounds of the second: an arm for each alternative of RFC 3629's grammar. The
-// narrower bounds shut out overlong forms (after E0 and F0), surrogates (ED) and what is above 10FFFF
-// (F4).
+// The character at the front of bytes. The first byte is judged by its range, which decides how
+// many bytes there are and the bounds of the second: an arm for each alternative of RFC 3629's
+// grammar. The narrower bounds shut out overlong forms (after E0 and F0), surrogates (ED) and what
+// is above 10FFFF (F4).
 pub fn decode(bytes: &[u8]) -> Decoded
     ensures { λ r. ⌜ r ≡ decodedChar (now (bytes .entry)) ⌝ }
 {
@@ -56,6 +56,9 @@ fn is_tail(b: u8) -> bool
 {
     (0x80 <= b) & (b <= 0xBF)
 }
+
+// The bits of a byte that belong to the code point are taken by a remainder: of the lead of two,
+// three or four bytes the low five, four or three, and of each byte after it the low six.
 
 // The lead of two bytes was read.
 fn decode_two(bytes: &[u8]) -> Decoded

@@ -1,5 +1,5 @@
-// The bodies of commands: MK, AD, BG. Each field has a reader, which takes the rest of the bytes and
-// returns the count that it read.
+// The bodies of commands: MK, AD, BG. Each field has a reader, which takes the rest of the bytes
+// and returns the count that it read.
 //
 // Document 01, section "Replay program". No part of the original has them.
 ghost use mathlib.Core.Bool.{cond, false};
@@ -41,8 +41,11 @@ use records::records::*;
 
 // A cut, and the request that is named at it.
 pub struct MarkerBody {
+    // Engine cut of the command.
     pub cut: VoterSlotLogId,
+    // Exact retained operation.
     pub request_id: ConsensusRequestId,
+    // Canonical operation digest.
     pub request_digest: [u8; 32],
 }
 
@@ -51,6 +54,7 @@ pub struct MarkerBodyRead {
     pub value: MarkerBody,
 }
 
+// The front of an AD and the whole of an MK.
 pub fn read_marker_body(bytes: &[u8]) -> MarkerBodyRead
     ensures { λ r. ⌜ (report (r .answer), r .value) ≡ outcome blankMarkerBody (markerBody .dec (now (bytes .entry))) ⌝ }
 {
@@ -109,6 +113,7 @@ pub struct MarkerRead {
     pub value: MarkerBody,
 }
 
+// The body of an MK.
 pub fn read_marker(body: &[u8]) -> MarkerRead
     ensures { λ r. ⌜ markerAsking r ≡ asking Mk (now (body .entry)) ⌝ }
 {
@@ -121,7 +126,7 @@ pub fn read_marker(body: &[u8]) -> MarkerRead
     }
 }
 
-// All was read.
+// Whether all was read.
 fn is_whole(to: Extent, len: usize) -> bool
     ensures { λ r. ⌜ r ≡ isWhole to len ⌝ }
 {
@@ -161,6 +166,7 @@ fn at_most_256(len: usize) -> usize
     MAX_VOTER_SNAPSHOT_ID_BYTES
 }
 
+// The snapshot of a step, whose id may be of any size.
 fn read_snapshot_part(bytes: &[u8]) -> SnapshotRead
     ensures { λ r. ⌜ (report (r .answer), r .value) ≡ outcome blankVoterSnapshotEvidence (decMap (snapshotPart .dec) snapshotOf (now (bytes .entry))) ⌝ }
 {
@@ -283,6 +289,7 @@ pub struct AdvanceRead {
     pub value: VoterAdvance,
 }
 
+// The body of an AD.
 pub fn read_advance(body: &[u8]) -> AdvanceRead
     ensures { λ r. ⌜ advanceAsking r ≡ asking Ad (now (body .entry)) ⌝ }
 {
@@ -341,6 +348,7 @@ fn read_any_identity(bytes: &[u8]) -> IdentityRead
     IdentityRead::Read(VoterSlotIdentity { slot, incarnation }, at + n)
 }
 
+// A member whose identity may be any numbers.
 fn read_candidate(bytes: &[u8]) -> MemberRead
     ensures { λ r. ⌜ (report (r .answer), r .value) ≡ outcome blankVoterSlotMember (candidate .dec (now (bytes .entry))) ⌝ }
 {
@@ -365,6 +373,7 @@ pub struct ExpectedRead {
     pub value: ConsensusIdentity,
 }
 
+// The configuration that a Begin expects, of any epoch.
 fn read_expected(bytes: &[u8]) -> ExpectedRead
     ensures { λ r. ⌜ (report (r .answer), r .value) ≡ outcome blankConsensusIdentity (expected .dec (now (bytes .entry))) ⌝ }
 {
@@ -416,9 +425,13 @@ fn blank_expected() -> ConsensusIdentity
 
 // What stands before the attestation.
 pub struct BeginHead {
+    // Engine cut of the command.
     pub cut: VoterSlotLogId,
+    // Exact compare-and-set table revision.
     pub expected_revision: u64,
+    // Exact current uniform configuration, including every incarnation and key.
     pub expected_configuration: ConsensusIdentity,
+    // Selected successor's public binding.
     pub candidate: VoterSlotMember,
 }
 
@@ -427,6 +440,7 @@ pub struct BeginHeadRead {
     pub value: BeginHead,
 }
 
+// What stands before the attestation.
 fn read_begin_head(bytes: &[u8]) -> BeginHeadRead
     ensures { λ r. ⌜ (report (r .answer), r .value) ≡ outcome blankBeginHead (beginHead .dec (now (bytes .entry))) ⌝ }
 {
@@ -486,10 +500,13 @@ fn blank_begin_head() -> BeginHead
     }
 }
 
-// What a BG asks: its body is not of the form, its attestation is refused, or a Begin.
+// What a BG asks.
 pub enum Asks {
+    // Its body is not of the form.
     Bad,
+    // Its attestation is refused.
     Refused(Answer),
+    // A Begin.
     Begin,
 }
 
@@ -504,6 +521,7 @@ const DIGEST: usize = 32;
 // Bytes after the attestation: the two supplied values.
 const SUPPLIED: usize = DIGEST + DIGEST;
 
+// The body of a BG.
 pub fn read_begin(body: &[u8]) -> BeginRead
     ensures { λ r. ⌜ beginAsking r ≡ asking Bg (now (body .entry)) ⌝ }
 {

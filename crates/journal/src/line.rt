@@ -1,7 +1,7 @@
 // The text of a line.
 //
-// Document 01, section "Replay program": record number, mark, answer, revision afterwards. No part of
-// the original has it.
+// Document 01, section "Replay program": record number, mark, answer, revision afterwards. No part
+// of the original has it.
 ghost use Prim.Native.Nat.{_+_, _≤_};
 ghost use lib.ListN.{length};
 ghost use Rattle.format.specs.Put.{Put};
@@ -13,10 +13,12 @@ use identity::answer::Answer;
 use identity::answer::number;
 use layout::put::put_bytes;
 
-// Most bytes of a line: three numbers of up to 20 digits, a mark of 2, three spaces and the newline.
+// Most bytes of a line: three numbers of up to 20 digits, a mark of 2, three spaces and the
+// newline.
 pub const LONGEST_LINE: usize = 3 * 20 + 2 + 3 + 1;
 
-// Puts a line at a place of the buffer, which has room for the longest, and gives the place after it.
+// Puts a line at a place of the buffer, which has room for the longest, and gives the place after
+// it.
 pub fn put_line(
     out: &mut [u8],
     at: usize,

@@ -19,18 +19,23 @@ use reader::reader::read_log_id;
 use records::blank::blank_voter_slot_log_id;
 use records::records::VoterSlotLogId;
 
-// Whether the body is of the form, and then its cut and how many there are: ids of the sets, which
-// stand at the front of the lent ids; sets, whose counts stand at the front of the lent counts; and
-// nodes, which stand after the ids of the sets.
+// What a body holds. The ids of the sets stand at the front of the lent ids, the nodes after them,
+// and the counts of the sets at the front of the lent counts.
 pub struct ObservationRead {
+    // The body is of the form.
     pub formed: bool,
+    // Engine cut of the observation.
     pub cut: VoterSlotLogId,
+    // How many ids the sets have together.
     pub ids: usize,
+    // How many sets there are.
     pub sets: usize,
+    // How many nodes there are.
     pub nodes: usize,
 }
 
-// Room for the ids of any body: one of 65,535 bytes has at most 8,189 in its sets and nodes together.
+// Room for the ids of any body: one of 65,535 bytes has at most 8,189 in its sets and nodes
+// together.
 pub const MOST_IDS: usize = 8192;
 
 // Most sets: their count has 8 bits.
@@ -83,10 +88,13 @@ fn not_formed() -> ObservationRead
     }
 }
 
-// Whether all was of the form so far, how many bytes were taken and how many ids they hold.
+// What was laid of one set or of several.
 pub struct Laid {
+    // All was of the form.
     pub formed: bool,
+    // How many bytes were taken.
     pub taken: usize,
+    // How many ids they hold.
     pub ids: usize,
 }
 

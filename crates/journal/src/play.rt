@@ -35,38 +35,51 @@ use records::blank::blank_voter_slot_table;
 use records::records::VoterSlotTable;
 use records::validation::validate_table;
 
-// Where a log stands: the table, if one stands; how many records were read; and whether a record has
-// ended the reading.
+// Where a log stands.
 pub struct Journal {
+    // There is a table.
     pub stands: bool,
+    // How many records were read.
     pub count: u64,
+    // A record has ended the reading.
     pub ended: bool,
+    // The table, if there is one.
     pub table: VoterSlotTable,
 }
 
-// How many bytes were read and written, and where the log stands then. A start whose table is not valid
-// is refused, and nothing is played.
+// What was played. A start whose table is not valid is refused, and nothing is played.
 pub struct Played {
+    // Accepted, or why the start is refused.
     pub answer: Answer,
+    // How many bytes of the input were read.
     pub read: usize,
+    // How many bytes of the output were written.
     pub written: usize,
+    // Where the log stands after them.
     pub journal: Journal,
 }
 
-// How far the bytes were read and the lines written, how many records were read, how many more may be,
-// and whether one of them has ended the reading.
+// How far the records are played.
 struct Place {
+    // How many bytes of the input were read.
     read: usize,
+    // How many bytes of the output were written.
     written: usize,
+    // How many records were read.
     count: u64,
+    // How many more may be read.
     turns: u64,
+    // A record has ended the reading.
     ended: bool,
 }
 
 // A place, and the table, if one stands.
 struct Opened {
+    // How far it was played.
     place: Place,
+    // There is a table.
     stands: bool,
+    // The table, if there is one.
     table: VoterSlotTable,
 }
 
@@ -83,9 +96,9 @@ pub fn new_journal() -> Journal
     }
 }
 
-// Plays the records that the bytes hold, as many as there is room for: a line has room where 66 bytes
-// are left. `last`: no bytes come after these, so that a record that is cut short ends the reading.
-// The second clause: the tables that the records go through are a line of history.
+// Plays the records that the bytes hold, as many as there is room for: a line has room where 66
+// bytes are left. `last`: no bytes come after these, so that a record that is cut short ends the
+// reading. The second clause: the tables that the records go through are a line of history.
 pub fn play(from: Journal, input: &[u8], last: bool, out: &mut [u8]) -> Played
     ensures played { λ r. ⌜ ((r .answer, (r .read, (r .written, r .journal))), now (out .exit)) ≡ playOf from (now (input .entry)) last (now (out .entry)) ⌝ }
     ensures line { λ _. ⌜ (from .stands ≡ true → validate (from .table) ≡ Accepted → LineOfRun (from .table) (readyOf from (now (input .entry)) last (now (out .entry)))) ⌝ }
@@ -137,8 +150,9 @@ fn open_log(from: Opened, input: &[u8], last: bool, out: &mut [u8]) -> Opened
     }
 }
 
-// With a table: each record is a call on it, or a bad record. Judges and makers are chosen in the loop,
-// where the table is: so each is called at one place, works on the table itself, and no table is copied.
+// With a table: each record is a call on it, or a bad record. Judges and makers are chosen in the
+// loop, where the table is: so each is called at one place, works on the table itself, and no table
+// is copied.
 fn play_on(from: Opened, input: &[u8], last: bool, out: &mut [u8]) -> Opened
     requires { ⌜ Safe (now input) (length (now out)) from × (from .stands ≡ true) ⌝ }
     ensures { λ r. ⌜ Goes (now (input .entry)) last from (now (out .entry)) r (now (out .exit)) × (r .place .turns ≡ 0) ⌝ }
@@ -226,6 +240,7 @@ fn put_turn(out: &mut [u8], place: Place, found: Record, answer: Answer, revisio
     }
 }
 
+// A record that ends the reading leaves no turns.
 fn turns_after(turns: u64, ends: bool) -> u64
     requires { ⌜ 0 < turns ⌝ }
     ensures { λ r. ⌜ r ≡ turnsAfter turns ends ⌝ }
@@ -236,8 +251,8 @@ fn turns_after(turns: u64, ends: bool) -> u64
     turns - 1
 }
 
-// A record with no table: a TB is read, and any other is a bad record. A table that was read has slots,
-// and the blank one of a refusal has none.
+// A record with no table: a TB is read, and any other is a bad record. A table that was read has
+// slots, and the blank one of a refusal has none.
 fn open_record(asks: Mark, body: &[u8]) -> DecodedTable
     ensures { λ r. ⌜ (openedTo (r .answer) (r .table) ≡ opening asks (now (body .entry))) × ValidStanding (standing (brings (r .table)) (r .table)) ⌝ }
 {
@@ -251,6 +266,7 @@ fn open_record(asks: Mark, body: &[u8]) -> DecodedTable
     }
 }
 
+// 33, and no table.
 fn bad_record() -> DecodedTable
     ensures { λ r. ⌜ (r .answer ≡ BadRecord) × (r .table ≡ blankVoterSlotTable) ⌝ }
 {
@@ -286,6 +302,7 @@ fn start_place(answer: Answer, from: Journal, room: usize) -> Place
     }
 }
 
+// As many as lines have room, and as records can be counted.
 fn start_turns(stops: bool, count: u64, room: usize) -> u64
     ensures { λ r. ⌜ (r ≡ cond stops 0 (min (room / longestLine) (full - count))) × (count ≤ full) ⌝ }
 {
@@ -310,6 +327,7 @@ fn revision_of(stands: bool, revision: u64) -> u64
     0
 }
 
+// What was played, as it is returned.
 fn played_to(answer: Answer, to: Opened) -> Played
     ensures { λ r. ⌜ (r .answer, (r .read, (r .written, r .journal))) ≡ playedTo answer to ⌝ }
 {

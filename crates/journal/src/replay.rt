@@ -16,6 +16,7 @@ pub enum Mark {
     Unknown,
 }
 
+// The mark that two bytes are.
 pub fn mark_of(first: u8, second: u8) -> Mark
     ensures { λ r. ⌜ r ≡ markOf (first ∷ (second ∷ [])) ⌝ }
 {
@@ -37,6 +38,7 @@ pub fn mark_of(first: u8, second: u8) -> Mark
     Mark::Unknown
 }
 
+// Whether the mark is one of the five.
 pub fn is_known(mark: Mark) -> bool
     ensures { λ r. ⌜ r ≡ isKnownMark mark ⌝ }
 {

@@ -1,6 +1,6 @@
-// One record at the table that stands: what it asks is judged, and the next table, if there is one, is
-// made by one of nine makers, which a number stands for. A body that changes the table is read twice,
-// so that what was judged is a small value.
+// One record at the table that stands: what it asks is judged, and the next table, if there is one,
+// is made by one of nine makers, which a number stands for. A body that changes the table is read
+// twice, so that what was judged is a small value.
 //
 // Document 01, section "Replay program". No part of the original has it.
 ghost use Prim.Native.Nat.{_+_, _≤_};
@@ -46,6 +46,7 @@ pub enum Called {
     Observation(Observed),
 }
 
+// The answer of a record that was so judged.
 pub fn answer_of_called(called: Called) -> Answer
     ensures { λ r. ⌜ r ≡ answerOfCalled called ⌝ }
 {
@@ -94,6 +95,7 @@ fn check_call(fits: bool, cut: VoterSlotLogId, judged: Judged) -> Judged
     refuse_if(!fits, Answer::Unrepresentable, later)
 }
 
+// The judges of the bodies: 33 for one that is not of its form, and then as the calls. An MK;
 pub fn judge_marker_body(t: VoterSlotTable, body: &[u8]) -> Judged
     requires { ⌜ validate t ≡ Accepted ⌝ }
     ensures { λ v. ⌜ numbered (verdictOf v) ≡ commandVerdict t (asking Mk (now (body .entry))) ⌝ }
@@ -107,6 +109,7 @@ pub fn judge_marker_body(t: VoterSlotTable, body: &[u8]) -> Judged
     refuse_if(!read.formed, Answer::BadRecord, checked)
 }
 
+// an AD;
 pub fn judge_advance_body(t: VoterSlotTable, body: &[u8]) -> Judged
     requires { ⌜ validate t ≡ Accepted ⌝ }
     ensures { λ v. ⌜ numbered (verdictOf v) ≡ commandVerdict t (asking Ad (now (body .entry))) ⌝ }
@@ -121,6 +124,7 @@ pub fn judge_advance_body(t: VoterSlotTable, body: &[u8]) -> Judged
     refuse_if(!read.formed, Answer::BadRecord, checked)
 }
 
+// a BG, with its attestation's own number before 30;
 pub fn judge_begin_body(t: VoterSlotTable, body: &[u8]) -> Judged
     requires { ⌜ validate t ≡ Accepted ⌝ }
     ensures { λ v. ⌜ numbered (verdictOf v) ≡ commandVerdict t (asking Bg (now (body .entry))) ⌝ }
@@ -141,6 +145,7 @@ pub fn judge_begin_body(t: VoterSlotTable, body: &[u8]) -> Judged
     }
 }
 
+// an OB, whose ids and counts are read into the lent arrays.
 pub fn judge_observation_body(
     t: VoterSlotTable,
     body: &[u8],
@@ -169,8 +174,8 @@ fn weigh_read(t: VoterSlotTable, read: ObservationRead, ids: &[u64], counts: &[u
     weigh(t, &ids[..set_ids], &counts[..sets], &ids[set_ids..end], cut)
 }
 
-// The table after the record. Where the table that stands is to be changed, its owner chooses the maker
-// itself, as `play_on` does: what this returns is copied.
+// The table after the record. Where the table that stands is to be changed, its owner chooses the
+// maker itself, as `play_on` does: what this returns is copied.
 pub fn make_record(t: VoterSlotTable, body: &[u8], called: Called) -> VoterSlotTable
     requires { ⌜ Makes t (now body) called ⌝ }
     ensures { λ r. ⌜ r ≡ madeBy t (now (body .entry)) called ⌝ }

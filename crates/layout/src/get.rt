@@ -1,4 +1,4 @@
-// The readers of a number and of bytes, unchecked, next to the writers of put.rt: `Reader` of codec.rs.
+// The readers of a number and of bytes, unchecked: `Reader` of codec.rs. put.rt has the writers.
 //
 // Ported from crates/opc-consensus/src/voter_slots/codec.rs of openpacketcore-sdk, commit
 // 717de332e7, Apache-2.0 (see NOTICE). Changed: each takes the rest of the bytes and returns the
@@ -122,7 +122,7 @@ pub fn read_sized(bytes: &[u8], bound: usize) -> SizedRead
     SizedRead::Read(size, at)
 }
 
-// What calls these knows the zeros by name, and no proof writes them out.
+// Arrays of zeros. What calls these knows the zeros by name, and no proof writes them out.
 pub fn zeros16() -> [u8; 16]
     ensures { λ r. ⌜ r ≡ zeros 16 ⌝ }
 {

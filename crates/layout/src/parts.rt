@@ -1,5 +1,11 @@
-// Groups of fields that stand together in the bytes and are no records of their own, and the records
-// made of them. They keep every reader at five fields or fewer.
+// Groups of fields that stand together in the bytes and are no records of their own, and the
+// records made of them. They keep every reader at five fields or fewer. A field means what the
+// field of that name means in its record (records.rt).
+//
+// The original has no such groups. The two constants are those of
+// crates/opc-consensus/src/voter_slots/records.rs and codec.rs of openpacketcore-sdk, commit
+// 717de332e7, Apache-2.0 (see NOTICE). Changed: the version is a number of 64 bits, as `put_be`
+// takes it.
 ghost use mathlib.Core.Bool.{false};
 ghost use mathlib.Core.Path.{_≡_};
 ghost use Rattle.records.specs.Blank.{blankVoterReplacementRecord};
@@ -36,7 +42,7 @@ pub struct ThreeCuts {
     pub third: OptionalLogId,
 }
 
-// Most bytes of an attestation.
+// Hard ceiling for one complete signed loss-attestation frame.
 pub const MAX_LOST_VOTER_ATTESTATION_BYTES: usize = 8192;
 
 // The version of a table and of an attestation.
@@ -95,6 +101,7 @@ pub struct TableHead {
     pub configuration_epoch: ConsensusConfigurationEpoch,
 }
 
+// The blank of each group, all zero.
 pub fn blank_binding() -> Binding
     ensures { λ r. ⌜ r ≡ blankBinding ⌝ }
 {
@@ -376,8 +383,8 @@ pub fn table_of_parts(
     }
 }
 
-// The table of its parts that has no open request: a blank one filled in, so that the open request's
-// 6 KB are cleared once and not copied.
+// The table of its parts that has no open request: a blank one filled in, so that the open
+// request's 6 KB are cleared once and not copied.
 pub fn idle_table_of(
     head: TableHead,
     count: usize,

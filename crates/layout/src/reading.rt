@@ -1,4 +1,4 @@
-// What the readers answer, and how a refusal is passed on.
+// What the readers answer, and how a refusal is passed on: the `Result` and the `?` of codec.rs.
 //
 // An enum carries the value and the count of its bytes. Where an array comes with the value, which
 // no enum can hold, a struct has `Extent` and the value, and a refused one the blank.

@@ -17,8 +17,8 @@ pub enum Next {
     End,
 }
 
-// The next question, its body laid to the start of body. One that is cut short, or whose body has no
-// room there, gets its line here, and is the last.
+// The next question, its body laid to the start of body. One that is cut short, or whose body has
+// no room there, gets its line here, and is the last.
 pub fn next_question(number: u64, body: &mut [u8]) -> Next {
     let mut head = [0u8; HEAD];
     let got = io::read_full(0, &mut head);

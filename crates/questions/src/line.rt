@@ -1,4 +1,6 @@
-// More than any line of the programs has.
+// The line that a program writes for a question.
+
+// More bytes than any line of the programs has.
 const LINE_SIZE: usize = 96;
 
 // Most digits of a number.
@@ -10,6 +12,7 @@ pub struct Line {
     pub at: usize,
 }
 
+// An empty line.
 pub fn new() -> Line {
     Line {
         bytes: [0; LINE_SIZE],
@@ -18,7 +21,8 @@ pub fn new() -> Line {
 }
 
 impl Line {
-    // The line with a byte more. One that is full stays as it is; no line of this program is as long.
+    // The line with a byte more. One that is full stays as it is; no line of this program is as
+    // long.
     pub fn byte(self, b: u8) -> Line {
         let at = self.at;
         if LINE_SIZE <= at {

@@ -11,8 +11,8 @@ pub enum Reply {
     Number(u64),
     Pair(u64, u64),
     Triple(u64, u64, u64),
-    // A table that was read: its revision, the count of its bytes, their checksum, and the checksum of
-    // its raw form.
+    // A table that was read: its revision, the count of its bytes, their checksum, and the checksum
+    // of its raw form.
     Table(u64, u64, u64, u64),
     // The body is not of the question's form: 33.
     Malformed,
@@ -41,7 +41,7 @@ fn put_reply(line: Line, reply: Reply) -> Line {
         Reply::Pair(a, b) => line.number(a).byte(b' ').number(b),
         Reply::Triple(a, b, c) => line.number(a).byte(b' ').number(b).byte(b' ').number(c),
         Reply::Table(a, b, c, d) => put_table(line, a, b, c, d),
-        Reply::Malformed => line.number(33),
+        Reply::Malformed => line.number(number(Answer::BadRecord)),
     }
 }
 

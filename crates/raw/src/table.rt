@@ -1,7 +1,7 @@
 // Table values in the bodies of questions: the raw form of oracle/FORMAT.md, 8,062 bytes that are
 // carried as pieces, and the table that they stand for. Every field has its place, so that a table
-// may be invalid in every way. A byte outside the bytes given counts as 0. What the records of calls
-// (`raw_calls`) have too is read from a body of at most 70,000 bytes.
+// may be invalid in every way. A byte outside the bytes given counts as 0. What the records of
+// calls (`raw_calls`) have too is read from a body of at most 70,000 bytes.
 ghost use Prim.Native.Nat.{_+_, _≤_};
 use crate::number::be16;
 use crate::number::be64;
@@ -138,14 +138,14 @@ pub fn table_of(raw: &[u8; TABLE_SIZE]) -> VoterSlotTable {
     let slots = slots_of(raw);
     let replacement = replacement_at(raw, TABLE_REPLACEMENT);
     VoterSlotTable {
-        cluster_instance: cluster_instance,
-        manifest_digest: manifest_digest,
+        cluster_instance,
+        manifest_digest,
         revision: be64(raw, TABLE_REVISION),
         configuration_epoch: be64(raw, TABLE_CONFIGURATION_EPOCH),
-        slots: slots,
+        slots,
         count: byte(raw, TABLE_COUNT) as usize,
         has_replacement: flag_at(raw, TABLE_HAS_REPLACEMENT),
-        replacement: replacement,
+        replacement,
     }
 }
 
@@ -170,11 +170,11 @@ fn slot_at(raw: &[u8], at: usize) -> VoterSlotRecord
     let member = member_at(raw, at);
     let last_result = result_at(raw, at + SLOT_LAST_RESULT);
     VoterSlotRecord {
-        member: member,
+        member,
         retired_through: be64(raw, at + SLOT_RETIRED_THROUGH),
         phase: byte(raw, at + SLOT_PHASE) as u8,
         has_last_result: flag_at(raw, at + SLOT_HAS_LAST_RESULT),
-        last_result: last_result,
+        last_result,
     }
 }
 
@@ -188,9 +188,9 @@ pub fn member_at(raw: &[u8], at: usize) -> VoterSlotMember
     let key_digest = bytes32_at(raw, at + MEMBER_KEY_DIGEST);
     let descriptor_digest = bytes32_at(raw, at + MEMBER_DESCRIPTOR_DIGEST);
     VoterSlotMember {
-        identity: identity,
-        key_digest: key_digest,
-        descriptor_digest: descriptor_digest,
+        identity,
+        key_digest,
+        descriptor_digest,
         admission_generation: be64(raw, at + MEMBER_ADMISSION_GENERATION),
     }
 }
@@ -202,13 +202,13 @@ fn result_at(raw: &[u8], at: usize) -> VoterReplacementResult
     let request_digest = bytes32_at(raw, at + RESULT_REQUEST_DIGEST);
     let terminal = log_id_at(raw, at + RESULT_TERMINAL);
     VoterReplacementResult {
-        request_id: request_id,
-        request_digest: request_digest,
+        request_id,
+        request_digest,
         incarnation: be64(raw, at + RESULT_INCARNATION),
         revision: be64(raw, at + RESULT_REVISION),
         configuration_epoch: be64(raw, at + RESULT_CONFIGURATION_EPOCH),
         kind: byte(raw, at + RESULT_KIND) as u8,
-        terminal: terminal,
+        terminal,
     }
 }
 
@@ -221,11 +221,11 @@ fn replacement_at(raw: &[u8], at: usize) -> VoterReplacementRecord
     let evidence = evidence_at(raw, at + REPLACEMENT_EVIDENCE);
     VoterReplacementRecord {
         expected_revision: be64(raw, at),
-        attestation: attestation,
-        predecessor: predecessor,
-        successor: successor,
+        attestation,
+        predecessor,
+        successor,
         phase: byte(raw, at + REPLACEMENT_PHASE) as u8,
-        evidence: evidence,
+        evidence,
     }
 }
 
@@ -244,24 +244,24 @@ fn attestation_at(raw: &[u8], at: usize) -> LostVoterAttestationV1
     let policy_digest = bytes32_at(raw, at + ATTESTATION_POLICY_DIGEST);
     let signature = bytes64_at(raw, at + ATTESTATION_SIGNATURE);
     LostVoterAttestationV1 {
-        request_id: request_id,
-        request_digest: request_digest,
-        cluster_instance: cluster_instance,
+        request_id,
+        request_digest,
+        cluster_instance,
         slot: numbers.slot,
         expected_incarnation: numbers.expected_incarnation,
-        old_descriptor_digest: old_descriptor_digest,
-        candidate_key_digest: candidate_key_digest,
+        old_descriptor_digest,
+        candidate_key_digest,
         admission_generation: numbers.admission_generation,
-        candidate_spiffe_id: candidate_spiffe_id,
-        controller_spiffe_id: controller_spiffe_id,
-        signing_key_digest: signing_key_digest,
+        candidate_spiffe_id,
+        controller_spiffe_id,
+        signing_key_digest,
         reason: numbers.reason,
-        policy_digest: policy_digest,
+        policy_digest,
         observation_start_ms: numbers.observation_start_ms,
         decision_ms: numbers.decision_ms,
         issued_ms: numbers.issued_ms,
         expires_ms: numbers.expires_ms,
-        signature: signature,
+        signature,
     }
 }
 
@@ -299,7 +299,7 @@ fn configuration_at(raw: &[u8], at: usize) -> VoterConfiguration
     let members = members_at(raw, at + CONFIGURATION_MEMBERS);
     VoterConfiguration {
         epoch: be64(raw, at),
-        members: members,
+        members,
         count: byte(raw, at + CONFIGURATION_COUNT) as usize,
     }
 }
@@ -331,15 +331,15 @@ fn evidence_at(raw: &[u8], at: usize) -> VoterReplacementEvidence
     let joint = optional_log_id_at(raw, at + EVIDENCE_JOINT);
     let uniform = optional_log_id_at(raw, at + EVIDENCE_UNIFORM);
     VoterReplacementEvidence {
-        prepare: prepare,
+        prepare,
         has_snapshot: flag_at(raw, at + EVIDENCE_HAS_SNAPSHOT),
-        snapshot: snapshot,
-        learner: learner,
-        caught_up: caught_up,
-        continuation: continuation,
-        fence: fence,
-        joint: joint,
-        uniform: uniform,
+        snapshot,
+        learner,
+        caught_up,
+        continuation,
+        fence,
+        joint,
+        uniform,
     }
 }
 
@@ -350,9 +350,9 @@ fn snapshot_at(raw: &[u8], at: usize) -> VoterSnapshotEvidence
     let snapshot_id = snapshot_id_at(raw, at + SNAPSHOT_ID);
     let digest = bytes32_at(raw, at + SNAPSHOT_DIGEST);
     VoterSnapshotEvidence {
-        cut: cut,
-        snapshot_id: snapshot_id,
-        digest: digest,
+        cut,
+        snapshot_id,
+        digest,
     }
 }
 
@@ -369,7 +369,7 @@ fn snapshot_id_at(raw: &[u8], at: usize) -> SnapshotId
     );
     SnapshotId {
         len: be16(raw, at) as usize,
-        bytes: bytes,
+        bytes,
     }
 }
 
@@ -386,7 +386,7 @@ fn spiffe_id_at(raw: &[u8], at: usize) -> SpiffeId
     );
     SpiffeId {
         len: be16(raw, at) as usize,
-        bytes: bytes,
+        bytes,
     }
 }
 
@@ -396,7 +396,7 @@ fn optional_log_id_at(raw: &[u8], at: usize) -> OptionalLogId
     let cut = log_id_at(raw, at + OPTIONAL_LOG_ID_CUT);
     OptionalLogId {
         is_some: flag_at(raw, at),
-        cut: cut,
+        cut,
     }
 }
 

@@ -37,8 +37,8 @@ pub fn put_attestation(raw: &mut [u8], at: usize, a: LostVoterAttestationV1)
     put_spiffe_id(raw, at + ATTESTATION_CONTROLLER_SPIFFE_ID, controller);
 }
 
-// Its numbers and its bytes are written apart, since the check finds what it needs by itself only in
-// a function with few calls.
+// Its numbers and its bytes are written apart, since the check finds what it needs by itself only
+// in a function with few calls.
 fn put_attestation_numbers(raw: &mut [u8], at: usize, a: LostVoterAttestationV1)
     requires { ⌜ at + 4423 ≤ 8062 ⌝ }
 {

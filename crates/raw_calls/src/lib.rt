@@ -1,3 +1,3 @@
-// Commands and observations in the form in which questions carry them, for the programs that test and
-// time the port.
+// Commands and observations in the form in which questions carry them, for the programs that test
+// and time the port.
 pub mod record;

@@ -1,6 +1,6 @@
 // Commands and observations in the bodies of questions: the records that document 01 has in "Replay
-// program". `is_..` tells whether a record's body is of its form, `.._of` reads one that is: the value
-// may still be one that the call refuses.
+// program". `is_..` tells whether a record's body is of its form, `.._of` reads one that is: the
+// value may still be one that the call refuses.
 ghost use Prim.Native.Nat.{_+_, _*_, _-_, _<_, _≤_};
 use control::control::*;
 use identity::identity::ConsensusIdentity;
@@ -76,8 +76,8 @@ fn named(kind: u8, body: &[u8], step: VoterReplacementStep) -> VoterSlotControl 
     }
 }
 
-// cut 16, request_id 16, request_digest 32, kind of the step 1; of a snapshot cut 16, id with its size
-// of 2, digest 32; of a caught-up mark its cut 16.
+// cut 16, request_id 16, request_digest 32, kind of the step 1; of a snapshot cut 16, id with its
+// size of 2, digest 32; of a caught-up mark its cut 16.
 pub fn is_advance(body: &[u8]) -> bool {
     let size = body.len();
     if size <= STEP {
@@ -137,8 +137,8 @@ fn snapshot_id_of(body: &[u8], size: usize) -> SnapshotId {
     SnapshotId { len: size, bytes }
 }
 
-// cut 16, expected_revision 8, expected_configuration 72, candidate 82, attestation with its size of 2,
-// supplied_request_digest 32, supplied_configuration_id 32.
+// cut 16, expected_revision 8, expected_configuration 72, candidate 82, attestation with its size
+// of 2, supplied_request_digest 32, supplied_configuration_id 32.
 pub fn is_begin(body: &[u8]) -> bool {
     body.len() == attestation_end(body) + 64
 }
@@ -304,7 +304,8 @@ fn not_of_form() -> Laid {
     }
 }
 
-// Fills the ids from start to end by numbers of the body, beginning at at. It stops where the ids end.
+// Fills the ids from start to end by numbers of the body, beginning at at. It stops where the ids
+// end.
 fn copy_ids(ids: &mut [u64], start: usize, end: usize, body: &[u8], at: usize)
     requires { ⌜ (at + 8 * (end - start) ≤ 70000) × (end ≤ 140000) ⌝ }
 {

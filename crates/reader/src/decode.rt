@@ -53,7 +53,7 @@ pub fn read_binding(bytes: &[u8]) -> BindingRead
 }
 
 // A member of a configuration.
-pub fn read_member(bytes: &[u8]) -> MemberRead
+fn read_member(bytes: &[u8]) -> MemberRead
     ensures { λ r. ⌜ (report (r .answer), r .value) ≡ outcome blankVoterSlotMember (member .dec (now (bytes .entry))) ⌝ }
 {
     let identity_read = read_identity(bytes);
@@ -98,7 +98,7 @@ fn read_members(bytes: &[u8], count: usize) -> MembersRead
 }
 
 // `configuration`
-pub fn read_configuration(bytes: &[u8]) -> ConfigurationRead
+fn read_configuration(bytes: &[u8]) -> ConfigurationRead
     ensures { λ r. ⌜ (report (r .answer), r .value) ≡ outcome blankVoterConfiguration (configuration .dec (now (bytes .entry))) ⌝ }
 {
     let epoch_read = read_epoch(bytes);
@@ -127,7 +127,7 @@ pub fn read_configuration(bytes: &[u8]) -> ConfigurationRead
 }
 
 // The front of a receipt.
-pub fn read_result_head(bytes: &[u8]) -> ResultHeadRead
+fn read_result_head(bytes: &[u8]) -> ResultHeadRead
     ensures { λ r. ⌜ (report (r .answer), r .value) ≡ outcome blankResultHead (resultHead .dec (now (bytes .entry))) ⌝ }
 {
     let request_id_read = read_array16(bytes);
@@ -164,7 +164,7 @@ pub fn read_result_head(bytes: &[u8]) -> ResultHeadRead
 }
 
 // A receipt.
-pub fn read_result(bytes: &[u8]) -> ResultRead
+fn read_result(bytes: &[u8]) -> ResultRead
     ensures { λ r. ⌜ (report (r .answer), r .value) ≡ outcome blankVoterReplacementResult (result .dec (now (bytes .entry))) ⌝ }
 {
     let head_read = read_result_head(bytes);
@@ -222,7 +222,7 @@ fn read_optional_result(bytes: &[u8]) -> OptionalResultRead
 }
 
 // The front of a slot.
-pub fn read_slot_member(bytes: &[u8]) -> SlotMemberRead
+fn read_slot_member(bytes: &[u8]) -> SlotMemberRead
     ensures { λ r. ⌜ (report (r .answer), r .value) ≡ outcome blankSlotMember (slotMember .dec (now (bytes .entry))) ⌝ }
 {
     let identity_read = read_identity(bytes);
@@ -250,7 +250,7 @@ pub fn read_slot_member(bytes: &[u8]) -> SlotMemberRead
 }
 
 // A slot.
-pub fn read_slot(bytes: &[u8]) -> SlotRead
+fn read_slot(bytes: &[u8]) -> SlotRead
     ensures { λ r. ⌜ (report (r .answer), r .value) ≡ outcome blankVoterSlotRecord (slot .dec (now (bytes .entry))) ⌝ }
 {
     let head_read = read_slot_member(bytes);
@@ -309,7 +309,7 @@ fn read_slots(bytes: &[u8], count: usize) -> SlotsRead
 }
 
 // The groups of an attestation.
-pub fn read_claims_request(bytes: &[u8]) -> ClaimsRequestRead
+fn read_claims_request(bytes: &[u8]) -> ClaimsRequestRead
     ensures { λ r. ⌜ (report (r .answer), r .value) ≡ outcome blankClaimsRequest (claimsRequest .dec (now (bytes .entry))) ⌝ }
 {
     let version = read_version(bytes);
@@ -338,7 +338,7 @@ pub fn read_claims_request(bytes: &[u8]) -> ClaimsRequestRead
     }
 }
 
-pub fn read_claims_slot(bytes: &[u8]) -> ClaimsSlotRead
+fn read_claims_slot(bytes: &[u8]) -> ClaimsSlotRead
     ensures { λ r. ⌜ (report (r .answer), r .value) ≡ outcome blankClaimsSlot (claimsSlot .dec (now (bytes .entry))) ⌝ }
 {
     let cluster_instance_read = read_array32(bytes);
@@ -376,7 +376,7 @@ pub fn read_claims_slot(bytes: &[u8]) -> ClaimsSlotRead
     }
 }
 
-pub fn read_claims_names(bytes: &[u8]) -> ClaimsNamesRead
+fn read_claims_names(bytes: &[u8]) -> ClaimsNamesRead
     ensures { λ r. ⌜ (report (r .answer), r .value) ≡ outcome blankClaimsNames (claimsNames .dec (now (bytes .entry))) ⌝ }
 {
     let admission_generation_read = read_u64(bytes);
@@ -414,7 +414,7 @@ pub fn read_claims_names(bytes: &[u8]) -> ClaimsNamesRead
     }
 }
 
-pub fn read_claims_end(bytes: &[u8]) -> ClaimsEndRead
+fn read_claims_end(bytes: &[u8]) -> ClaimsEndRead
     ensures { λ r. ⌜ (report (r .answer), r .value) ≡ outcome blankClaimsEnd (claimsEnd .dec (now (bytes .entry))) ⌝ }
 {
     let reason_read = read_choice(bytes, STORAGE_LOST, TIME_BOUND_LOSS);
@@ -524,7 +524,7 @@ fn read_boxed_attestation(bytes: &[u8]) -> AttestationRead
 }
 
 // The evidence of a snapshot.
-pub fn read_snapshot(bytes: &[u8]) -> SnapshotRead
+fn read_snapshot(bytes: &[u8]) -> SnapshotRead
     ensures { λ r. ⌜ (report (r .answer), r .value) ≡ outcome blankVoterSnapshotEvidence (snapshot .dec (now (bytes .entry))) ⌝ }
 {
     let cut_read = read_log_id(bytes);
@@ -583,7 +583,7 @@ fn read_optional_snapshot(bytes: &[u8]) -> OptionalSnapshotRead
 }
 
 // The evidence of a replacement.
-pub fn read_evidence(bytes: &[u8]) -> EvidenceRead
+fn read_evidence(bytes: &[u8]) -> EvidenceRead
     ensures { λ r. ⌜ (report (r .answer), r .value) ≡ outcome blankVoterReplacementEvidence (evidence .dec (now (bytes .entry))) ⌝ }
 {
     let prepare_read = read_log_id(bytes);
@@ -613,7 +613,7 @@ pub fn read_evidence(bytes: &[u8]) -> EvidenceRead
 }
 
 // What an open request changes, and how far it is.
-pub fn read_change(bytes: &[u8]) -> ChangeRead
+fn read_change(bytes: &[u8]) -> ChangeRead
     ensures { λ r. ⌜ (report (r .answer), r .value) ≡ outcome blankChange (change .dec (now (bytes .entry))) ⌝ }
 {
     let predecessor_read = read_configuration(bytes);
@@ -644,7 +644,7 @@ pub fn read_change(bytes: &[u8]) -> ChangeRead
 }
 
 // An open request.
-pub fn read_replacement(bytes: &[u8]) -> ReplacementRead
+fn read_replacement(bytes: &[u8]) -> ReplacementRead
     ensures { λ r. ⌜ (report (r .answer), r .value) ≡ outcome blankVoterReplacementRecord (replacement .dec (now (bytes .entry))) ⌝ }
 {
     let expected_revision_read = read_u64(bytes);
@@ -678,7 +678,7 @@ pub fn read_replacement(bytes: &[u8]) -> ReplacementRead
 }
 
 // The front of a table.
-pub fn read_table_head(bytes: &[u8]) -> TableHeadRead
+fn read_table_head(bytes: &[u8]) -> TableHeadRead
     ensures { λ r. ⌜ (report (r .answer), r .value) ≡ outcome blankTableHead (tableHead .dec (now (bytes .entry))) ⌝ }
 {
     let cluster_instance_read = read_array32(bytes);
@@ -715,7 +715,7 @@ pub fn read_table_head(bytes: &[u8]) -> TableHeadRead
 }
 
 // What stands before the flag of a table: magic and version, the head, the count and the slots.
-pub fn read_table_front(bytes: &[u8]) -> TableFrontRead
+fn read_table_front(bytes: &[u8]) -> TableFrontRead
     ensures { λ r. ⌜ (report (r .answer), (((tt, r .head), r .count), r .slots)) ≡ outcome blankTableFront (tableFront .dec (now (bytes .entry))) ⌝ }
 {
     let magic = read_head(bytes);

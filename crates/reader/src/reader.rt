@@ -1,5 +1,5 @@
-// The readers of checked numbers, of text, and of what is made of numbers alone: `Reader` of codec.rs.
-// Those of a plain number and of bytes stand in layout's get.rt.
+// The readers of checked numbers, of text, and of what is made of numbers alone: `Reader` of
+// codec.rs. Those of a plain number and of bytes stand in layout's get.rt.
 //
 // Ported from crates/opc-consensus/src/voter_slots/codec.rs of openpacketcore-sdk, commit
 // 717de332e7, Apache-2.0 (see NOTICE). Changed: each takes the rest of the bytes and returns the
@@ -53,7 +53,8 @@ pub fn read_incarnation(bytes: &[u8]) -> U64Read
     U64Read::Read(value, n)
 }
 
-pub fn read_slot_id(bytes: &[u8]) -> U16Read
+// `SlotId::new` of a number that was read
+fn read_slot_id(bytes: &[u8]) -> U16Read
     ensures { λ r. ⌜ u16Read r ≡ slotId .dec (now (bytes .entry)) ⌝ }
 {
     let number = read_u16(bytes);
@@ -140,7 +141,7 @@ pub fn read_log_id(bytes: &[u8]) -> LogIdRead
 }
 
 // `optional(Reader::log_id)`
-pub fn read_optional_log_id(bytes: &[u8]) -> OptionalLogIdRead
+fn read_optional_log_id(bytes: &[u8]) -> OptionalLogIdRead
     ensures { λ r. ⌜ optionalLogIdRead r ≡ optionalLogId .dec (now (bytes .entry)) ⌝ }
 {
     let first = read_flag(bytes);

@@ -1,10 +1,10 @@
 // Cuts and the evidence of a replacement.
 //
 // Ported from crates/opc-consensus/src/voter_slots/validation.rs (`VoterSlotLogId` and
-// `VoterReplacementEvidence`: `validate`, `follows`, `retains`, `latest`) of openpacketcore-sdk, commit
-// 717de332e7, Apache-2.0 (see NOTICE). Changed: each check answers yes or no. A snapshot id above its
-// field, for which the original gives `TooLarge`, is a no: in a table the representability check has
-// refused it.
+// `VoterReplacementEvidence`: `validate`, `follows`, `retains`, `latest`) of openpacketcore-sdk,
+// commit 717de332e7, Apache-2.0 (see NOTICE). Changed: each check answers yes or no. A snapshot id
+// above its field, for which the original gives `TooLarge`, is a no: in a table the
+// representability check has refused it.
 ghost use mathlib.Core.Path.{_≡_};
 ghost use Rattle.records.specs.Evidence.{validLogId, follows, validStage, stageOr, snapshotCut, validStages, inOrder, validContinuation, validSnapshotId, validEvidence, retainsCut, retainsMarker, retainsCuts, retains, laterOf, latest};
 use crate::equality::same_voter_slot_log_id;
@@ -84,6 +84,7 @@ pub fn snapshot_cut(evidence: VoterReplacementEvidence) -> OptionalLogId
     }
 }
 
+// A stage is present exactly where it is due, and follows the one before it.
 fn is_valid_stage(
     stage: OptionalLogId,
     due: bool,
@@ -98,6 +99,7 @@ fn is_valid_stage(
     (stage.is_some == due) & (!stage.is_some | (valid & later))
 }
 
+// The cut that the next stage is to follow.
 fn stage_or(stage: OptionalLogId, previous: VoterSlotLogId) -> VoterSlotLogId
     ensures { λ r. ⌜ r ≡ stageOr stage previous ⌝ }
 {
@@ -129,6 +131,8 @@ fn is_valid_continuation(evidence: VoterReplacementEvidence) -> bool
             & (before_fence & (snapshot_in_order & (learner_in_order & caught_up_in_order))))
 }
 
+// Of the continuation and another cut the later one follows the other; a snapshot may have the same
+// cut.
 pub fn is_in_order(continuation: VoterSlotLogId, other: OptionalLogId, is_snapshot: bool) -> bool
     ensures { λ r. ⌜ r ≡ inOrder continuation other «is_snapshot» ⌝ }
 {
@@ -176,6 +180,7 @@ pub fn evidence_retains(
         & ((!old.has_snapshot | (new.has_snapshot & same_snapshot)) & (marker_kept & cuts_kept))
 }
 
+// The cuts that stay as they are once they are present.
 fn retains_cuts(new: VoterReplacementEvidence, old: VoterReplacementEvidence) -> bool
     ensures { λ r. ⌜ r ≡ retainsCuts new old ⌝ }
 {
@@ -197,6 +202,7 @@ fn retains_cuts(new: VoterReplacementEvidence, old: VoterReplacementEvidence) ->
     learner_kept & (continuation_kept & (fence_kept & (joint_kept & uniform_kept)))
 }
 
+// A cut that was present is the same still.
 fn retains_cut(new: OptionalLogId, old: OptionalLogId) -> bool
     ensures { λ r. ⌜ r ≡ retainsCut new old ⌝ }
 {
@@ -206,6 +212,7 @@ fn retains_cut(new: OptionalLogId, old: OptionalLogId) -> bool
     !old.is_some | (new.is_some & same)
 }
 
+// A mark that was present is the same still or, before the fence, a later one.
 fn retains_marker(new: OptionalLogId, old: OptionalLogId, old_phase: u8) -> bool
     ensures { λ r. ⌜ r ≡ retainsMarker new old «old_phase» ⌝ }
 {
@@ -236,7 +243,8 @@ pub fn latest_cut(evidence: VoterReplacementEvidence) -> VoterSlotLogId
     later_of(to_joint, uniform)
 }
 
-pub fn later_of(latest: VoterSlotLogId, stage: OptionalLogId) -> VoterSlotLogId
+// The one of greater index, where the stage is present.
+fn later_of(latest: VoterSlotLogId, stage: OptionalLogId) -> VoterSlotLogId
     ensures { λ r. ⌜ r ≡ laterOf latest stage ⌝ }
 {
     if stage.is_some & (latest.index < stage.cut.index) {

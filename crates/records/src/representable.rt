@@ -1,6 +1,8 @@
-// The representability check (30): whether the Rust types can hold a value, no count is above nine and
-// no text above its field, and all that is not in use is zero. The original has no such test: its types rule most
-// of these values out, and its validity refuses the others, by `InvalidRecord` and `TooLarge`.
+// The representability check (30): whether the Rust types can hold a value, no count is above nine,
+// no text is longer than its field, and all that is not in use is zero.
+//
+// The original has no such test: its types rule most of these values out, and its validity refuses
+// the others, by `InvalidRecord` and `TooLarge`.
 ghost use mathlib.Core.Path.{_≡_};
 ghost use mathlib.Core.Bool.{_&&_};
 ghost use Prim.Native.Nat.{_≤_};
@@ -13,6 +15,7 @@ ghost use Rattle.records.specs.Representable.{isZero, representableSpiff
 use crate::records::*;
 use crate::zero::*;
 use identity::identity::MAX_VOTER_INCARNATION;
+use identity::identity::VoterIncarnation;
 use identity::text::MAX_VOTER_SNAPSHOT_ID_BYTES;
 use identity::text::MAX_VOTER_SPIFFE_ID_BYTES;
 use identity::text::is_utf8;
@@ -59,7 +62,7 @@ fn slot_places(table: VoterSlotTable) -> bool
 }
 
 // Whether the Rust types can hold the slot's record.
-pub fn is_representable_slot_record(slot: VoterSlotRecord) -> bool
+fn is_representable_slot_record(slot: VoterSlotRecord) -> bool
     ensures { λ r. ⌜ r ≡ representableSlotRecord slot ⌝ }
 {
     let member = slot.member;
@@ -83,14 +86,15 @@ pub fn is_representable_member(member: VoterSlotMember) -> bool
     (1 <= member.identity.slot) & is_incarnation(member.identity.incarnation)
 }
 
-fn is_incarnation(value: u64) -> bool
+// Whether the number is an incarnation.
+fn is_incarnation(value: VoterIncarnation) -> bool
     ensures { λ r. ⌜ r ≡ isVoterIncarnation value ⌝ }
 {
     (1 <= value) & (value <= MAX_VOTER_INCARNATION)
 }
 
 // Whether the Rust types can hold the receipt.
-pub fn is_representable_result(result: VoterReplacementResult) -> bool
+fn is_representable_result(result: VoterReplacementResult) -> bool
     ensures { λ r. ⌜ r ≡ representableResult result ⌝ }
 {
     is_incarnation(result.incarnation)
@@ -98,7 +102,7 @@ pub fn is_representable_result(result: VoterReplacementResult) -> bool
 }
 
 // Whether the Rust types can hold the replacement.
-pub fn is_representable_replacement(replacement: VoterReplacementRecord) -> bool
+fn is_representable_replacement(replacement: VoterReplacementRecord) -> bool
     ensures { λ r. ⌜ r ≡ representableReplacement replacement ⌝ }
 {
     let attestation = replacement.attestation;
@@ -136,7 +140,7 @@ pub fn is_representable_attestation(attestation: LostVoterAttestationV1) -> bool
 }
 
 // Whether the name is UTF-8 with zeros after it.
-pub fn is_representable_spiffe_id(id: SpiffeId) -> bool
+fn is_representable_spiffe_id(id: SpiffeId) -> bool
     ensures { λ r. ⌜ r ≡ representableSpiffeId id ⌝ }
 {
     let len = id.len;
@@ -147,7 +151,7 @@ pub fn is_representable_spiffe_id(id: SpiffeId) -> bool
 }
 
 // Whether the snapshot id is UTF-8 with zeros after it.
-pub fn is_representable_snapshot_id(id: SnapshotId) -> bool
+fn is_representable_snapshot_id(id: SnapshotId) -> bool
     ensures { λ r. ⌜ r ≡ representableSnapshotId id ⌝ }
 {
     let len = id.len;
@@ -157,6 +161,7 @@ pub fn is_representable_snapshot_id(id: SnapshotId) -> bool
     is_text(&id.bytes, len)
 }
 
+// So many bytes of UTF-8, and zeros after them.
 fn is_text(bytes: &[u8], len: usize) -> bool
     requires { ⌜ len ≤ length (now bytes) ⌝ }
     ensures { λ r. ⌜ r ≡ (isUtf8 (take len (now (bytes .entry))) && every isZero (drop len (now (bytes .entry)))) ⌝ }
@@ -167,7 +172,7 @@ fn is_text(bytes: &[u8], len: usize) -> bool
 }
 
 // Whether the Rust types can hold the configuration.
-pub fn is_representable_configuration(configuration: VoterConfiguration) -> bool
+fn is_representable_configuration(configuration: VoterConfiguration) -> bool
     ensures { λ r. ⌜ r ≡ representableConfiguration configuration ⌝ }
 {
     if configuration.epoch < 1 {
@@ -193,6 +198,7 @@ fn member_places(configuration: VoterConfiguration) -> bool
     all
 }
 
+// A place past the count is blank.
 fn is_member_place(past: bool, member: VoterSlotMember) -> bool
     ensures { λ r. ⌜ r ≡ memberPlace past member ⌝ }
 {
@@ -203,7 +209,7 @@ fn is_member_place(past: bool, member: VoterSlotMember) -> bool
 }
 
 // Whether the Rust types can hold the evidence.
-pub fn is_representable_evidence(evidence: VoterReplacementEvidence) -> bool
+fn is_representable_evidence(evidence: VoterReplacementEvidence) -> bool
     ensures { λ r. ⌜ r ≡ representableEvidence evidence ⌝ }
 {
     let snapshot = is_representable_optional_snapshot(evidence);
@@ -224,6 +230,7 @@ pub fn is_representable_evidence(evidence: VoterReplacementEvidence) -> bool
             & (caught_up_held & (continuation_held & (fence_held & (joint_held & uniform_held)))))
 }
 
+// A snapshot that is absent is blank.
 fn is_representable_optional_snapshot(evidence: VoterReplacementEvidence) -> bool
     ensures { λ r. ⌜ r ≡ representableOptionalSnapshot evidence ⌝ }
 {
@@ -243,7 +250,7 @@ pub fn is_representable_snapshot(snapshot: VoterSnapshotEvidence) -> bool
 }
 
 // Whether the cut is there, or blank.
-pub fn is_representable_optional_log_id(optional: OptionalLogId) -> bool
+fn is_representable_optional_log_id(optional: OptionalLogId) -> bool
     ensures { λ r. ⌜ r ≡ representableOptionalLogId optional ⌝ }
 {
     if optional.is_some {

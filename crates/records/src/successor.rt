@@ -1,9 +1,9 @@
 // The successor check: whether a table may follow another.
 //
 // Ported from crates/opc-consensus/src/voter_slots/validation.rs (`validate_successor_of`) of
-// openpacketcore-sdk, commit 717de332e7, Apache-2.0 (see NOTICE). Changed: a check that can only give
-// `Regression` answers yes or no; the representability check comes first. `retains` and `latest`,
-// which it calls, are in evidence.rt.
+// openpacketcore-sdk, commit 717de332e7, Apache-2.0 (see NOTICE). Changed: a check that can only
+// give `Regression` answers yes or no; the representability check comes first. `retains` and
+// `latest`, which it calls, are in evidence.rt.
 ghost use mathlib.Core.Path.{_≡_};
 ghost use Prim.Native.Nat.{_+_, _≤_};
 ghost use Rattle.identity.specs.declared.answer.Answer.the-variants.{Accepted};
@@ -19,7 +19,9 @@ use crate::representable::is_representable;
 use crate::validation::validate_representable;
 use identity::answer::Answer;
 use identity::answer::accepted;
+use identity::identity::ConsensusConfigurationEpoch;
 use identity::identity::MAX_VOTER_INCARNATION;
+use identity::identity::SlotId;
 
 // `VoterSlotTable::validate_successor_of`: 30, the new table's number, the old one's, 7.
 pub fn validate_successor_of(new: VoterSlotTable, old: VoterSlotTable) -> Answer
@@ -59,6 +61,7 @@ pub fn validate_succession(new: VoterSlotTable, old: VoterSlotTable) -> Answer
     replacement_succeeds(new, old)
 }
 
+// A no is a regression.
 fn kept(yes: bool) -> Answer
     ensures { λ r. ⌜ r ≡ orRegression yes Accepted ⌝ }
 {
@@ -68,6 +71,7 @@ fn kept(yes: bool) -> Answer
     Answer::Regression
 }
 
+// Cluster, manifest and count are the same, and neither the revision nor the epoch falls.
 fn head_succeeds(new: VoterSlotTable, old: VoterSlotTable) -> bool
     ensures { λ r. ⌜ r ≡ headSucceeds new old ⌝ }
 {
@@ -84,6 +88,7 @@ fn head_succeeds(new: VoterSlotTable, old: VoterSlotTable) -> bool
                     & (new.count == old.count))))
 }
 
+// Each slot, against the old one at its place.
 fn slots_succeed(new: VoterSlotTable, old: VoterSlotTable) -> bool
     requires { ⌜ new .count ≤ 9 ⌝ }
     ensures { λ r. ⌜ r ≡ allBelow (λ i. slotSucceeds (slotAt new i) (slotAt old i)) (new .count) ⌝ }
@@ -101,6 +106,8 @@ fn slots_succeed(new: VoterSlotTable, old: VoterSlotTable) -> bool
     all
 }
 
+// Floor and incarnation do not fall. Of the same incarnation the member stays and the phase does
+// not fall; a later one has a greater generation. A receipt stays, or a later one takes its place.
 fn slot_succeeds(new: VoterSlotRecord, old: VoterSlotRecord) -> bool
     ensures { λ r. ⌜ r ≡ slotSucceeds new old ⌝ }
 {
@@ -121,6 +128,7 @@ fn slot_succeeds(new: VoterSlotRecord, old: VoterSlotRecord) -> bool
                         & (!old.has_last_result | (new.has_last_result & later))))))
 }
 
+// The receipt is the old one, or has a greater revision and incarnation, and no lower epoch.
 fn result_succeeds(new: VoterReplacementResult, old: VoterReplacementResult) -> bool
     ensures { λ r. ⌜ r ≡ resultSucceeds new old ⌝ }
 {
@@ -132,6 +140,7 @@ fn result_succeeds(new: VoterReplacementResult, old: VoterReplacementResult) -> 
                     | same)))
 }
 
+// The request that was open stays open, or has ended.
 fn replacement_succeeds(new: VoterSlotTable, old: VoterSlotTable) -> Answer
     requires { ⌜ new .count ≤ 9 ⌝ }
     ensures { λ r. ⌜ r ≡ replacementSucceeds new old ⌝ }
@@ -191,7 +200,7 @@ fn ended_succeeds(new: VoterSlotTable, old: VoterReplacementRecord) -> Answer
 }
 
 // The first slot of that number, or the count.
-pub fn slot_index(table: VoterSlotTable, slot: u16) -> usize
+pub fn slot_index(table: VoterSlotTable, slot: SlotId) -> usize
     requires { ⌜ table .count ≤ 9 ⌝ }
     ensures { λ r. ⌜ r ≡ slotIndex table slot ⌝ }
 {
@@ -208,7 +217,11 @@ pub fn slot_index(table: VoterSlotTable, slot: u16) -> usize
 }
 
 // The receipt of the slot whose request was open tells how the request ended.
-fn request_ended(epoch: u64, old: VoterReplacementRecord, receipt: VoterReplacementResult) -> bool
+fn request_ended(
+    epoch: ConsensusConfigurationEpoch,
+    old: VoterReplacementRecord,
+    receipt: VoterReplacementResult,
+) -> bool
     ensures { λ r. ⌜ r ≡ requestEnded epoch old receipt ⌝ }
 {
     let evidence = old.evidence;
@@ -221,7 +234,11 @@ fn request_ended(epoch: u64, old: VoterReplacementRecord, receipt: VoterReplacem
 }
 
 // The receipt is the one of the request itself.
-fn is_own_receipt(epoch: u64, old: VoterReplacementRecord, receipt: VoterReplacementResult) -> bool
+fn is_own_receipt(
+    epoch: ConsensusConfigurationEpoch,
+    old: VoterReplacementRecord,
+    receipt: VoterReplacementResult,
+) -> bool
     ensures { λ r. ⌜ r ≡ ownReceipt epoch old receipt ⌝ }
 {
     let request_id = receipt.request_id;

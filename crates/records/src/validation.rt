@@ -2,9 +2,9 @@
 //
 // Ported from crates/opc-consensus/src/voter_slots/validation.rs of openpacketcore-sdk, commit
 // 717de332e7, Apache-2.0 (see NOTICE). Changed: a check that can only give `InvalidRecord` answers
-// yes or no; the representability check comes first, and has refused each text for which the original
-// gives `TooLarge`; `follows`, `retains` and `latest` are in evidence.rt, `validate_successor_of` in
-// successor.rt.
+// yes or no; the representability check comes first, and has refused each text for which the
+// original gives `TooLarge`; `follows`, `retains` and `latest` are in evidence.rt,
+// `validate_successor_of` in successor.rt.
 ghost use mathlib.Core.Bool.{_&&_};
 ghost use mathlib.Core.Path.{_≡_};
 ghost use Prim.Native.Nat.{_+_, _-_, _<_, _≤_};
@@ -29,19 +29,28 @@ use identity::text::is_name;
 // Pairs of neighbouring places.
 const NEIGHBOURS: usize = MAX_FIXED_VOTER_SLOTS - 1;
 
-// What the open request claims of the slots. The record has 6.3 KB, so the tests of a slot get these
-// alone.
+// What the open request claims of the slots. The record has 6.3 KB, so the tests of a slot get
+// these alone: six fields of its attestation, its phase, and the cut of its prepare.
 pub struct Claims {
+    // Caller-stable idempotency identity.
     pub request_id: ConsensusRequestId,
+    // Target logical slot.
     pub slot: SlotId,
+    // Exact incarnation whose loss the controller declares.
     pub expected_incarnation: VoterIncarnation,
+    // Prior incarnation's selected descriptor digest.
     pub old_descriptor_digest: [u8; 32],
+    // Selected candidate's independent public-key digest.
     pub candidate_key_digest: [u8; 32],
+    // Monotonic platform selection generation.
     pub admission_generation: u64,
+    // Replicated phase of the replacement.
     pub phase: u8,
+    // Committed retirement and reservation cut.
     pub prepare: VoterSlotLogId,
 }
 
+// `validate_count`.
 pub fn is_valid_count(count: usize) -> bool
     ensures { λ r. ⌜ r ≡ validCount count ⌝ }
 {
@@ -49,7 +58,7 @@ pub fn is_valid_count(count: usize) -> bool
 }
 
 // `VoterConfiguration::validate`.
-pub fn is_valid_configuration(configuration: VoterConfiguration) -> bool
+fn is_valid_configuration(configuration: VoterConfiguration) -> bool
     ensures { λ r. ⌜ r ≡ validConfiguration configuration ⌝ }
 {
     if !is_valid_count(configuration.count) {
@@ -58,6 +67,7 @@ pub fn is_valid_configuration(configuration: VoterConfiguration) -> bool
     members_have_generations(configuration) & members_rise(configuration)
 }
 
+// Each admission generation is above 0.
 fn members_have_generations(configuration: VoterConfiguration) -> bool
     requires { ⌜ configuration .count ≤ 9 ⌝ }
     ensures { λ r. ⌜ r ≡ allBelow (λ i. ltb 0 (memberAt configuration i .«admission_generation»)) (configuration .count) ⌝ }
@@ -72,6 +82,7 @@ fn members_have_generations(configuration: VoterConfiguration) -> bool
     all
 }
 
+// The slot numbers rise strictly.
 fn members_rise(configuration: VoterConfiguration) -> bool
     requires { ⌜ configuration .count ≤ 9 ⌝ }
     ensures { λ r. ⌜ r ≡ allBelow (λ i. ltb (memberAt configuration i .identity .slot) (memberAt configuration (i + 1) .identity .slot)) (configuration .count - 1) ⌝ }
@@ -175,6 +186,8 @@ pub fn validate_representable(table: VoterSlotTable) -> Answer
     validate_operation(table)
 }
 
+// With no request open every slot is voting.
+//
 // Here and in each loop below the slots are taken out first: what an index that is no constant
 // points into is copied whole, and the table has 8.4 KB.
 fn all_voting(table: VoterSlotTable) -> bool
@@ -191,6 +204,7 @@ fn all_voting(table: VoterSlotTable) -> bool
     all
 }
 
+// `VoterSlotTable::validate` up to the open request.
 fn are_valid_slots(table: VoterSlotTable) -> bool
     requires { ⌜ table .count ≤ 9 ⌝ }
     ensures { λ r. ⌜ r ≡ validSlots table ⌝ }
@@ -204,6 +218,7 @@ fn are_valid_slots(table: VoterSlotTable) -> bool
     slots_rise(table) & (each_slot_valid(table) & results_distinct(table))
 }
 
+// The slot numbers rise strictly.
 fn slots_rise(table: VoterSlotTable) -> bool
     requires { ⌜ (0 < table .count) × (table .count ≤ 9) ⌝ }
     ensures { λ r. ⌜ r ≡ allBelow (λ i. ltb (slotAt table i .member .identity .slot) (slotAt table (i + 1) .member .identity .slot)) (table .count - 1) ⌝ }
@@ -218,6 +233,7 @@ fn slots_rise(table: VoterSlotTable) -> bool
     all
 }
 
+// Each slot by itself.
 fn each_slot_valid(table: VoterSlotTable) -> bool
     requires { ⌜ table .count ≤ 9 ⌝ }
     ensures { λ r. ⌜ r ≡ allBelow (λ i. validSlot (table .revision) (table .«configuration_epoch») (isActive table (slotAt table i)) (slotAt table i)) (table .count) ⌝ }
@@ -236,7 +252,12 @@ fn each_slot_valid(table: VoterSlotTable) -> bool
 }
 
 // One slot, in a table of that revision and epoch; active where it is being replaced.
-fn is_valid_slot(revision: u64, epoch: u64, active: bool, slot: VoterSlotRecord) -> bool
+fn is_valid_slot(
+    revision: u64,
+    epoch: ConsensusConfigurationEpoch,
+    active: bool,
+    slot: VoterSlotRecord,
+) -> bool
     ensures { λ r. ⌜ r ≡ validSlot revision epoch active slot ⌝ }
 {
     let own = slot.member.identity.incarnation;
@@ -249,7 +270,12 @@ fn is_valid_slot(revision: u64, epoch: u64, active: bool, slot: VoterSlotRecord)
 }
 
 // The receipt of one slot.
-fn is_valid_result(revision: u64, epoch: u64, active: bool, slot: VoterSlotRecord) -> bool
+fn is_valid_result(
+    revision: u64,
+    epoch: ConsensusConfigurationEpoch,
+    active: bool,
+    slot: VoterSlotRecord,
+) -> bool
     ensures { λ r. ⌜ r ≡ validResult revision epoch active slot ⌝ }
 {
     let result = slot.last_result;
@@ -283,6 +309,7 @@ fn results_distinct(table: VoterSlotTable) -> bool
     all
 }
 
+// The receipt of the slot at i, against those of the slots before it.
 fn distinct_below(slots: [VoterSlotRecord; MAX_FIXED_VOTER_SLOTS], i: usize) -> bool
     requires { ⌜ i < 9 ⌝ }
     ensures { λ r. ⌜ r ≡ allBelow (λ j. distinctResults (getD slots j noSlotRecord) (getD slots i noSlotRecord)) i ⌝ }
@@ -298,6 +325,7 @@ fn distinct_below(slots: [VoterSlotRecord; MAX_FIXED_VOTER_SLOTS], i: usize) -> 
     all
 }
 
+// The two have no receipt of one request.
 fn are_distinct_results(a: VoterSlotRecord, b: VoterSlotRecord) -> bool
     ensures { λ r. ⌜ r ≡ distinctResults a b ⌝ }
 {
@@ -352,6 +380,8 @@ fn is_valid_operation(table: VoterSlotTable) -> bool
     is_valid_operation_head(table) & is_current_epoch(table)
 }
 
+// The open request against the revision, the cluster and the count of the table, and its two
+// epochs.
 fn is_valid_operation_head(table: VoterSlotTable) -> bool
     ensures { λ r. ⌜ r ≡ validOperationHead table (table .replacement) ⌝ }
 {
@@ -370,6 +400,7 @@ fn is_valid_operation_head(table: VoterSlotTable) -> bool
                         & ((table.replacement.successor.count == table.count) & next_epoch)))))
 }
 
+// The table's epoch is the successor's in Uniform, and the predecessor's in each phase before it.
 fn is_current_epoch(table: VoterSlotTable) -> bool
     ensures { λ r. ⌜ r ≡ isCurrentEpoch table (table .replacement) ⌝ }
 {
@@ -379,6 +410,7 @@ fn is_current_epoch(table: VoterSlotTable) -> bool
     table.configuration_epoch == table.replacement.predecessor.epoch
 }
 
+// What the open request of the table claims.
 fn claims_of(table: VoterSlotTable) -> Claims
     ensures { λ r. ⌜ r ≡ claimsOf (table .replacement) ⌝ }
 {
@@ -387,14 +419,14 @@ fn claims_of(table: VoterSlotTable) -> Claims
     let candidate_key_digest = table.replacement.attestation.candidate_key_digest;
     let prepare = table.replacement.evidence.prepare;
     Claims {
-        request_id: request_id,
+        request_id,
         slot: table.replacement.attestation.slot,
         expected_incarnation: table.replacement.attestation.expected_incarnation,
-        old_descriptor_digest: old_descriptor_digest,
-        candidate_key_digest: candidate_key_digest,
+        old_descriptor_digest,
+        candidate_key_digest,
         admission_generation: table.replacement.attestation.admission_generation,
         phase: table.replacement.phase,
-        prepare: prepare,
+        prepare,
     }
 }
 
@@ -409,8 +441,8 @@ fn validate_members(table: VoterSlotTable) -> Answer
     let slots = table.slots;
     let mut i = 0;
     while i < table.count {
-        // What is compared whole is a copy of its own: a record that is read field by field too is copied
-        // in pieces, which a comparison right after it has to wait for.
+        // What is compared whole is a copy of its own: a record that is read field by field too is
+        // copied in pieces, which a comparison right after it has to wait for.
         let slot = slots[i];
         let member = slot.member;
         let old = predecessor[i];
@@ -435,6 +467,7 @@ fn validate_members(table: VoterSlotTable) -> Answer
     Answer::Accepted
 }
 
+// One of the slots is the one that is being replaced.
 fn has_target(table: VoterSlotTable) -> bool
     requires { ⌜ table .count ≤ 9 ⌝ }
     ensures { λ r. ⌜ r ≡ hasTarget table ⌝ }
@@ -473,6 +506,7 @@ fn validate_target(
     require(is_valid_target(claims, slot, predecessor, successor) & other)
 }
 
+// `require`: a no is `InvalidRecord`.
 fn require(valid: bool) -> Answer
     ensures { λ r. ⌜ r ≡ requireOf valid Accepted ⌝ }
 {
@@ -482,6 +516,7 @@ fn require(valid: bool) -> Answer
     Answer::InvalidRecord
 }
 
+// The receipt of the slot, if it has one, is not that of the open request.
 fn is_other_request(claims: Claims, slot: VoterSlotRecord) -> bool
     ensures { λ r. ⌜ r ≡ otherRequest claims slot ⌝ }
 {
@@ -491,7 +526,7 @@ fn is_other_request(claims: Claims, slot: VoterSlotRecord) -> bool
     !slot.has_last_result | !same
 }
 
-// The slot that is being replaced.
+// The slot that is being replaced, after the tests of `validate_target`.
 fn is_valid_target(
     claims: Claims,
     slot: VoterSlotRecord,
@@ -526,6 +561,7 @@ fn is_retired_member(claims: Claims, slot: VoterSlotRecord, predecessor: VoterSl
     is_superseded_receipt(claims, slot)
 }
 
+// The receipt that the superseded candidate's request has left.
 fn is_superseded_receipt(claims: Claims, slot: VoterSlotRecord) -> bool
     ensures { λ r. ⌜ r ≡ supersededReceipt slot claims ⌝ }
 {
@@ -537,7 +573,7 @@ fn is_superseded_receipt(claims: Claims, slot: VoterSlotRecord) -> bool
             & ((slot.last_result.kind == SUPERSEDED) & same))
 }
 
-// The phase of the slot that is being replaced.
+// The phase of the slot that is being replaced, by that of the replacement.
 pub fn target_phase(phase: u8) -> u8
     ensures { λ r. ⌜ r ≡ targetPhase phase ⌝ }
 {

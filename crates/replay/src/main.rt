@@ -1,9 +1,9 @@
 // The replay program: a log of records from standard input, a line for each to standard output.
 //
-// Document 01, section "Replay program". What a record means and what is printed of it is decided by
-// the crate `journal`, which is proved; this program moves the bytes. It reads what there is, plays
-// the whole records in it, and writes what is due before it reads again, so that it works through a
-// pipe by hand. Memory is constant: the buffers below hold the longest record.
+// Document 01, section "Replay program". What a record means and what is printed of it is decided
+// by the crate `journal`, which is proved; this program moves the bytes. It reads what there is,
+// plays the whole records in it, and writes what is due before it reads again, so that it works
+// through a pipe by hand. Memory is constant: the buffers below hold the longest record.
 ghost use Prim.Native.Nat.{_+_, _-_, _≤_};
 ghost use mathlib.Core.Path.{_≡_};
 ghost use lib.ListN.{length, take, drop};
@@ -39,7 +39,8 @@ fn main() {
     }
 }
 
-// Plays to the end of the input. The turns are counted down, since nothing says that the input ends.
+// Plays to the end of the input. The turns are counted down, since nothing says that the input
+// ends.
 fn run(input: &mut [u8; INPUT_SIZE], output: &mut [u8; OUTPUT_SIZE]) {
     let mut journal = new_journal();
     let mut at = Input {
@@ -85,8 +86,8 @@ fn write_part(output: &[u8], written: usize) -> bool
     put(&output[..written])
 }
 
-// An output that takes no more ends the program. Where nobody reads it, that is no fault, and nothing is
-// said of it.
+// An output that takes no more ends the program. Where nobody reads it, that is no fault, and
+// nothing is said of it.
 fn put(bytes: &[u8]) -> bool {
     if io::write_all(1, bytes) {
         return true;
@@ -97,8 +98,8 @@ fn put(bytes: &[u8]) -> bool {
     false
 }
 
-// Moves what is left to the front, and reads once. A read that is interrupted brings nothing, and is
-// tried again after a turn in which nothing is ready.
+// Moves what is left to the front, and reads once. A read that is interrupted brings nothing, and
+// is tried again after a turn in which nothing is ready.
 fn refill(input: &mut [u8; INPUT_SIZE], at: Input) -> Input
     requires { ⌜ (at .start ≤ at .held) × (at .held ≤ 131072) ⌝ }
     ensures { λ r. ⌜ ((r .start ≡ 0) × (r .held ≤ 131072)) × ((at .held - at .start ≤ r .held) × (take (at .held - at .start) (now (input .exit)) ≡ take (at .held - at .start) (drop (at .start) (now (input .entry))))) ⌝ }

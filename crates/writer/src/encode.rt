@@ -11,7 +11,7 @@ ghost use Rattle.format.specs.Put.{Put};
 ghost use Rattle.format.specs.Through.{boxed};
 ghost use Rattle.records.specs.Blank.{blankVoterReplacementResult, blankVoterSnapshotEvidence, blankVoterReplacementRecord};
 ghost use Rattle.layout.specs.Parts.{ReplacementFits, TableFits, bindingOf, resultHeadOf, slotMemberOf, timesOf, claimsRequestOf, claimsSlotOf, claimsNamesOf, claimsEndOf, changeOf, tableHeadOf};
-ghost use Rattle.layout.specs.Layout.{identity, logId, optionalLogId, threeCuts, binding, member, members, configuration, resultHead, result, slotMember, slot, slots, spiffeId, snapshotId, claimsRequest, claimsSlot, claimsNames, times, claimsEnd, claims, attestation, snapshot, evidence, change, replacement, magicAndVersion, tableHead, table};
+ghost use Rattle.layout.specs.Layout as layout;
 use identity::identity::VoterSlotIdentity;
 use layout::parts::*;
 use layout::put::put_be;
@@ -32,6 +32,9 @@ const REQUEST_ID_SIZE: usize = 16;
 const DIGEST_SIZE: usize = 32;
 
 const SIGNATURE_SIZE: usize = 64;
+
+// The magic.
+const FORMAT_SIZE: usize = 4;
 
 // Term and index.
 const LOG_ID_SIZE: usize = U64_SIZE + U64_SIZE;
@@ -77,39 +80,46 @@ const FULL_EVIDENCE_SIZE: usize = EVIDENCE_SIZE + SNAPSHOT_SIZE;
 const REPLACEMENT_SIZE: usize = U64_SIZE + U16_SIZE + U8_SIZE;
 
 // Magic, version, two digests, revision, epoch, count and the flag of the replacement.
-const TABLE_SIZE: usize = 4 + U16_SIZE + 2 * DIGEST_SIZE + 2 * U64_SIZE + U8_SIZE + FLAG_SIZE;
+const TABLE_SIZE: usize = FORMAT_SIZE
+    + U16_SIZE
+    + 2 * DIGEST_SIZE
+    + 2 * U64_SIZE
+    + U8_SIZE
+    + FLAG_SIZE;
 
 // `identity`
-fn put_identity(buffer: &mut [u8], at: usize, id: VoterSlotIdentity) -> usize
-    requires { ⌜ at + length (identity .enc id) ≤ length (now buffer) ⌝ }
-    ensures { λ r. ⌜ Put (identity .enc id) at (now (buffer .entry)) (now (buffer .exit)) r ⌝ }
+fn put_identity(buffer: &mut [u8], at: usize, identity: VoterSlotIdentity) -> usize
+    requires { ⌜ at + length (layout.identity .enc identity) ≤ length (now buffer) ⌝ }
+    ensures { λ r. ⌜ Put (layout.identity .enc identity) at (now (buffer .entry)) (now (buffer .exit)) r ⌝ }
 {
-    let at = put_be(buffer, at, 2, id.slot as u64);
-    put_be(buffer, at, 8, id.incarnation)
+    let at = put_be(buffer, at, U16_SIZE, identity.slot as u64);
+    put_be(buffer, at, U64_SIZE, identity.incarnation)
 }
 
 // `log_id`
 fn put_log_id(buffer: &mut [u8], at: usize, id: VoterSlotLogId) -> usize
-    requires { ⌜ at + length (logId .enc id) ≤ length (now buffer) ⌝ }
-    ensures { λ r. ⌜ Put (logId .enc id) at (now (buffer .entry)) (now (buffer .exit)) r ⌝ }
+    requires { ⌜ at + length (layout.logId .enc id) ≤ length (now buffer) ⌝ }
+    ensures { λ r. ⌜ Put (layout.logId .enc id) at (now (buffer .entry)) (now (buffer .exit)) r ⌝ }
 {
-    let at = put_be(buffer, at, 8, id.term);
-    put_be(buffer, at, 8, id.index)
+    let at = put_be(buffer, at, U64_SIZE, id.term);
+    put_be(buffer, at, U64_SIZE, id.index)
 }
 
+// The flag of an optional part.
 fn put_flag(buffer: &mut [u8], at: usize, yes: bool) -> usize
     requires { ⌜ at + length (flag .enc yes) ≤ length (now buffer) ⌝ }
     ensures { λ r. ⌜ Put (flag .enc yes) at (now (buffer .entry)) (now (buffer .exit)) r ⌝ }
 {
     if yes {
-        return put_be(buffer, at, 1, 1);
+        return put_be(buffer, at, FLAG_SIZE, 1);
     }
-    put_be(buffer, at, 1, 0)
+    put_be(buffer, at, FLAG_SIZE, 0)
 }
 
+// A cut, or none.
 fn put_optional_log_id(buffer: &mut [u8], at: usize, optional: OptionalLogId) -> usize
-    requires { ⌜ at + length (optionalLogId .enc optional) ≤ length (now buffer) ⌝ }
-    ensures { λ r. ⌜ Put (optionalLogId .enc optional) at (now (buffer .entry)) (now (buffer .exit)) r ⌝ }
+    requires { ⌜ at + length (layout.optionalLogId .enc optional) ≤ length (now buffer) ⌝ }
+    ensures { λ r. ⌜ Put (layout.optionalLogId .enc optional) at (now (buffer .entry)) (now (buffer .exit)) r ⌝ }
 {
     let at = put_flag(buffer, at, optional.is_some);
     if optional.is_some {
@@ -120,32 +130,34 @@ fn put_optional_log_id(buffer: &mut [u8], at: usize, optional: OptionalLogId) ->
 }
 
 // `binding`
-fn put_binding(buffer: &mut [u8], at: usize, m: VoterSlotMember) -> usize
-    requires { ⌜ at + length (binding .enc (bindingOf m)) ≤ length (now buffer) ⌝ }
-    ensures { λ r. ⌜ Put (binding .enc (bindingOf m)) at (now (buffer .entry)) (now (buffer .exit)) r ⌝ }
+fn put_binding(buffer: &mut [u8], at: usize, member: VoterSlotMember) -> usize
+    requires { ⌜ at + length (layout.binding .enc (bindingOf member)) ≤ length (now buffer) ⌝ }
+    ensures { λ r. ⌜ Put (layout.binding .enc (bindingOf member)) at (now (buffer .entry)) (now (buffer .exit)) r ⌝ }
 {
-    let at = put_bytes(buffer, at, &m.key_digest);
-    let at = put_bytes(buffer, at, &m.descriptor_digest);
-    put_be(buffer, at, 8, m.admission_generation)
+    let at = put_bytes(buffer, at, &member.key_digest);
+    let at = put_bytes(buffer, at, &member.descriptor_digest);
+    put_be(buffer, at, U64_SIZE, member.admission_generation)
 }
 
-fn put_member(buffer: &mut [u8], at: usize, m: VoterSlotMember) -> usize
-    requires { ⌜ at + length (member .enc m) ≤ length (now buffer) ⌝ }
-    ensures { λ r. ⌜ Put (member .enc m) at (now (buffer .entry)) (now (buffer .exit)) r ⌝ }
+// A member of a configuration.
+fn put_member(buffer: &mut [u8], at: usize, member: VoterSlotMember) -> usize
+    requires { ⌜ at + length (layout.member .enc member) ≤ length (now buffer) ⌝ }
+    ensures { λ r. ⌜ Put (layout.member .enc member) at (now (buffer .entry)) (now (buffer .exit)) r ⌝ }
 {
-    let id = m.identity;
-    let at = put_identity(buffer, at, id);
-    put_binding(buffer, at, m)
+    let identity = member.identity;
+    let at = put_identity(buffer, at, identity);
+    put_binding(buffer, at, member)
 }
 
+// The first so many of the nine places.
 fn put_members(
     buffer: &mut [u8],
     at: usize,
     places: [VoterSlotMember; MAX_FIXED_VOTER_SLOTS],
     count: usize,
 ) -> usize
-    requires { ⌜ (at + length (members count .enc places) ≤ length (now buffer)) × (count ≤ 9) ⌝ }
-    ensures { λ r. ⌜ Put (members count .enc places) at (now (buffer .entry)) (now (buffer .exit)) r ⌝ }
+    requires { ⌜ (at + length (layout.members count .enc places) ≤ length (now buffer)) × (count ≤ 9) ⌝ }
+    ensures { λ r. ⌜ Put (layout.members count .enc places) at (now (buffer .entry)) (now (buffer .exit)) r ⌝ }
 {
     let mut to = at;
     let mut i = 0;
@@ -158,82 +170,88 @@ fn put_members(
 }
 
 // `configuration`
-fn put_configuration(buffer: &mut [u8], at: usize, c: VoterConfiguration) -> usize
-    requires { ⌜ (at + length (configuration .enc c) ≤ length (now buffer)) × (c .count ≤ 9) ⌝ }
-    ensures { λ r. ⌜ Put (configuration .enc c) at (now (buffer .entry)) (now (buffer .exit)) r ⌝ }
+fn put_configuration(buffer: &mut [u8], at: usize, configuration: VoterConfiguration) -> usize
+    requires { ⌜ (at + length (layout.configuration .enc configuration) ≤ length (now buffer)) × (configuration .count ≤ 9) ⌝ }
+    ensures { λ r. ⌜ Put (layout.configuration .enc configuration) at (now (buffer .entry)) (now (buffer .exit)) r ⌝ }
 {
-    let at = put_be(buffer, at, 8, c.epoch);
-    let at = put_be(buffer, at, 1, c.count as u64);
-    let places = c.members;
-    put_members(buffer, at, places, c.count)
+    let at = put_be(buffer, at, U64_SIZE, configuration.epoch);
+    let at = put_be(buffer, at, U8_SIZE, configuration.count as u64);
+    let places = configuration.members;
+    put_members(buffer, at, places, configuration.count)
 }
 
-fn put_result_head(buffer: &mut [u8], at: usize, x: VoterReplacementResult) -> usize
-    requires { ⌜ at + length (resultHead .enc (resultHeadOf x)) ≤ length (now buffer) ⌝ }
-    ensures { λ r. ⌜ Put (resultHead .enc (resultHeadOf x)) at (now (buffer .entry)) (now (buffer .exit)) r ⌝ }
+// The front of a receipt.
+fn put_result_head(buffer: &mut [u8], at: usize, result: VoterReplacementResult) -> usize
+    requires { ⌜ at + length (layout.resultHead .enc (resultHeadOf result)) ≤ length (now buffer) ⌝ }
+    ensures { λ r. ⌜ Put (layout.resultHead .enc (resultHeadOf result)) at (now (buffer .entry)) (now (buffer .exit)) r ⌝ }
 {
-    let at = put_bytes(buffer, at, &x.request_id);
-    let at = put_bytes(buffer, at, &x.request_digest);
-    let at = put_be(buffer, at, 8, x.incarnation);
-    put_be(buffer, at, 8, x.revision)
+    let at = put_bytes(buffer, at, &result.request_id);
+    let at = put_bytes(buffer, at, &result.request_digest);
+    let at = put_be(buffer, at, U64_SIZE, result.incarnation);
+    put_be(buffer, at, U64_SIZE, result.revision)
 }
 
-fn put_result(buffer: &mut [u8], at: usize, x: VoterReplacementResult) -> usize
-    requires { ⌜ at + length (result .enc x) ≤ length (now buffer) ⌝ }
-    ensures { λ r. ⌜ Put (result .enc x) at (now (buffer .entry)) (now (buffer .exit)) r ⌝ }
+// A receipt.
+fn put_result(buffer: &mut [u8], at: usize, result: VoterReplacementResult) -> usize
+    requires { ⌜ at + length (layout.result .enc result) ≤ length (now buffer) ⌝ }
+    ensures { λ r. ⌜ Put (layout.result .enc result) at (now (buffer .entry)) (now (buffer .exit)) r ⌝ }
 {
-    let at = put_result_head(buffer, at, x);
-    let at = put_be(buffer, at, 8, x.configuration_epoch);
-    let at = put_be(buffer, at, 1, x.kind as u64);
-    let terminal = x.terminal;
+    let at = put_result_head(buffer, at, result);
+    let at = put_be(buffer, at, U64_SIZE, result.configuration_epoch);
+    let at = put_be(buffer, at, U8_SIZE, result.kind as u64);
+    let terminal = result.terminal;
     put_log_id(buffer, at, terminal)
 }
 
+// A receipt, or none.
 fn put_optional_result(
     buffer: &mut [u8],
     at: usize,
     is_some: bool,
-    x: VoterReplacementResult,
+    result: VoterReplacementResult,
 ) -> usize
-    requires { ⌜ at + length (opt result blankVoterReplacementResult .enc («is_some», x)) ≤ length (now buffer) ⌝ }
-    ensures { λ r. ⌜ Put (opt result blankVoterReplacementResult .enc («is_some», x)) at (now (buffer .entry)) (now (buffer .exit)) r ⌝ }
+    requires { ⌜ at + length (opt layout.result blankVoterReplacementResult .enc («is_some», result)) ≤ length (now buffer) ⌝ }
+    ensures { λ r. ⌜ Put (opt layout.result blankVoterReplacementResult .enc («is_some», result)) at (now (buffer .entry)) (now (buffer .exit)) r ⌝ }
 {
     let at = put_flag(buffer, at, is_some);
     if is_some {
-        return put_result(buffer, at, x);
+        return put_result(buffer, at, result);
     }
     at
 }
 
-fn put_slot_member(buffer: &mut [u8], at: usize, s: VoterSlotRecord) -> usize
-    requires { ⌜ at + length (slotMember .enc (slotMemberOf s)) ≤ length (now buffer) ⌝ }
-    ensures { λ r. ⌜ Put (slotMember .enc (slotMemberOf s)) at (now (buffer .entry)) (now (buffer .exit)) r ⌝ }
+// The front of a slot.
+fn put_slot_member(buffer: &mut [u8], at: usize, slot: VoterSlotRecord) -> usize
+    requires { ⌜ at + length (layout.slotMember .enc (slotMemberOf slot)) ≤ length (now buffer) ⌝ }
+    ensures { λ r. ⌜ Put (layout.slotMember .enc (slotMemberOf slot)) at (now (buffer .entry)) (now (buffer .exit)) r ⌝ }
 {
-    let m = s.member;
-    let id = m.identity;
-    let at = put_identity(buffer, at, id);
-    let at = put_be(buffer, at, 8, s.retired_through);
-    put_binding(buffer, at, m)
+    let member = slot.member;
+    let identity = member.identity;
+    let at = put_identity(buffer, at, identity);
+    let at = put_be(buffer, at, U64_SIZE, slot.retired_through);
+    put_binding(buffer, at, member)
 }
 
-fn put_slot(buffer: &mut [u8], at: usize, s: VoterSlotRecord) -> usize
-    requires { ⌜ at + length (slot .enc s) ≤ length (now buffer) ⌝ }
-    ensures { λ r. ⌜ Put (slot .enc s) at (now (buffer .entry)) (now (buffer .exit)) r ⌝ }
+// A slot.
+fn put_slot(buffer: &mut [u8], at: usize, slot: VoterSlotRecord) -> usize
+    requires { ⌜ at + length (layout.slot .enc slot) ≤ length (now buffer) ⌝ }
+    ensures { λ r. ⌜ Put (layout.slot .enc slot) at (now (buffer .entry)) (now (buffer .exit)) r ⌝ }
 {
-    let at = put_slot_member(buffer, at, s);
-    let at = put_be(buffer, at, 1, s.phase as u64);
-    let last_result = s.last_result;
-    put_optional_result(buffer, at, s.has_last_result, last_result)
+    let at = put_slot_member(buffer, at, slot);
+    let at = put_be(buffer, at, U8_SIZE, slot.phase as u64);
+    let last_result = slot.last_result;
+    put_optional_result(buffer, at, slot.has_last_result, last_result)
 }
 
+// The first so many of the nine places.
 fn put_slots(
     buffer: &mut [u8],
     at: usize,
     places: [VoterSlotRecord; MAX_FIXED_VOTER_SLOTS],
     count: usize,
 ) -> usize
-    requires { ⌜ (at + length (slots count .enc places) ≤ length (now buffer)) × (count ≤ 9) ⌝ }
-    ensures { λ r. ⌜ Put (slots count .enc places) at (now (buffer .entry)) (now (buffer .exit)) r ⌝ }
+    requires { ⌜ (at + length (layout.slots count .enc places) ≤ length (now buffer)) × (count ≤ 9) ⌝ }
+    ensures { λ r. ⌜ Put (layout.slots count .enc places) at (now (buffer .entry)) (now (buffer .exit)) r ⌝ }
 {
     let mut to = at;
     let mut i = 0;
@@ -247,140 +265,144 @@ fn put_slots(
 
 // `sized_bytes`, of a name
 fn put_spiffe_id(buffer: &mut [u8], at: usize, id: SpiffeId) -> usize
-    requires { ⌜ (at + length (spiffeId .enc id) ≤ length (now buffer)) × (id .len ≤ 2048) ⌝ }
-    ensures { λ r. ⌜ Put (spiffeId .enc id) at (now (buffer .entry)) (now (buffer .exit)) r ⌝ }
+    requires { ⌜ (at + length (layout.spiffeId .enc id) ≤ length (now buffer)) × (id .len ≤ 2048) ⌝ }
+    ensures { λ r. ⌜ Put (layout.spiffeId .enc id) at (now (buffer .entry)) (now (buffer .exit)) r ⌝ }
 {
     let len = id.len;
-    let at = put_be(buffer, at, 2, len as u64);
+    let at = put_be(buffer, at, U16_SIZE, len as u64);
     let bytes = &id.bytes[..];
     put_bytes(buffer, at, &bytes[..len])
 }
 
 // `sized_bytes`, of a snapshot id
 fn put_snapshot_id(buffer: &mut [u8], at: usize, id: SnapshotId) -> usize
-    requires { ⌜ (at + length (snapshotId .enc id) ≤ length (now buffer)) × (id .len ≤ 256) ⌝ }
-    ensures { λ r. ⌜ Put (snapshotId .enc id) at (now (buffer .entry)) (now (buffer .exit)) r ⌝ }
+    requires { ⌜ (at + length (layout.snapshotId .enc id) ≤ length (now buffer)) × (id .len ≤ 256) ⌝ }
+    ensures { λ r. ⌜ Put (layout.snapshotId .enc id) at (now (buffer .entry)) (now (buffer .exit)) r ⌝ }
 {
     let len = id.len;
-    let at = put_be(buffer, at, 2, len as u64);
+    let at = put_be(buffer, at, U16_SIZE, len as u64);
     let bytes = &id.bytes[..];
     put_bytes(buffer, at, &bytes[..len])
 }
 
 // `unsigned_claims` and the signature, in four groups.
-fn put_claims_request(buffer: &mut [u8], at: usize, a: LostVoterAttestationV1) -> usize
-    requires { ⌜ at + length (claimsRequest .enc (claimsRequestOf a)) ≤ length (now buffer) ⌝ }
-    ensures { λ r. ⌜ Put (claimsRequest .enc (claimsRequestOf a)) at (now (buffer .entry)) (now (buffer .exit)) r ⌝ }
+fn put_claims_request(buffer: &mut [u8], at: usize, claims: LostVoterAttestationV1) -> usize
+    requires { ⌜ at + length (layout.claimsRequest .enc (claimsRequestOf claims)) ≤ length (now buffer) ⌝ }
+    ensures { λ r. ⌜ Put (layout.claimsRequest .enc (claimsRequestOf claims)) at (now (buffer .entry)) (now (buffer .exit)) r ⌝ }
 {
-    let at = put_be(buffer, at, 2, VERSION);
-    let at = put_bytes(buffer, at, &a.request_id);
-    put_bytes(buffer, at, &a.request_digest)
+    let at = put_be(buffer, at, U16_SIZE, VERSION);
+    let at = put_bytes(buffer, at, &claims.request_id);
+    put_bytes(buffer, at, &claims.request_digest)
 }
 
-fn put_claims_slot(buffer: &mut [u8], at: usize, a: LostVoterAttestationV1) -> usize
-    requires { ⌜ at + length (claimsSlot .enc (claimsSlotOf a)) ≤ length (now buffer) ⌝ }
-    ensures { λ r. ⌜ Put (claimsSlot .enc (claimsSlotOf a)) at (now (buffer .entry)) (now (buffer .exit)) r ⌝ }
+fn put_claims_slot(buffer: &mut [u8], at: usize, claims: LostVoterAttestationV1) -> usize
+    requires { ⌜ at + length (layout.claimsSlot .enc (claimsSlotOf claims)) ≤ length (now buffer) ⌝ }
+    ensures { λ r. ⌜ Put (layout.claimsSlot .enc (claimsSlotOf claims)) at (now (buffer .entry)) (now (buffer .exit)) r ⌝ }
 {
-    let at = put_bytes(buffer, at, &a.cluster_instance);
-    let id = VoterSlotIdentity {
-        slot: a.slot,
-        incarnation: a.expected_incarnation,
+    let at = put_bytes(buffer, at, &claims.cluster_instance);
+    let identity = VoterSlotIdentity {
+        slot: claims.slot,
+        incarnation: claims.expected_incarnation,
     };
-    let at = put_identity(buffer, at, id);
-    let at = put_bytes(buffer, at, &a.old_descriptor_digest);
-    put_bytes(buffer, at, &a.candidate_key_digest)
+    let at = put_identity(buffer, at, identity);
+    let at = put_bytes(buffer, at, &claims.old_descriptor_digest);
+    put_bytes(buffer, at, &claims.candidate_key_digest)
 }
 
-fn put_claims_names(buffer: &mut [u8], at: usize, a: LostVoterAttestationV1) -> usize
-    requires { ⌜ (at + length (claimsNames .enc (claimsNamesOf a)) ≤ length (now buffer)) × ((a .«candidate_spiffe_id» .len ≤ 2048) × (a .«controller_spiffe_id» .len ≤ 2048)) ⌝ }
-    ensures { λ r. ⌜ Put (claimsNames .enc (claimsNamesOf a)) at (now (buffer .entry)) (now (buffer .exit)) r ⌝ }
+fn put_claims_names(buffer: &mut [u8], at: usize, claims: LostVoterAttestationV1) -> usize
+    requires { ⌜ (at + length (layout.claimsNames .enc (claimsNamesOf claims)) ≤ length (now buffer)) × ((claims .«candidate_spiffe_id» .len ≤ 2048) × (claims .«controller_spiffe_id» .len ≤ 2048)) ⌝ }
+    ensures { λ r. ⌜ Put (layout.claimsNames .enc (claimsNamesOf claims)) at (now (buffer .entry)) (now (buffer .exit)) r ⌝ }
 {
-    let at = put_be(buffer, at, 8, a.admission_generation);
-    let candidate = a.candidate_spiffe_id;
+    let at = put_be(buffer, at, U64_SIZE, claims.admission_generation);
+    let candidate = claims.candidate_spiffe_id;
     let at = put_spiffe_id(buffer, at, candidate);
-    let controller = a.controller_spiffe_id;
+    let controller = claims.controller_spiffe_id;
     let at = put_spiffe_id(buffer, at, controller);
-    put_bytes(buffer, at, &a.signing_key_digest)
+    put_bytes(buffer, at, &claims.signing_key_digest)
 }
 
-fn put_times(buffer: &mut [u8], at: usize, a: LostVoterAttestationV1) -> usize
-    requires { ⌜ at + length (times .enc (timesOf a)) ≤ length (now buffer) ⌝ }
-    ensures { λ r. ⌜ Put (times .enc (timesOf a)) at (now (buffer .entry)) (now (buffer .exit)) r ⌝ }
+// The times of an attestation.
+fn put_times(buffer: &mut [u8], at: usize, claims: LostVoterAttestationV1) -> usize
+    requires { ⌜ at + length (layout.times .enc (timesOf claims)) ≤ length (now buffer) ⌝ }
+    ensures { λ r. ⌜ Put (layout.times .enc (timesOf claims)) at (now (buffer .entry)) (now (buffer .exit)) r ⌝ }
 {
-    let at = put_be(buffer, at, 8, a.observation_start_ms);
-    let at = put_be(buffer, at, 8, a.decision_ms);
-    let at = put_be(buffer, at, 8, a.issued_ms);
-    put_be(buffer, at, 8, a.expires_ms)
+    let at = put_be(buffer, at, U64_SIZE, claims.observation_start_ms);
+    let at = put_be(buffer, at, U64_SIZE, claims.decision_ms);
+    let at = put_be(buffer, at, U64_SIZE, claims.issued_ms);
+    put_be(buffer, at, U64_SIZE, claims.expires_ms)
 }
 
-fn put_claims_end(buffer: &mut [u8], at: usize, a: LostVoterAttestationV1) -> usize
-    requires { ⌜ at + length (claimsEnd .enc (claimsEndOf a)) ≤ length (now buffer) ⌝ }
-    ensures { λ r. ⌜ Put (claimsEnd .enc (claimsEndOf a)) at (now (buffer .entry)) (now (buffer .exit)) r ⌝ }
+fn put_claims_end(buffer: &mut [u8], at: usize, claims: LostVoterAttestationV1) -> usize
+    requires { ⌜ at + length (layout.claimsEnd .enc (claimsEndOf claims)) ≤ length (now buffer) ⌝ }
+    ensures { λ r. ⌜ Put (layout.claimsEnd .enc (claimsEndOf claims)) at (now (buffer .entry)) (now (buffer .exit)) r ⌝ }
 {
-    let at = put_be(buffer, at, 1, a.reason as u64);
-    let at = put_bytes(buffer, at, &a.policy_digest);
-    let at = put_times(buffer, at, a);
-    put_bytes(buffer, at, &a.signature)
+    let at = put_be(buffer, at, U8_SIZE, claims.reason as u64);
+    let at = put_bytes(buffer, at, &claims.policy_digest);
+    let at = put_times(buffer, at, claims);
+    put_bytes(buffer, at, &claims.signature)
 }
 
 // `encode_lost_voter_attestation`, of one that is valid.
-fn put_attestation(buffer: &mut [u8], at: usize, a: LostVoterAttestationV1) -> usize
-    requires { ⌜ (at + length (claims .enc a) ≤ length (now buffer)) × ((a .«candidate_spiffe_id» .len ≤ 2048) × (a .«controller_spiffe_id» .len ≤ 2048)) ⌝ }
-    ensures { λ r. ⌜ Put (claims .enc a) at (now (buffer .entry)) (now (buffer .exit)) r ⌝ }
+fn put_attestation(buffer: &mut [u8], at: usize, claims: LostVoterAttestationV1) -> usize
+    requires { ⌜ (at + length (layout.claims .enc claims) ≤ length (now buffer)) × ((claims .«candidate_spiffe_id» .len ≤ 2048) × (claims .«controller_spiffe_id» .len ≤ 2048)) ⌝ }
+    ensures { λ r. ⌜ Put (layout.claims .enc claims) at (now (buffer .entry)) (now (buffer .exit)) r ⌝ }
 {
-    let at = put_claims_request(buffer, at, a);
-    let at = put_claims_slot(buffer, at, a);
-    let at = put_claims_names(buffer, at, a);
-    put_claims_end(buffer, at, a)
+    let at = put_claims_request(buffer, at, claims);
+    let at = put_claims_slot(buffer, at, claims);
+    let at = put_claims_names(buffer, at, claims);
+    put_claims_end(buffer, at, claims)
 }
 
 // How many bytes an attestation takes.
-fn attestation_size(a: LostVoterAttestationV1) -> usize
-    requires { ⌜ (a .«candidate_spiffe_id» .len ≤ 2048) × (a .«controller_spiffe_id» .len ≤ 2048) ⌝ }
-    ensures { λ r. ⌜ r ≡ length (claims .enc a) ⌝ }
+fn attestation_size(claims: LostVoterAttestationV1) -> usize
+    requires { ⌜ (claims .«candidate_spiffe_id» .len ≤ 2048) × (claims .«controller_spiffe_id» .len ≤ 2048) ⌝ }
+    ensures { λ r. ⌜ r ≡ length (layout.claims .enc claims) ⌝ }
 {
-    ATTESTATION_SIZE + a.candidate_spiffe_id.len + a.controller_spiffe_id.len
+    ATTESTATION_SIZE + claims.candidate_spiffe_id.len + claims.controller_spiffe_id.len
 }
 
 // `sized_bytes`, of an attestation
-fn put_boxed_attestation(buffer: &mut [u8], at: usize, a: LostVoterAttestationV1) -> usize
-    requires { ⌜ (at + length (boxed attestation 8192 .enc a) ≤ length (now buffer)) × ((a .«candidate_spiffe_id» .len ≤ 2048) × (a .«controller_spiffe_id» .len ≤ 2048)) ⌝ }
-    ensures { λ r. ⌜ Put (boxed attestation 8192 .enc a) at (now (buffer .entry)) (now (buffer .exit)) r ⌝ }
+fn put_boxed_attestation(buffer: &mut [u8], at: usize, claims: LostVoterAttestationV1) -> usize
+    requires { ⌜ (at + length (boxed layout.attestation 8192 .enc claims) ≤ length (now buffer)) × ((claims .«candidate_spiffe_id» .len ≤ 2048) × (claims .«controller_spiffe_id» .len ≤ 2048)) ⌝ }
+    ensures { λ r. ⌜ Put (boxed layout.attestation 8192 .enc claims) at (now (buffer .entry)) (now (buffer .exit)) r ⌝ }
 {
-    let at = put_be(buffer, at, 2, attestation_size(a) as u64);
-    put_attestation(buffer, at, a)
+    let at = put_be(buffer, at, U16_SIZE, attestation_size(claims) as u64);
+    put_attestation(buffer, at, claims)
 }
 
-fn put_snapshot(buffer: &mut [u8], at: usize, s: VoterSnapshotEvidence) -> usize
-    requires { ⌜ (at + length (snapshot .enc s) ≤ length (now buffer)) × (s .«snapshot_id» .len ≤ 256) ⌝ }
-    ensures { λ r. ⌜ Put (snapshot .enc s) at (now (buffer .entry)) (now (buffer .exit)) r ⌝ }
+// The evidence of a snapshot.
+fn put_snapshot(buffer: &mut [u8], at: usize, snapshot: VoterSnapshotEvidence) -> usize
+    requires { ⌜ (at + length (layout.snapshot .enc snapshot) ≤ length (now buffer)) × (snapshot .«snapshot_id» .len ≤ 256) ⌝ }
+    ensures { λ r. ⌜ Put (layout.snapshot .enc snapshot) at (now (buffer .entry)) (now (buffer .exit)) r ⌝ }
 {
-    let cut = s.cut;
+    let cut = snapshot.cut;
     let at = put_log_id(buffer, at, cut);
-    let id = s.snapshot_id;
+    let id = snapshot.snapshot_id;
     let at = put_snapshot_id(buffer, at, id);
-    put_bytes(buffer, at, &s.digest)
+    put_bytes(buffer, at, &snapshot.digest)
 }
 
+// A snapshot, or none.
 fn put_optional_snapshot(
     buffer: &mut [u8],
     at: usize,
     is_some: bool,
-    s: VoterSnapshotEvidence,
+    snapshot: VoterSnapshotEvidence,
 ) -> usize
-    requires { ⌜ (at + length (opt snapshot blankVoterSnapshotEvidence .enc («is_some», s)) ≤ length (now buffer)) × (s .«snapshot_id» .len ≤ 256) ⌝ }
-    ensures { λ r. ⌜ Put (opt snapshot blankVoterSnapshotEvidence .enc («is_some», s)) at (now (buffer .entry)) (now (buffer .exit)) r ⌝ }
+    requires { ⌜ (at + length (opt layout.snapshot blankVoterSnapshotEvidence .enc («is_some», snapshot)) ≤ length (now buffer)) × (snapshot .«snapshot_id» .len ≤ 256) ⌝ }
+    ensures { λ r. ⌜ Put (opt layout.snapshot blankVoterSnapshotEvidence .enc («is_some», snapshot)) at (now (buffer .entry)) (now (buffer .exit)) r ⌝ }
 {
     let at = put_flag(buffer, at, is_some);
     if is_some {
-        return put_snapshot(buffer, at, s);
+        return put_snapshot(buffer, at, snapshot);
     }
     at
 }
 
+// Three of the cuts that end the evidence.
 fn put_three_cuts(buffer: &mut [u8], at: usize, cuts: ThreeCuts) -> usize
-    requires { ⌜ at + length (threeCuts .enc cuts) ≤ length (now buffer) ⌝ }
-    ensures { λ r. ⌜ Put (threeCuts .enc cuts) at (now (buffer .entry)) (now (buffer .exit)) r ⌝ }
+    requires { ⌜ at + length (layout.threeCuts .enc cuts) ≤ length (now buffer) ⌝ }
+    ensures { λ r. ⌜ Put (layout.threeCuts .enc cuts) at (now (buffer .entry)) (now (buffer .exit)) r ⌝ }
 {
     let first = cuts.first;
     let at = put_optional_log_id(buffer, at, first);
@@ -390,96 +412,101 @@ fn put_three_cuts(buffer: &mut [u8], at: usize, cuts: ThreeCuts) -> usize
     put_optional_log_id(buffer, at, third)
 }
 
-fn put_evidence(buffer: &mut [u8], at: usize, e: VoterReplacementEvidence) -> usize
-    requires { ⌜ (at + length (evidence .enc e) ≤ length (now buffer)) × (e .snapshot .«snapshot_id» .len ≤ 256) ⌝ }
-    ensures { λ r. ⌜ Put (evidence .enc e) at (now (buffer .entry)) (now (buffer .exit)) r ⌝ }
+// The evidence of a replacement.
+fn put_evidence(buffer: &mut [u8], at: usize, evidence: VoterReplacementEvidence) -> usize
+    requires { ⌜ (at + length (layout.evidence .enc evidence) ≤ length (now buffer)) × (evidence .snapshot .«snapshot_id» .len ≤ 256) ⌝ }
+    ensures { λ r. ⌜ Put (layout.evidence .enc evidence) at (now (buffer .entry)) (now (buffer .exit)) r ⌝ }
 {
-    let prepare = e.prepare;
+    let prepare = evidence.prepare;
     let at = put_log_id(buffer, at, prepare);
-    let s = e.snapshot;
-    let at = put_optional_snapshot(buffer, at, e.has_snapshot, s);
-    let early = early_cuts(e);
+    let snapshot = evidence.snapshot;
+    let at = put_optional_snapshot(buffer, at, evidence.has_snapshot, snapshot);
+    let early = early_cuts(evidence);
     let at = put_three_cuts(buffer, at, early);
-    let late = late_cuts(e);
+    let late = late_cuts(evidence);
     put_three_cuts(buffer, at, late)
 }
 
-fn put_change(buffer: &mut [u8], at: usize, x: VoterReplacementRecord) -> usize
-    requires { ⌜ (at + length (change .enc (changeOf x)) ≤ length (now buffer)) × ((x .predecessor .count ≤ 9) × (x .successor .count ≤ 9)) ⌝ }
-    ensures { λ r. ⌜ Put (change .enc (changeOf x)) at (now (buffer .entry)) (now (buffer .exit)) r ⌝ }
+// What an open request changes, and how far it is.
+fn put_change(buffer: &mut [u8], at: usize, operation: VoterReplacementRecord) -> usize
+    requires { ⌜ (at + length (layout.change .enc (changeOf operation)) ≤ length (now buffer)) × ((operation .predecessor .count ≤ 9) × (operation .successor .count ≤ 9)) ⌝ }
+    ensures { λ r. ⌜ Put (layout.change .enc (changeOf operation)) at (now (buffer .entry)) (now (buffer .exit)) r ⌝ }
 {
-    let predecessor = x.predecessor;
+    let predecessor = operation.predecessor;
     let at = put_configuration(buffer, at, predecessor);
-    let successor = x.successor;
+    let successor = operation.successor;
     let at = put_configuration(buffer, at, successor);
-    put_be(buffer, at, 1, x.phase as u64)
+    put_be(buffer, at, U8_SIZE, operation.phase as u64)
 }
 
-fn put_replacement(buffer: &mut [u8], at: usize, x: VoterReplacementRecord) -> usize
-    requires { ⌜ (at + length (replacement .enc x) ≤ length (now buffer)) × ReplacementFits x ⌝ }
-    ensures { λ r. ⌜ Put (replacement .enc x) at (now (buffer .entry)) (now (buffer .exit)) r ⌝ }
+// An open request.
+fn put_replacement(buffer: &mut [u8], at: usize, operation: VoterReplacementRecord) -> usize
+    requires { ⌜ (at + length (layout.replacement .enc operation) ≤ length (now buffer)) × ReplacementFits operation ⌝ }
+    ensures { λ r. ⌜ Put (layout.replacement .enc operation) at (now (buffer .entry)) (now (buffer .exit)) r ⌝ }
 {
-    let at = put_be(buffer, at, 8, x.expected_revision);
-    let a = x.attestation;
-    let at = put_boxed_attestation(buffer, at, a);
-    let at = put_change(buffer, at, x);
-    let e = x.evidence;
-    put_evidence(buffer, at, e)
+    let at = put_be(buffer, at, U64_SIZE, operation.expected_revision);
+    let attestation = operation.attestation;
+    let at = put_boxed_attestation(buffer, at, attestation);
+    let at = put_change(buffer, at, operation);
+    let evidence = operation.evidence;
+    put_evidence(buffer, at, evidence)
 }
 
+// An open request, or none.
 fn put_optional_replacement(
     buffer: &mut [u8],
     at: usize,
     is_some: bool,
-    x: VoterReplacementRecord,
+    operation: VoterReplacementRecord,
 ) -> usize
-    requires { ⌜ (at + length (opt replacement blankVoterReplacementRecord .enc («is_some», x)) ≤ length (now buffer)) × ReplacementFits x ⌝ }
-    ensures { λ r. ⌜ Put (opt replacement blankVoterReplacementRecord .enc («is_some», x)) at (now (buffer .entry)) (now (buffer .exit)) r ⌝ }
+    requires { ⌜ (at + length (opt layout.replacement blankVoterReplacementRecord .enc («is_some», operation)) ≤ length (now buffer)) × ReplacementFits operation ⌝ }
+    ensures { λ r. ⌜ Put (opt layout.replacement blankVoterReplacementRecord .enc («is_some», operation)) at (now (buffer .entry)) (now (buffer .exit)) r ⌝ }
 {
     let at = put_flag(buffer, at, is_some);
     if is_some {
-        return put_replacement(buffer, at, x);
+        return put_replacement(buffer, at, operation);
     }
     at
 }
 
 // The magic and the version.
 fn put_head(buffer: &mut [u8], at: usize) -> usize
-    requires { ⌜ at + length (magicAndVersion .enc tt) ≤ length (now buffer) ⌝ }
-    ensures { λ r. ⌜ Put (magicAndVersion .enc tt) at (now (buffer .entry)) (now (buffer .exit)) r ⌝ }
+    requires { ⌜ at + length (layout.magicAndVersion .enc tt) ≤ length (now buffer) ⌝ }
+    ensures { λ r. ⌜ Put (layout.magicAndVersion .enc tt) at (now (buffer .entry)) (now (buffer .exit)) r ⌝ }
 {
     let at = put_bytes(buffer, at, b"OPVI");
-    put_be(buffer, at, 2, VERSION)
+    put_be(buffer, at, U16_SIZE, VERSION)
 }
 
-fn put_table_head(buffer: &mut [u8], at: usize, t: VoterSlotTable) -> usize
-    requires { ⌜ at + length (tableHead .enc (tableHeadOf t)) ≤ length (now buffer) ⌝ }
-    ensures { λ r. ⌜ Put (tableHead .enc (tableHeadOf t)) at (now (buffer .entry)) (now (buffer .exit)) r ⌝ }
+// The front of a table, after the magic and the version.
+fn put_table_head(buffer: &mut [u8], at: usize, table: VoterSlotTable) -> usize
+    requires { ⌜ at + length (layout.tableHead .enc (tableHeadOf table)) ≤ length (now buffer) ⌝ }
+    ensures { λ r. ⌜ Put (layout.tableHead .enc (tableHeadOf table)) at (now (buffer .entry)) (now (buffer .exit)) r ⌝ }
 {
-    let at = put_bytes(buffer, at, &t.cluster_instance);
-    let at = put_bytes(buffer, at, &t.manifest_digest);
-    let at = put_be(buffer, at, 8, t.revision);
-    put_be(buffer, at, 8, t.configuration_epoch)
+    let at = put_bytes(buffer, at, &table.cluster_instance);
+    let at = put_bytes(buffer, at, &table.manifest_digest);
+    let at = put_be(buffer, at, U64_SIZE, table.revision);
+    put_be(buffer, at, U64_SIZE, table.configuration_epoch)
 }
 
 // `encode_voter_slot_table`, of a table that is valid.
-pub fn put_table(buffer: &mut [u8], at: usize, t: VoterSlotTable) -> usize
-    requires { ⌜ (at + length (table .enc t) ≤ length (now buffer)) × TableFits t ⌝ }
-    ensures { λ r. ⌜ Put (table .enc t) at (now (buffer .entry)) (now (buffer .exit)) r ⌝ }
+pub fn put_table(buffer: &mut [u8], at: usize, table: VoterSlotTable) -> usize
+    requires { ⌜ (at + length (layout.table .enc table) ≤ length (now buffer)) × TableFits table ⌝ }
+    ensures { λ r. ⌜ Put (layout.table .enc table) at (now (buffer .entry)) (now (buffer .exit)) r ⌝ }
 {
     let at = put_head(buffer, at);
-    let at = put_table_head(buffer, at, t);
-    let at = put_be(buffer, at, 1, t.count as u64);
-    let places = t.slots;
-    let at = put_slots(buffer, at, places, t.count);
-    let x = t.replacement;
-    put_optional_replacement(buffer, at, t.has_replacement, x)
+    let at = put_table_head(buffer, at, table);
+    let at = put_be(buffer, at, U8_SIZE, table.count as u64);
+    let places = table.slots;
+    let at = put_slots(buffer, at, places, table.count);
+    let operation = table.replacement;
+    put_optional_replacement(buffer, at, table.has_replacement, operation)
 }
 
-// How many bytes each takes.
+// How many bytes each takes: the slots in use,
 fn slots_size(places: [VoterSlotRecord; MAX_FIXED_VOTER_SLOTS], count: usize) -> usize
     requires { ⌜ count ≤ 9 ⌝ }
-    ensures { λ r. ⌜ r ≡ length (slots count .enc places) ⌝ }
+    ensures { λ r. ⌜ r ≡ length (layout.slots count .enc places) ⌝ }
 {
     let mut size = 0;
     let mut i = 0;
@@ -494,8 +521,9 @@ fn slots_size(places: [VoterSlotRecord; MAX_FIXED_VOTER_SLOTS], count: usize) ->
     size
 }
 
+// three cuts, with the flag of each,
 fn three_cuts_size(cuts: ThreeCuts) -> usize
-    ensures { λ r. ⌜ r ≡ length (threeCuts .enc cuts) ⌝ }
+    ensures { λ r. ⌜ r ≡ length (layout.threeCuts .enc cuts) ⌝ }
 {
     let first = if cuts.first.is_some {
         PRESENT_CUT_SIZE
@@ -515,47 +543,51 @@ fn three_cuts_size(cuts: ThreeCuts) -> usize
     first + second + third
 }
 
-fn configuration_size(c: VoterConfiguration) -> usize
-    requires { ⌜ c .count ≤ 9 ⌝ }
-    ensures { λ r. ⌜ r ≡ length (configuration .enc c) ⌝ }
+// a configuration,
+fn configuration_size(configuration: VoterConfiguration) -> usize
+    requires { ⌜ configuration .count ≤ 9 ⌝ }
+    ensures { λ r. ⌜ r ≡ length (layout.configuration .enc configuration) ⌝ }
 {
-    CONFIGURATION_SIZE + MEMBER_SIZE * c.count
+    CONFIGURATION_SIZE + MEMBER_SIZE * configuration.count
 }
 
-fn evidence_size(e: VoterReplacementEvidence) -> usize
-    requires { ⌜ e .snapshot .«snapshot_id» .len ≤ 256 ⌝ }
-    ensures { λ r. ⌜ r ≡ length (evidence .enc e) ⌝ }
+// the evidence of a replacement,
+fn evidence_size(evidence: VoterReplacementEvidence) -> usize
+    requires { ⌜ evidence .snapshot .«snapshot_id» .len ≤ 256 ⌝ }
+    ensures { λ r. ⌜ r ≡ length (layout.evidence .enc evidence) ⌝ }
 {
-    let early = early_cuts(e);
-    let late = late_cuts(e);
+    let early = early_cuts(evidence);
+    let late = late_cuts(evidence);
     let cuts = three_cuts_size(early) + three_cuts_size(late);
-    if e.has_snapshot {
-        return FULL_EVIDENCE_SIZE + e.snapshot.snapshot_id.len + cuts;
+    if evidence.has_snapshot {
+        return FULL_EVIDENCE_SIZE + evidence.snapshot.snapshot_id.len + cuts;
     }
     EVIDENCE_SIZE + cuts
 }
 
-fn replacement_size(x: VoterReplacementRecord) -> usize
-    requires { ⌜ ReplacementFits x ⌝ }
-    ensures { λ r. ⌜ r ≡ length (replacement .enc x) ⌝ }
+// an open request,
+fn replacement_size(operation: VoterReplacementRecord) -> usize
+    requires { ⌜ ReplacementFits operation ⌝ }
+    ensures { λ r. ⌜ r ≡ length (layout.replacement .enc operation) ⌝ }
 {
-    let a = x.attestation;
-    let predecessor = x.predecessor;
-    let successor = x.successor;
-    let e = x.evidence;
+    let attestation = operation.attestation;
+    let predecessor = operation.predecessor;
+    let successor = operation.successor;
+    let evidence = operation.evidence;
     let configurations = configuration_size(predecessor) + configuration_size(successor);
-    REPLACEMENT_SIZE + attestation_size(a) + configurations + evidence_size(e)
+    REPLACEMENT_SIZE + attestation_size(attestation) + configurations + evidence_size(evidence)
 }
 
-pub fn table_size(t: VoterSlotTable) -> usize
-    requires { ⌜ TableFits t ⌝ }
-    ensures { λ r. ⌜ r ≡ length (table .enc t) ⌝ }
+// and a table.
+pub fn table_size(table: VoterSlotTable) -> usize
+    requires { ⌜ TableFits table ⌝ }
+    ensures { λ r. ⌜ r ≡ length (layout.table .enc table) ⌝ }
 {
-    let places = t.slots;
-    let front = TABLE_SIZE + slots_size(places, t.count);
-    if t.has_replacement {
-        let x = t.replacement;
-        return front + replacement_size(x);
+    let places = table.slots;
+    let front = TABLE_SIZE + slots_size(places, table.count);
+    if table.has_replacement {
+        let operation = table.replacement;
+        return front + replacement_size(operation);
     }
     front
 }

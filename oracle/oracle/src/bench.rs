@@ -383,7 +383,8 @@ mod port {
             "port"
         }
 
-        /// A table goes over in its raw form once for each batch; each call gets a copy of the value.
+        /// A table goes over in its raw form once for each batch; each call gets a copy of the
+        /// value.
         fn batch(&self, task: &Task) -> Option<u128> {
             let turns = CALLS as u64;
             let table = raw::of_table(&task.table).bytes;
@@ -425,7 +426,8 @@ mod port {
         }
     }
 
-    /// One batch of writing, in which two revisions take turns; the last bytes are those of the original.
+    /// One batch of writing, in which two revisions take turns; the last bytes are those of the
+    /// original.
     fn encoded(task: &Task, raw: &[u8], turns: u64) -> u128 {
         let mut last = task.table.clone();
         last.revision += (turns + 1) % 2;

@@ -1,10 +1,11 @@
-//! `oracle bench-growth SUPPORT BYTES LIBRARY...` and `oracle once-growth SUPPORT BYTES LIBRARY...`:
-//! how the cost of a call grows with the slots and with the length of the names, of the original and of
-//! the port. The first one times the calls, batch by batch in turn; the second one makes each call once,
-//! inside `counted_call`, for callgrind to count its instructions. `scripts/growth.py` runs both.
+//! `oracle bench-growth SUPPORT BYTES LIBRARY...` and `oracle once-growth SUPPORT BYTES
+//! LIBRARY...`: how the cost of a call grows with the slots and with the length of the names, of
+//! the original and of the port. The first one times the calls, batch by batch in turn; the second
+//! one makes each call once, inside `counted_call`, for callgrind to count its instructions.
+//! `scripts/growth.py` runs both.
 //!
-//! Each line has, between tabs: what is varied, the call, the state of the table, its slots, the bytes
-//! of a name, the subject; and the nanoseconds where they were measured.
+//! Each line has, between tabs: what is varied, the call, the state of the table, its slots, the
+//! bytes of a name, the subject; and the nanoseconds where they were measured.
 
 use std::hint::black_box;
 use std::time::Instant;
@@ -179,7 +180,8 @@ pub fn run(
     Ok(())
 }
 
-/// One call of each task and subject inside `counted_call`, after one outside it, with a line for each.
+/// One call of each task and subject inside `counted_call`, after one outside it, with a line for
+/// each.
 pub fn once(
     support: &str,
     bytes: &str,
@@ -372,7 +374,8 @@ fn accepted(answer: u64) {
     assert_eq!(answer, 0, "the port refused what the original accepts");
 }
 
-/// Reading, writing and validity of the port. What it reads and writes is first held to the original's.
+/// Reading, writing and validity of the port. What it reads and writes is first held to the
+/// original's.
 fn bytes_calls<'a>(task: &'a Task, libraries: &'a Libraries) -> Option<Box<dyn Calls + 'a>> {
     let Libraries { support, bytes, .. } = libraries;
     let value = support.table(&task.table);

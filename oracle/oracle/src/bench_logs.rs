@@ -1,4 +1,5 @@
-//! `oracle bench-log KIND COUNT`: the logs that `bin/bench-replay` times, of a table and at least COUNT records.
+//! `oracle bench-log KIND COUNT`: the logs that `bin/bench-replay` times, of a table and at least
+//! COUNT records.
 
 use original::VoterReplacementPhase::CaughtUp;
 
@@ -76,7 +77,8 @@ fn replacements(slots: u16, count: usize, sink: Sink) -> Result<(), String> {
     pass_on(&mut log, 0, sink)
 }
 
-/// Three slots; the open request catches up to a later marker each time, so every record changes the table.
+/// Three slots; the open request catches up to a later marker each time, so every record changes
+/// the table.
 fn advances(count: usize, sink: Sink) -> Result<(), String> {
     let mut log = Log::of_table(&open(3, CaughtUp));
     for at in 0..count as u64 {
@@ -87,8 +89,8 @@ fn advances(count: usize, sink: Sink) -> Result<(), String> {
     pass_on(&mut log, 0, sink)
 }
 
-/// One record, again and again, on a table of three slots whose request has caught up: it is accepted
-/// and changes nothing.
+/// One record, again and again, on a table of three slots whose request has caught up: it is
+/// accepted and changes nothing.
 fn repeated(count: usize, body: Body, sink: Sink) -> Result<(), String> {
     let mut log = Log::of_table(&open(3, CaughtUp));
     for _ in 0..count {

@@ -1,9 +1,9 @@
-//! `oracle bench-service`: nanoseconds of a call over bytes, as the service's library has it (the table
-//! is read, the command's body is read and applied, the table is written), next to the original's
-//! `decode_voter_slot_table`, the call, `encode_voter_slot_table`, to which the command is given as a
-//! value. The bytes that both write must be equal. Then the same call on a table value that is kept in
-//! memory, next to the original's call alone: each call has a fresh copy of the table, made before the
-//! clock starts.
+//! `oracle bench-service`: nanoseconds of a call over bytes, as the service's library has it (the
+//! table is read, the command's body is read and applied, the table is written), next to the
+//! original's `decode_voter_slot_table`, the call, `encode_voter_slot_table`, to which the command
+//! is given as a value. The bytes that both write must be equal. Then the same call on a table
+//! value that is kept in memory, next to the original's call alone: each call has a fresh copy of
+//! the table, made before the clock starts.
 
 use std::hint::black_box;
 use std::time::Instant;

@@ -1,5 +1,5 @@
-//! The fixed list of questions on bytes: every field of a few tables and attestations at its limits,
-//! one at a time. It stands among the stored samples, with those from a seed.
+//! The fixed list of questions on bytes: every field of a few tables and attestations at its
+//! limits, one at a time. It stands among the stored samples, with those from a seed.
 
 use crate::format::{put_question, Mark, MAX_BODY};
 use crate::layout::{Field, Layout, Nature};
@@ -40,8 +40,8 @@ fn put_each_field(out: &mut Vec<u8>, mark: Mark, layout: &Layout) {
     }
 }
 
-/// A phase that does not exist, in a table that is right apart from it: its epoch is the predecessor's,
-/// as in every phase but Uniform (6).
+/// A phase that does not exist, in a table that is right apart from it: its epoch is the
+/// predecessor's, as in every phase but Uniform (6).
 fn past_uniform() -> Vec<u8> {
     let mut table = full(3, 40, 20);
     if let Some(operation) = &table.replacement {

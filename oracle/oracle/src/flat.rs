@@ -1,7 +1,8 @@
-//! The port's value in Rust, looked at by reference: the representability check (30), and validity after it. What the
-//! port can gain at the most is timed next to it. This may do all that the port may not: no record is
-//! copied, whatever is to be zero is looked at as one run of bytes, sixteen at a time from aligned
-//! places, and a name that is printable ASCII is looked at once for both tests.
+//! The port's value in Rust, looked at by reference: the representability check (30), and validity
+//! after it. What the port can gain at the most is timed next to it. This may do all that the port
+//! may not: no record is copied, whatever is to be zero is looked at as one run of bytes, sixteen
+//! at a time from aligned places, and a name that is printable ASCII is looked at once for both
+//! tests.
 
 use std::alloc::{alloc_zeroed, handle_alloc_error, Layout};
 use std::arch::x86_64::*;
@@ -133,8 +134,8 @@ pub struct Table {
 /// The value of a raw table; what lies between the fields is zero.
 pub fn of_raw(raw: &[u8]) -> Option<Box<Table>> {
     let layout = Layout::new::<Table>();
-    // SAFETY: the place is of the table's layout, and zero bytes are a table: numbers, arrays of them
-    // and flags. It is filled in where it lies, so that nothing between the fields is written.
+    // SAFETY: the place is of the table's layout, and zero bytes are a table: numbers, arrays of
+    // them and flags. It is filled in where it lies, so that nothing between the fields is written.
     let mut table = unsafe {
         let place = alloc_zeroed(layout);
         if place.is_null() {
@@ -489,7 +490,8 @@ fn follows(cut: Cut, older: Cut, allow_equal: bool) -> bool {
     cut.index > older.index && cut.term >= older.term
 }
 
-/// The open request, but for its members. `plain` says that no text has a character that is ruled out.
+/// The open request, but for its members. `plain` says that no text has a character that is ruled
+/// out.
 #[inline(always)]
 fn operation_is_valid(table: &Table, plain: bool) -> bool {
     let replacement = &table.replacement;

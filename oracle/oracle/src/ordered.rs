@@ -1,7 +1,8 @@
 //! `oracle ordered`: a table with an open request, and its attestation, in which no two fields hold
 //! the same unless validity asks for it, as bytes of the original's own writers. The text is
-//! `crates/proved_cases/specs/OrderBytes.antt`, from which the port reads the record field by field: two
-//! fields that changed places in its format, its reader and its writer alike are seen there.
+//! `crates/proved_cases/specs/OrderBytes.antt`, from which the port reads the record field by
+//! field: two fields that changed places in its format, its reader and its writer alike are seen
+//! there.
 
 use original::{
     encode_lost_voter_attestation, encode_voter_slot_table, ConsensusClusterId,

@@ -42,8 +42,8 @@ pub fn lines(log: &[u8]) -> String {
     HEADLINE.to_owned() + &rows(log, row)
 }
 
-/// `oracle phases`: for each line of a run the phase afterwards, `none` where no request is open and
-/// `-` where no table stands.
+/// `oracle phases`: for each line of a run the phase afterwards, `none` where no request is open
+/// and `-` where no table stands.
 pub fn phases(log: &[u8]) -> String {
     rows(log, |_, _, run| run.phase())
 }
@@ -62,8 +62,9 @@ fn rows(log: &[u8], row: impl Fn(Option<Mark>, u8, &Run) -> String) -> String {
     rows
 }
 
-/// The tables of a whole run: a line for each record, with its number, mark, answer and the bytes of
-/// the table afterwards, in hex; `-` where none stands, `=` where they are those of the line before.
+/// The tables of a whole run: a line for each record, with its number, mark, answer and the bytes
+/// of the table afterwards, in hex; `-` where none stands, `=` where they are those of the line
+/// before.
 pub fn tables(log: &[u8]) -> String {
     let mut lines = String::new();
     let mut run = Run::default();

@@ -167,7 +167,8 @@ pub fn replacement(table: &VoterSlotTable, request: u8, from: u64) -> [Body; 8] 
     ]
 }
 
-/// A table with request 1 open on slot 2 in this phase; it began at (2, 10). Its names have 40 bytes.
+/// A table with request 1 open on slot 2 in this phase; it began at (2, 10). Its names have 40
+/// bytes.
 pub fn open(count: u16, phase: VoterReplacementPhase) -> VoterSlotTable {
     let mut table = idle(count);
     for body in &replacement(&table.clone(), 1, 10)[..=phase as usize] {

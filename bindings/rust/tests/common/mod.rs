@@ -1,5 +1,5 @@
-//! Tables and commands for the tests. A request is named by one number: request 1 has the id and the
-//! digest of ones.
+//! Tables and commands for the tests. A request is named by one number: request 1 has the id and
+//! the digest of ones.
 #![allow(dead_code)]
 
 use voter_slots::{
@@ -10,8 +10,8 @@ use voter_slots::{
 pub const CLUSTER: [u8; 32] = [3; 32];
 pub const CONFIGURATION: [u8; 32] = [0x55; 32];
 
-/// Where a table's bytes have its revision, its epoch and its first slot; a slot with no receipt takes
-/// `SLOT_BYTES`.
+/// Where a table's bytes have its revision, its epoch and its first slot; a slot with no receipt
+/// takes `SLOT_BYTES`.
 pub const REVISION: usize = 70;
 pub const EPOCH: usize = 78;
 pub const SLOTS: usize = 87;

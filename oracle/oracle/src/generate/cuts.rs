@@ -1,6 +1,6 @@
-//! Calls on valid tables in every phase whose cuts are all small numbers, so that each comparison of
-//! two cuts comes out both ways. The table is valid and the command fits it, so what decides is the
-//! phase, the evidence and the cut: what the successor check accepts of a change.
+//! Calls on valid tables in every phase whose cuts are all small numbers, so that each comparison
+//! of two cuts comes out both ways. The table is valid and the command fits it, so what decides is
+//! the phase, the evidence and the cut: what the successor check accepts of a change.
 
 use original::VoterReplacementPhase::*;
 use original::{
@@ -226,7 +226,8 @@ fn stepped(random: &mut Random, request: u8, at: Cut, step: Step) -> Body {
     advance(request, at, step)
 }
 
-/// The snapshot that the table has, or another one; its id may be empty or hold a control character.
+/// The snapshot that the table has, or another one; its id may be empty or hold a control
+/// character.
 fn any_snapshot(random: &mut Random, table: &VoterSlotTable) -> Step {
     let open = table.replacement.as_ref();
     let held = open.and_then(|operation| operation.evidence.snapshot.as_ref());

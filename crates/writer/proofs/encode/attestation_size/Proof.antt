@@ -15,7 +15,7 @@ add-result-2 c = search needs
 returns : tie.Need-returns
 returns c =
     let s = c .before .before in
-    sym (claims-long (s .args .a) (held-lost-voter-attestation-v1 (s .args .a) _ (s .good .0)) (s .pre .0) (s .pre .1))
+    sym (claims-long (s .args .claims) (held-lost-voter-attestation-v1 (s .args .claims) _ (s .good .0)) (s .pre .0) (s .pre .1))
 
 pub attestation-size-spec : {M : Type 1} → statement M
 attestation-size-spec = tie.close (tie.spec add-result add-result-2 returns)

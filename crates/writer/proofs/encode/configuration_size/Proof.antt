@@ -15,7 +15,7 @@ add-result c = search needs
 returns : tie.Need-returns
 returns c =
     let s = c .before in
-    sym (configuration-long (s .args .c) (held-voter-configuration (s .args .c) _ (s .good .0)) (s .pre))
+    sym (configuration-long (s .args .configuration) (held-voter-configuration (s .args .configuration) _ (s .good .0)) (s .pre))
 
 pub configuration-size-spec : {M : Type 1} → statement M
 configuration-size-spec = tie.close (tie.spec mul-result add-result returns)

@@ -25,18 +25,18 @@ abbrev e4 : LostVoterAttestationV1 → List ℕ
 e4 x = e3 x ++ claimsEnd .enc (claimsEndOf x)
 
 -- there is room for all of it, and so for each part
-room4 : (c : tie.Start) → c .args .at + length (e4 (c .args .a)) ≤ length (c .args .buffer .now)
+room4 : (c : tie.Start) → c .args .at + length (e4 (c .args .claims)) ≤ length (c .args .buffer .now)
 unfolding claims via dep
 room4 c = c .pre .0
 
-room3 : (c : tie.Start) → c .args .at + length (e3 (c .args .a)) ≤ length (c .args .buffer .now)
-room3 c = room-left (e3 (c .args .a)) (claimsEnd .enc (claimsEndOf (c .args .a))) _ _ (room4 c)
+room3 : (c : tie.Start) → c .args .at + length (e3 (c .args .claims)) ≤ length (c .args .buffer .now)
+room3 c = room-left (e3 (c .args .claims)) (claimsEnd .enc (claimsEndOf (c .args .claims))) _ _ (room4 c)
 
-room2 : (c : tie.Start) → c .args .at + length (e2 (c .args .a)) ≤ length (c .args .buffer .now)
-room2 c = room-left (e2 (c .args .a)) (claimsNames .enc (claimsNamesOf (c .args .a))) _ _ (room3 c)
+room2 : (c : tie.Start) → c .args .at + length (e2 (c .args .claims)) ≤ length (c .args .buffer .now)
+room2 c = room-left (e2 (c .args .claims)) (claimsNames .enc (claimsNamesOf (c .args .claims))) _ _ (room3 c)
 
-room1 : (c : tie.Start) → c .args .at + length (e1 (c .args .a)) ≤ length (c .args .buffer .now)
-room1 c = room-left (e1 (c .args .a)) (claimsSlot .enc (claimsSlotOf (c .args .a))) _ _ (room2 c)
+room1 : (c : tie.Start) → c .args .at + length (e1 (c .args .claims)) ≤ length (c .args .buffer .now)
+room1 c = room-left (e1 (c .args .claims)) (claimsSlot .enc (claimsSlotOf (c .args .claims))) _ _ (room2 c)
 
 -- where the function began, from after each put
 abbrev start1 : tie.After-put-claims-request → tie.Start
@@ -52,16 +52,16 @@ abbrev start4 : tie.After-put-claims-end → tie.Start
 start4 c = start3 (c .before .before .before .before)
 
 -- what was written after each put
-wrote1 : (c : tie.After-put-claims-request) → Put (e1 (start1 c .args .a)) (start1 c .args .at) (start1 c .args .buffer .now) (c .put-claims-request .last .0) (c .put-claims-request .result)
+wrote1 : (c : tie.After-put-claims-request) → Put (e1 (start1 c .args .claims)) (start1 c .args .at) (start1 c .args .buffer .now) (c .put-claims-request .last .0) (c .put-claims-request .result)
 wrote1 c = c .put-claims-request .ensures
 
-wrote2 : (c : tie.After-put-claims-slot) → Put (e2 (start2 c .args .a)) (start2 c .args .at) (start2 c .args .buffer .now) (c .put-claims-slot .last .0) (c .put-claims-slot .result)
+wrote2 : (c : tie.After-put-claims-slot) → Put (e2 (start2 c .args .claims)) (start2 c .args .at) (start2 c .args .buffer .now) (c .put-claims-slot .last .0) (c .put-claims-slot .result)
 wrote2 c = then _ (wrote1 (c .before .before .before .before)) (room2 (start2 c)) (c .put-claims-slot .ensures)
 
-wrote3 : (c : tie.After-put-claims-names) → Put (e3 (start3 c .args .a)) (start3 c .args .at) (start3 c .args .buffer .now) (c .put-claims-names .last .0) (c .put-claims-names .result)
+wrote3 : (c : tie.After-put-claims-names) → Put (e3 (start3 c .args .claims)) (start3 c .args .at) (start3 c .args .buffer .now) (c .put-claims-names .last .0) (c .put-claims-names .result)
 wrote3 c = then _ (wrote2 (c .before .before .before .before)) (room3 (start3 c)) (c .put-claims-names .ensures)
 
-wrote4 : (c : tie.After-put-claims-end) → Put (e4 (start4 c .args .a)) (start4 c .args .at) (start4 c .args .buffer .now) (c .put-claims-end .last .0) (c .put-claims-end .result)
+wrote4 : (c : tie.After-put-claims-end) → Put (e4 (start4 c .args .claims)) (start4 c .args .at) (start4 c .args .buffer .now) (c .put-claims-end .last .0) (c .put-claims-end .result)
 wrote4 c = then _ (wrote3 (c .before .before .before .before)) (room4 (start4 c)) (c .put-claims-end .ensures)
 
 put-claims-request-requires : tie.Need-put-claims-request-requires

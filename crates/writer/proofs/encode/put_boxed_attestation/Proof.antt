@@ -22,12 +22,12 @@ abbrev e2 : LostVoterAttestationV1 → List ℕ
 e2 x = e1 x ++ claims .enc x
 
 -- there is room for all of it, and so for each part
-room2 : (c : tie.Start) → c .args .at + length (e2 (c .args .a)) ≤ length (c .args .buffer .now)
+room2 : (c : tie.Start) → c .args .at + length (e2 (c .args .claims)) ≤ length (c .args .buffer .now)
 unfolding attestation check
-room2 c = room-is _ _ (boxed-bytes attestation 8192 (c .args .a)) (c .pre .0)
+room2 c = room-is _ _ (boxed-bytes attestation 8192 (c .args .claims)) (c .pre .0)
 
-room1 : (c : tie.Start) → c .args .at + length (e1 (c .args .a)) ≤ length (c .args .buffer .now)
-room1 c = room-left (e1 (c .args .a)) (claims .enc (c .args .a)) _ _ (room2 c)
+room1 : (c : tie.Start) → c .args .at + length (e1 (c .args .claims)) ≤ length (c .args .buffer .now)
+room1 c = room-left (e1 (c .args .claims)) (claims .enc (c .args .claims)) _ _ (room2 c)
 
 -- where the function began, from after each put
 abbrev start1 : tie.After-put-be → tie.Start
@@ -37,10 +37,10 @@ abbrev start2 : tie.After-put-attestation → tie.Start
 start2 c = start1 (c .before .before .before .before)
 
 -- what was written after each put
-wrote1 : (c : tie.After-put-be) → Put (e1 (start1 c .args .a)) (start1 c .args .at) (start1 c .args .buffer .now) (c .put-be .last .0) (c .put-be .result)
+wrote1 : (c : tie.After-put-be) → Put (e1 (start1 c .args .claims)) (start1 c .args .at) (start1 c .args .buffer .now) (c .put-be .last .0) (c .put-be .result)
 wrote1 c = put-is (ap (uint 2 .enc) (c .before .attestation-size .ensures)) (c .put-be .ensures)
 
-wrote2 : (c : tie.After-put-attestation) → Put (e2 (start2 c .args .a)) (start2 c .args .at) (start2 c .args .buffer .now) (c .put-attestation .last .0) (c .put-attestation .result)
+wrote2 : (c : tie.After-put-attestation) → Put (e2 (start2 c .args .claims)) (start2 c .args .at) (start2 c .args .buffer .now) (c .put-attestation .last .0) (c .put-attestation .result)
 wrote2 c = then _ (wrote1 (c .before .before .before .before)) (room2 (start2 c)) (c .put-attestation .ensures)
 
 attestation-size-requires : tie.Need-attestation-size-requires
@@ -57,7 +57,7 @@ same-length c = ap length (wrote2 (c .before .before) .bytes) ∙ length-put _ _
 
 returns : tie.Need-returns
 unfolding attestation check
-returns c = put-is (sym (boxed-bytes attestation 8192 (start2 (c .before .before) .args .a))) (wrote2 (c .before .before))
+returns c = put-is (sym (boxed-bytes attestation 8192 (start2 (c .before .before) .args .claims))) (wrote2 (c .before .before))
 
 pub put-boxed-attestation-spec : {M : Type 1} → statement M
 put-boxed-attestation-spec =

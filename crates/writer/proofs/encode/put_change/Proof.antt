@@ -23,15 +23,15 @@ abbrev e3 : VoterReplacementRecord → List ℕ
 e3 x = e2 x ++ uint 1 .enc (x .phase)
 
 -- there is room for all of it, and so for each part
-room3 : (c : tie.Start) → c .args .at + length (e3 (c .args .x)) ≤ length (c .args .buffer .now)
+room3 : (c : tie.Start) → c .args .at + length (e3 (c .args .operation)) ≤ length (c .args .buffer .now)
 unfolding change choice via dep check
 room3 c = c .pre .0
 
-room2 : (c : tie.Start) → c .args .at + length (e2 (c .args .x)) ≤ length (c .args .buffer .now)
-room2 c = room-left (e2 (c .args .x)) (uint 1 .enc (c .args .x .phase)) _ _ (room3 c)
+room2 : (c : tie.Start) → c .args .at + length (e2 (c .args .operation)) ≤ length (c .args .buffer .now)
+room2 c = room-left (e2 (c .args .operation)) (uint 1 .enc (c .args .operation .phase)) _ _ (room3 c)
 
-room1 : (c : tie.Start) → c .args .at + length (e1 (c .args .x)) ≤ length (c .args .buffer .now)
-room1 c = room-left (e1 (c .args .x)) (configuration .enc (c .args .x .successor)) _ _ (room2 c)
+room1 : (c : tie.Start) → c .args .at + length (e1 (c .args .operation)) ≤ length (c .args .buffer .now)
+room1 c = room-left (e1 (c .args .operation)) (configuration .enc (c .args .operation .successor)) _ _ (room2 c)
 
 -- where the function began, from after each put
 abbrev start1 : tie.After-put-configuration → tie.Start
@@ -44,13 +44,13 @@ abbrev start3 : tie.After-put-be → tie.Start
 start3 c = start2 (c .before .before .before .before .before)
 
 -- what was written after each put
-wrote1 : (c : tie.After-put-configuration) → Put (e1 (start1 c .args .x)) (start1 c .args .at) (start1 c .args .buffer .now) (c .put-configuration .last .0) (c .put-configuration .result)
+wrote1 : (c : tie.After-put-configuration) → Put (e1 (start1 c .args .operation)) (start1 c .args .at) (start1 c .args .buffer .now) (c .put-configuration .last .0) (c .put-configuration .result)
 wrote1 c = c .put-configuration .ensures
 
-wrote2 : (c : tie.After-put-configuration2) → Put (e2 (start2 c .args .x)) (start2 c .args .at) (start2 c .args .buffer .now) (c .put-configuration2 .last .0) (c .put-configuration2 .result)
+wrote2 : (c : tie.After-put-configuration2) → Put (e2 (start2 c .args .operation)) (start2 c .args .at) (start2 c .args .buffer .now) (c .put-configuration2 .last .0) (c .put-configuration2 .result)
 wrote2 c = then _ (wrote1 (c .before .before .before .before .before)) (room2 (start2 c)) (c .put-configuration2 .ensures)
 
-wrote3 : (c : tie.After-put-be) → Put (e3 (start3 c .args .x)) (start3 c .args .at) (start3 c .args .buffer .now) (c .put-be .last .0) (c .put-be .result)
+wrote3 : (c : tie.After-put-be) → Put (e3 (start3 c .args .operation)) (start3 c .args .at) (start3 c .args .buffer .now) (c .put-be .last .0) (c .put-be .result)
 wrote3 c = then _ (wrote2 (c .before .before .before .before .before)) (room3 (start3 c)) (c .put-be .ensures)
 
 put-configuration-requires : tie.Need-put-configuration-requires

@@ -22,15 +22,15 @@ abbrev e3 : VoterConfiguration → List ℕ
 e3 x = e2 x ++ members (x .count) .enc (x .members)
 
 -- there is room for all of it, and so for each part
-room3 : (c : tie.Start) → c .args .at + length (e3 (c .args .c)) ≤ length (c .args .buffer .now)
+room3 : (c : tie.Start) → c .args .at + length (e3 (c .args .configuration)) ≤ length (c .args .buffer .now)
 unfolding configuration epoch slotCount via dep check
 room3 c = c .pre .0
 
-room2 : (c : tie.Start) → c .args .at + length (e2 (c .args .c)) ≤ length (c .args .buffer .now)
-room2 c = room-left (e2 (c .args .c)) (members (c .args .c .count) .enc (c .args .c .members)) _ _ (room3 c)
+room2 : (c : tie.Start) → c .args .at + length (e2 (c .args .configuration)) ≤ length (c .args .buffer .now)
+room2 c = room-left (e2 (c .args .configuration)) (members (c .args .configuration .count) .enc (c .args .configuration .members)) _ _ (room3 c)
 
-room1 : (c : tie.Start) → c .args .at + length (e1 (c .args .c)) ≤ length (c .args .buffer .now)
-room1 c = room-left (e1 (c .args .c)) (uint 1 .enc (c .args .c .count)) _ _ (room2 c)
+room1 : (c : tie.Start) → c .args .at + length (e1 (c .args .configuration)) ≤ length (c .args .buffer .now)
+room1 c = room-left (e1 (c .args .configuration)) (uint 1 .enc (c .args .configuration .count)) _ _ (room2 c)
 
 -- where the function began, from after each put
 abbrev start1 : tie.After-put-be → tie.Start
@@ -43,13 +43,13 @@ abbrev start3 : tie.After-put-members → tie.Start
 start3 c = start2 (c .before .before .before .before .before)
 
 -- what was written after each put
-wrote1 : (c : tie.After-put-be) → Put (e1 (start1 c .args .c)) (start1 c .args .at) (start1 c .args .buffer .now) (c .put-be .last .0) (c .put-be .result)
+wrote1 : (c : tie.After-put-be) → Put (e1 (start1 c .args .configuration)) (start1 c .args .at) (start1 c .args .buffer .now) (c .put-be .last .0) (c .put-be .result)
 wrote1 c = c .put-be .ensures
 
-wrote2 : (c : tie.After-put-be2) → Put (e2 (start2 c .args .c)) (start2 c .args .at) (start2 c .args .buffer .now) (c .put-be2 .last .0) (c .put-be2 .result)
+wrote2 : (c : tie.After-put-be2) → Put (e2 (start2 c .args .configuration)) (start2 c .args .at) (start2 c .args .buffer .now) (c .put-be2 .last .0) (c .put-be2 .result)
 wrote2 c = then _ (wrote1 (c .before .before .before .before)) (room2 (start2 c)) (c .put-be2 .ensures)
 
-wrote3 : (c : tie.After-put-members) → Put (e3 (start3 c .args .c)) (start3 c .args .at) (start3 c .args .buffer .now) (c .put-members .last .0) (c .put-members .result)
+wrote3 : (c : tie.After-put-members) → Put (e3 (start3 c .args .configuration)) (start3 c .args .at) (start3 c .args .buffer .now) (c .put-members .last .0) (c .put-members .result)
 wrote3 c = then _ (wrote2 (c .before .before .before .before .before)) (room3 (start3 c)) (c .put-members .ensures)
 
 put-be-requires : tie.Need-put-be-requires

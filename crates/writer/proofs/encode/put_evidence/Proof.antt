@@ -29,18 +29,18 @@ abbrev e4 : VoterReplacementEvidence → List ℕ
 e4 x = e3 x ++ threeCuts .enc (lateCuts x)
 
 -- there is room for all of it, and so for each part
-room4 : (c : tie.Start) → c .args .at + length (e4 (c .args .e)) ≤ length (c .args .buffer .now)
+room4 : (c : tie.Start) → c .args .at + length (e4 (c .args .evidence)) ≤ length (c .args .buffer .now)
 unfolding evidence via dep
 room4 c = c .pre .0
 
-room3 : (c : tie.Start) → c .args .at + length (e3 (c .args .e)) ≤ length (c .args .buffer .now)
-room3 c = room-left (e3 (c .args .e)) (threeCuts .enc (lateCuts (c .args .e))) _ _ (room4 c)
+room3 : (c : tie.Start) → c .args .at + length (e3 (c .args .evidence)) ≤ length (c .args .buffer .now)
+room3 c = room-left (e3 (c .args .evidence)) (threeCuts .enc (lateCuts (c .args .evidence))) _ _ (room4 c)
 
-room2 : (c : tie.Start) → c .args .at + length (e2 (c .args .e)) ≤ length (c .args .buffer .now)
-room2 c = room-left (e2 (c .args .e)) (threeCuts .enc (earlyCuts (c .args .e))) _ _ (room3 c)
+room2 : (c : tie.Start) → c .args .at + length (e2 (c .args .evidence)) ≤ length (c .args .buffer .now)
+room2 c = room-left (e2 (c .args .evidence)) (threeCuts .enc (earlyCuts (c .args .evidence))) _ _ (room3 c)
 
-room1 : (c : tie.Start) → c .args .at + length (e1 (c .args .e)) ≤ length (c .args .buffer .now)
-room1 c = room-left (e1 (c .args .e)) (opt snapshot blankVoterSnapshotEvidence .enc (c .args .e .«has_snapshot», c .args .e .snapshot)) _ _ (room2 c)
+room1 : (c : tie.Start) → c .args .at + length (e1 (c .args .evidence)) ≤ length (c .args .buffer .now)
+room1 c = room-left (e1 (c .args .evidence)) (opt snapshot blankVoterSnapshotEvidence .enc (c .args .evidence .«has_snapshot», c .args .evidence .snapshot)) _ _ (room2 c)
 
 -- where the function began, from after each put
 abbrev start1 : tie.After-put-log-id → tie.Start
@@ -56,16 +56,16 @@ abbrev start4 : tie.After-put-three-cuts2 → tie.Start
 start4 c = start3 (c .before .before .before .before .before)
 
 -- what was written after each put
-wrote1 : (c : tie.After-put-log-id) → Put (e1 (start1 c .args .e)) (start1 c .args .at) (start1 c .args .buffer .now) (c .put-log-id .last .0) (c .put-log-id .result)
+wrote1 : (c : tie.After-put-log-id) → Put (e1 (start1 c .args .evidence)) (start1 c .args .at) (start1 c .args .buffer .now) (c .put-log-id .last .0) (c .put-log-id .result)
 wrote1 c = c .put-log-id .ensures
 
-wrote2 : (c : tie.After-put-optional-snapshot) → Put (e2 (start2 c .args .e)) (start2 c .args .at) (start2 c .args .buffer .now) (c .put-optional-snapshot .last .0) (c .put-optional-snapshot .result)
+wrote2 : (c : tie.After-put-optional-snapshot) → Put (e2 (start2 c .args .evidence)) (start2 c .args .at) (start2 c .args .buffer .now) (c .put-optional-snapshot .last .0) (c .put-optional-snapshot .result)
 wrote2 c = then _ (wrote1 (c .before .before .before .before .before)) (room2 (start2 c)) (c .put-optional-snapshot .ensures)
 
-wrote3 : (c : tie.After-put-three-cuts) → Put (e3 (start3 c .args .e)) (start3 c .args .at) (start3 c .args .buffer .now) (c .put-three-cuts .last .0) (c .put-three-cuts .result)
+wrote3 : (c : tie.After-put-three-cuts) → Put (e3 (start3 c .args .evidence)) (start3 c .args .at) (start3 c .args .buffer .now) (c .put-three-cuts .last .0) (c .put-three-cuts .result)
 wrote3 c = then _ (wrote2 (c .before .before .before .before .before)) (room3 (start3 c)) (put-is (ap (threeCuts .enc) (c .before .before .early-cuts .ensures)) (c .put-three-cuts .ensures))
 
-wrote4 : (c : tie.After-put-three-cuts2) → Put (e4 (start4 c .args .e)) (start4 c .args .at) (start4 c .args .buffer .now) (c .put-three-cuts2 .last .0) (c .put-three-cuts2 .result)
+wrote4 : (c : tie.After-put-three-cuts2) → Put (e4 (start4 c .args .evidence)) (start4 c .args .at) (start4 c .args .buffer .now) (c .put-three-cuts2 .last .0) (c .put-three-cuts2 .result)
 wrote4 c = then _ (wrote3 (c .before .before .before .before .before)) (room4 (start4 c)) (put-is (ap (threeCuts .enc) (c .before .before .late-cuts .ensures)) (c .put-three-cuts2 .ensures))
 
 put-log-id-requires : tie.Need-put-log-id-requires

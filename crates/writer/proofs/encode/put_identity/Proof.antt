@@ -20,12 +20,12 @@ abbrev e2 : VoterSlotIdentity → List ℕ
 e2 x = e1 x ++ uint 8 .enc (x .incarnation)
 
 -- there is room for all of it, and so for each part
-room2 : (c : tie.Start) → c .args .at + length (e2 (c .args .id)) ≤ length (c .args .buffer .now)
+room2 : (c : tie.Start) → c .args .at + length (e2 (c .args .identity)) ≤ length (c .args .buffer .now)
 unfolding identity slotId incarnation via dep check
 room2 c = c .pre
 
-room1 : (c : tie.Start) → c .args .at + length (e1 (c .args .id)) ≤ length (c .args .buffer .now)
-room1 c = room-left (e1 (c .args .id)) (uint 8 .enc (c .args .id .incarnation)) _ _ (room2 c)
+room1 : (c : tie.Start) → c .args .at + length (e1 (c .args .identity)) ≤ length (c .args .buffer .now)
+room1 c = room-left (e1 (c .args .identity)) (uint 8 .enc (c .args .identity .incarnation)) _ _ (room2 c)
 
 -- where the function began, from after each put
 abbrev start1 : tie.After-put-be → tie.Start
@@ -35,10 +35,10 @@ abbrev start2 : tie.After-put-be2 → tie.Start
 start2 c = start1 (c .before .before .before .before)
 
 -- what was written after each put
-wrote1 : (c : tie.After-put-be) → Put (e1 (start1 c .args .id)) (start1 c .args .at) (start1 c .args .buffer .now) (c .put-be .last .0) (c .put-be .result)
+wrote1 : (c : tie.After-put-be) → Put (e1 (start1 c .args .identity)) (start1 c .args .at) (start1 c .args .buffer .now) (c .put-be .last .0) (c .put-be .result)
 wrote1 c = c .put-be .ensures
 
-wrote2 : (c : tie.After-put-be2) → Put (e2 (start2 c .args .id)) (start2 c .args .at) (start2 c .args .buffer .now) (c .put-be2 .last .0) (c .put-be2 .result)
+wrote2 : (c : tie.After-put-be2) → Put (e2 (start2 c .args .identity)) (start2 c .args .at) (start2 c .args .buffer .now) (c .put-be2 .last .0) (c .put-be2 .result)
 wrote2 c = then _ (wrote1 (c .before .before .before .before)) (room2 (start2 c)) (c .put-be2 .ensures)
 
 cast-put-be : tie.Need-cast-put-be

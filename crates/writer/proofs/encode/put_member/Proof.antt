@@ -19,12 +19,12 @@ abbrev e2 : VoterSlotMember → List ℕ
 e2 x = e1 x ++ binding .enc (bindingOf x)
 
 -- there is room for all of it, and so for each part
-room2 : (c : tie.Start) → c .args .at + length (e2 (c .args .m)) ≤ length (c .args .buffer .now)
+room2 : (c : tie.Start) → c .args .at + length (e2 (c .args .member)) ≤ length (c .args .buffer .now)
 unfolding member via dep
 room2 c = c .pre
 
-room1 : (c : tie.Start) → c .args .at + length (e1 (c .args .m)) ≤ length (c .args .buffer .now)
-room1 c = room-left (e1 (c .args .m)) (binding .enc (bindingOf (c .args .m))) _ _ (room2 c)
+room1 : (c : tie.Start) → c .args .at + length (e1 (c .args .member)) ≤ length (c .args .buffer .now)
+room1 c = room-left (e1 (c .args .member)) (binding .enc (bindingOf (c .args .member))) _ _ (room2 c)
 
 -- where the function began, from after each put
 abbrev start1 : tie.After-put-identity → tie.Start
@@ -34,10 +34,10 @@ abbrev start2 : tie.After-put-binding → tie.Start
 start2 c = start1 (c .before .before .before .before)
 
 -- what was written after each put
-wrote1 : (c : tie.After-put-identity) → Put (e1 (start1 c .args .m)) (start1 c .args .at) (start1 c .args .buffer .now) (c .put-identity .last .0) (c .put-identity .result)
+wrote1 : (c : tie.After-put-identity) → Put (e1 (start1 c .args .member)) (start1 c .args .at) (start1 c .args .buffer .now) (c .put-identity .last .0) (c .put-identity .result)
 wrote1 c = c .put-identity .ensures
 
-wrote2 : (c : tie.After-put-binding) → Put (e2 (start2 c .args .m)) (start2 c .args .at) (start2 c .args .buffer .now) (c .put-binding .last .0) (c .put-binding .result)
+wrote2 : (c : tie.After-put-binding) → Put (e2 (start2 c .args .member)) (start2 c .args .at) (start2 c .args .buffer .now) (c .put-binding .last .0) (c .put-binding .result)
 wrote2 c = then _ (wrote1 (c .before .before .before .before)) (room2 (start2 c)) (c .put-binding .ensures)
 
 put-identity-requires : tie.Need-put-identity-requires

@@ -24,12 +24,12 @@ start2 c = start1 (c .before .before)
 
 -- there is room for the flag, and after a yes for the value
 room1 : (c : tie.Start) → c .args .at + length (flag .enc (c .args .is-some)) ≤ length (c .args .buffer .now)
-room1 c = room-left (flag .enc (c .args .is-some)) (either (c .args .is-some) result (always blankVoterReplacementResult) .enc (c .args .x)) _ _ (room-is _ _ (opt-flag result blankVoterReplacementResult (c .args .x) (c .args .is-some)) (c .pre))
+room1 c = room-left (flag .enc (c .args .is-some)) (either (c .args .is-some) result (always blankVoterReplacementResult) .enc (c .args .result)) _ _ (room-is _ _ (opt-flag result blankVoterReplacementResult (c .args .result) (c .args .is-some)) (c .pre))
 
-room2 : (c : tie.Then1) → start1 c .args .at + length (flag .enc (start1 c .args .is-some) ++ result .enc (start1 c .args .x)) ≤ length (start1 c .args .buffer .now)
-room2 c = room-is _ _ (opt-some result blankVoterReplacementResult (start1 c .args .x) (start1 c .args .is-some) (c .if1 .taken)) (start1 c .pre)
+room2 : (c : tie.Then1) → start1 c .args .at + length (flag .enc (start1 c .args .is-some) ++ result .enc (start1 c .args .result)) ≤ length (start1 c .args .buffer .now)
+room2 c = room-is _ _ (opt-some result blankVoterReplacementResult (start1 c .args .result) (start1 c .args .is-some) (c .if1 .taken)) (start1 c .pre)
 
-wrote2 : (c : tie.After-put-result) → Put (flag .enc (start2 c .args .is-some) ++ result .enc (start2 c .args .x)) (start2 c .args .at) (start2 c .args .buffer .now) (c .put-result .last .0) (c .put-result .result)
+wrote2 : (c : tie.After-put-result) → Put (flag .enc (start2 c .args .is-some) ++ result .enc (start2 c .args .result)) (start2 c .args .at) (start2 c .args .buffer .now) (c .put-result .last .0) (c .put-result .result)
 wrote2 c = then _ (c .before .before .before .before .before .put-flag .ensures) (room2 (c .before .before)) (c .put-result .ensures)
 
 put-flag-requires : tie.Need-put-flag-requires
@@ -42,13 +42,13 @@ same-length : tie.Need-same-length
 same-length c = ap length (wrote2 (c .before .before) .bytes) ∙ length-put _ _ _ (room2 (c .before .before .before .before))
 
 returns : tie.Need-returns
-returns c = put-is (sym (opt-some result blankVoterReplacementResult (start2 (c .before .before) .args .x) (start2 (c .before .before) .args .is-some) (c .before .before .before .before .if1 .taken))) (wrote2 (c .before .before))
+returns c = put-is (sym (opt-some result blankVoterReplacementResult (start2 (c .before .before) .args .result) (start2 (c .before .before) .args .is-some) (c .before .before .before .before .if1 .taken))) (wrote2 (c .before .before))
 
 same-length-2 : tie.Need-same-length-2
 same-length-2 c = ap length (c .before .before .before .put-flag .ensures .bytes) ∙ length-put _ _ _ (room1 (start0 c))
 
 returns-2 : tie.Need-returns-2
-returns-2 c = put-is (sym (opt-none result blankVoterReplacementResult (start0 c .args .x) (start0 c .args .is-some) (c .if1 .left))) (c .before .before .before .put-flag .ensures)
+returns-2 c = put-is (sym (opt-none result blankVoterReplacementResult (start0 c .args .result) (start0 c .args .is-some) (c .if1 .left))) (c .before .before .before .put-flag .ensures)
 
 pub put-optional-result-spec : {M : Type 1} → statement M
 put-optional-result-spec =

@@ -27,18 +27,18 @@ abbrev e4 : VoterReplacementRecord → List ℕ
 e4 x = e3 x ++ evidence .enc (x .evidence)
 
 -- there is room for all of it, and so for each part
-room4 : (c : tie.Start) → c .args .at + length (e4 (c .args .x)) ≤ length (c .args .buffer .now)
+room4 : (c : tie.Start) → c .args .at + length (e4 (c .args .operation)) ≤ length (c .args .buffer .now)
 unfolding replacement via dep
 room4 c = c .pre .0
 
-room3 : (c : tie.Start) → c .args .at + length (e3 (c .args .x)) ≤ length (c .args .buffer .now)
-room3 c = room-left (e3 (c .args .x)) (evidence .enc (c .args .x .evidence)) _ _ (room4 c)
+room3 : (c : tie.Start) → c .args .at + length (e3 (c .args .operation)) ≤ length (c .args .buffer .now)
+room3 c = room-left (e3 (c .args .operation)) (evidence .enc (c .args .operation .evidence)) _ _ (room4 c)
 
-room2 : (c : tie.Start) → c .args .at + length (e2 (c .args .x)) ≤ length (c .args .buffer .now)
-room2 c = room-left (e2 (c .args .x)) (change .enc (changeOf (c .args .x))) _ _ (room3 c)
+room2 : (c : tie.Start) → c .args .at + length (e2 (c .args .operation)) ≤ length (c .args .buffer .now)
+room2 c = room-left (e2 (c .args .operation)) (change .enc (changeOf (c .args .operation))) _ _ (room3 c)
 
-room1 : (c : tie.Start) → c .args .at + length (e1 (c .args .x)) ≤ length (c .args .buffer .now)
-room1 c = room-left (e1 (c .args .x)) (boxed attestation 8192 .enc (c .args .x .attestation)) _ _ (room2 c)
+room1 : (c : tie.Start) → c .args .at + length (e1 (c .args .operation)) ≤ length (c .args .buffer .now)
+room1 c = room-left (e1 (c .args .operation)) (boxed attestation 8192 .enc (c .args .operation .attestation)) _ _ (room2 c)
 
 -- where the function began, from after each put
 abbrev start1 : tie.After-put-be → tie.Start
@@ -54,16 +54,16 @@ abbrev start4 : tie.After-put-evidence → tie.Start
 start4 c = start3 (c .before .before .before .before .before)
 
 -- what was written after each put
-wrote1 : (c : tie.After-put-be) → Put (e1 (start1 c .args .x)) (start1 c .args .at) (start1 c .args .buffer .now) (c .put-be .last .0) (c .put-be .result)
+wrote1 : (c : tie.After-put-be) → Put (e1 (start1 c .args .operation)) (start1 c .args .at) (start1 c .args .buffer .now) (c .put-be .last .0) (c .put-be .result)
 wrote1 c = c .put-be .ensures
 
-wrote2 : (c : tie.After-put-boxed-attestation) → Put (e2 (start2 c .args .x)) (start2 c .args .at) (start2 c .args .buffer .now) (c .put-boxed-attestation .last .0) (c .put-boxed-attestation .result)
+wrote2 : (c : tie.After-put-boxed-attestation) → Put (e2 (start2 c .args .operation)) (start2 c .args .at) (start2 c .args .buffer .now) (c .put-boxed-attestation .last .0) (c .put-boxed-attestation .result)
 wrote2 c = then _ (wrote1 (c .before .before .before .before .before)) (room2 (start2 c)) (c .put-boxed-attestation .ensures)
 
-wrote3 : (c : tie.After-put-change) → Put (e3 (start3 c .args .x)) (start3 c .args .at) (start3 c .args .buffer .now) (c .put-change .last .0) (c .put-change .result)
+wrote3 : (c : tie.After-put-change) → Put (e3 (start3 c .args .operation)) (start3 c .args .at) (start3 c .args .buffer .now) (c .put-change .last .0) (c .put-change .result)
 wrote3 c = then _ (wrote2 (c .before .before .before .before)) (room3 (start3 c)) (c .put-change .ensures)
 
-wrote4 : (c : tie.After-put-evidence) → Put (e4 (start4 c .args .x)) (start4 c .args .at) (start4 c .args .buffer .now) (c .put-evidence .last .0) (c .put-evidence .result)
+wrote4 : (c : tie.After-put-evidence) → Put (e4 (start4 c .args .operation)) (start4 c .args .at) (start4 c .args .buffer .now) (c .put-evidence .last .0) (c .put-evidence .result)
 wrote4 c = then _ (wrote3 (c .before .before .before .before .before)) (room4 (start4 c)) (c .put-evidence .ensures)
 
 put-be-requires : tie.Need-put-be-requires

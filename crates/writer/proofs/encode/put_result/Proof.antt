@@ -27,18 +27,18 @@ abbrev e4 : VoterReplacementResult → List ℕ
 e4 x = e3 x ++ logId .enc (x .terminal)
 
 -- there is room for all of it, and so for each part
-room4 : (c : tie.Start) → c .args .at + length (e4 (c .args .x)) ≤ length (c .args .buffer .now)
+room4 : (c : tie.Start) → c .args .at + length (e4 (c .args .result)) ≤ length (c .args .buffer .now)
 unfolding result epoch choice via dep check
 room4 c = c .pre
 
-room3 : (c : tie.Start) → c .args .at + length (e3 (c .args .x)) ≤ length (c .args .buffer .now)
-room3 c = room-left (e3 (c .args .x)) (logId .enc (c .args .x .terminal)) _ _ (room4 c)
+room3 : (c : tie.Start) → c .args .at + length (e3 (c .args .result)) ≤ length (c .args .buffer .now)
+room3 c = room-left (e3 (c .args .result)) (logId .enc (c .args .result .terminal)) _ _ (room4 c)
 
-room2 : (c : tie.Start) → c .args .at + length (e2 (c .args .x)) ≤ length (c .args .buffer .now)
-room2 c = room-left (e2 (c .args .x)) (uint 1 .enc (c .args .x .kind)) _ _ (room3 c)
+room2 : (c : tie.Start) → c .args .at + length (e2 (c .args .result)) ≤ length (c .args .buffer .now)
+room2 c = room-left (e2 (c .args .result)) (uint 1 .enc (c .args .result .kind)) _ _ (room3 c)
 
-room1 : (c : tie.Start) → c .args .at + length (e1 (c .args .x)) ≤ length (c .args .buffer .now)
-room1 c = room-left (e1 (c .args .x)) (uint 8 .enc (c .args .x .«configuration_epoch»)) _ _ (room2 c)
+room1 : (c : tie.Start) → c .args .at + length (e1 (c .args .result)) ≤ length (c .args .buffer .now)
+room1 c = room-left (e1 (c .args .result)) (uint 8 .enc (c .args .result .«configuration_epoch»)) _ _ (room2 c)
 
 -- where the function began, from after each put
 abbrev start1 : tie.After-put-result-head → tie.Start
@@ -54,16 +54,16 @@ abbrev start4 : tie.After-put-log-id → tie.Start
 start4 c = start3 (c .before .before .before .before .before)
 
 -- what was written after each put
-wrote1 : (c : tie.After-put-result-head) → Put (e1 (start1 c .args .x)) (start1 c .args .at) (start1 c .args .buffer .now) (c .put-result-head .last .0) (c .put-result-head .result)
+wrote1 : (c : tie.After-put-result-head) → Put (e1 (start1 c .args .result)) (start1 c .args .at) (start1 c .args .buffer .now) (c .put-result-head .last .0) (c .put-result-head .result)
 wrote1 c = c .put-result-head .ensures
 
-wrote2 : (c : tie.After-put-be) → Put (e2 (start2 c .args .x)) (start2 c .args .at) (start2 c .args .buffer .now) (c .put-be .last .0) (c .put-be .result)
+wrote2 : (c : tie.After-put-be) → Put (e2 (start2 c .args .result)) (start2 c .args .at) (start2 c .args .buffer .now) (c .put-be .last .0) (c .put-be .result)
 wrote2 c = then _ (wrote1 (c .before .before .before .before)) (room2 (start2 c)) (c .put-be .ensures)
 
-wrote3 : (c : tie.After-put-be2) → Put (e3 (start3 c .args .x)) (start3 c .args .at) (start3 c .args .buffer .now) (c .put-be2 .last .0) (c .put-be2 .result)
+wrote3 : (c : tie.After-put-be2) → Put (e3 (start3 c .args .result)) (start3 c .args .at) (start3 c .args .buffer .now) (c .put-be2 .last .0) (c .put-be2 .result)
 wrote3 c = then _ (wrote2 (c .before .before .before .before .before)) (room3 (start3 c)) (c .put-be2 .ensures)
 
-wrote4 : (c : tie.After-put-log-id) → Put (e4 (start4 c .args .x)) (start4 c .args .at) (start4 c .args .buffer .now) (c .put-log-id .last .0) (c .put-log-id .result)
+wrote4 : (c : tie.After-put-log-id) → Put (e4 (start4 c .args .result)) (start4 c .args .at) (start4 c .args .buffer .now) (c .put-log-id .last .0) (c .put-log-id .result)
 wrote4 c = then _ (wrote3 (c .before .before .before .before .before)) (room4 (start4 c)) (c .put-log-id .ensures)
 
 put-result-head-requires : tie.Need-put-result-head-requires

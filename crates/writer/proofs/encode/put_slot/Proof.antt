@@ -26,15 +26,15 @@ abbrev e3 : VoterSlotRecord → List ℕ
 e3 x = e2 x ++ opt result blankVoterReplacementResult .enc (x .«has_last_result», x .«last_result»)
 
 -- there is room for all of it, and so for each part
-room3 : (c : tie.Start) → c .args .at + length (e3 (c .args .s)) ≤ length (c .args .buffer .now)
+room3 : (c : tie.Start) → c .args .at + length (e3 (c .args .slot)) ≤ length (c .args .buffer .now)
 unfolding slot choice via dep check
 room3 c = c .pre
 
-room2 : (c : tie.Start) → c .args .at + length (e2 (c .args .s)) ≤ length (c .args .buffer .now)
-room2 c = room-left (e2 (c .args .s)) (opt result blankVoterReplacementResult .enc (c .args .s .«has_last_result», c .args .s .«last_result»)) _ _ (room3 c)
+room2 : (c : tie.Start) → c .args .at + length (e2 (c .args .slot)) ≤ length (c .args .buffer .now)
+room2 c = room-left (e2 (c .args .slot)) (opt result blankVoterReplacementResult .enc (c .args .slot .«has_last_result», c .args .slot .«last_result»)) _ _ (room3 c)
 
-room1 : (c : tie.Start) → c .args .at + length (e1 (c .args .s)) ≤ length (c .args .buffer .now)
-room1 c = room-left (e1 (c .args .s)) (uint 1 .enc (c .args .s .phase)) _ _ (room2 c)
+room1 : (c : tie.Start) → c .args .at + length (e1 (c .args .slot)) ≤ length (c .args .buffer .now)
+room1 c = room-left (e1 (c .args .slot)) (uint 1 .enc (c .args .slot .phase)) _ _ (room2 c)
 
 -- where the function began, from after each put
 abbrev start1 : tie.After-put-slot-member → tie.Start
@@ -47,13 +47,13 @@ abbrev start3 : tie.After-put-optional-result → tie.Start
 start3 c = start2 (c .before .before .before .before .before)
 
 -- what was written after each put
-wrote1 : (c : tie.After-put-slot-member) → Put (e1 (start1 c .args .s)) (start1 c .args .at) (start1 c .args .buffer .now) (c .put-slot-member .last .0) (c .put-slot-member .result)
+wrote1 : (c : tie.After-put-slot-member) → Put (e1 (start1 c .args .slot)) (start1 c .args .at) (start1 c .args .buffer .now) (c .put-slot-member .last .0) (c .put-slot-member .result)
 wrote1 c = c .put-slot-member .ensures
 
-wrote2 : (c : tie.After-put-be) → Put (e2 (start2 c .args .s)) (start2 c .args .at) (start2 c .args .buffer .now) (c .put-be .last .0) (c .put-be .result)
+wrote2 : (c : tie.After-put-be) → Put (e2 (start2 c .args .slot)) (start2 c .args .at) (start2 c .args .buffer .now) (c .put-be .last .0) (c .put-be .result)
 wrote2 c = then _ (wrote1 (c .before .before .before .before .before)) (room2 (start2 c)) (c .put-be .ensures)
 
-wrote3 : (c : tie.After-put-optional-result) → Put (e3 (start3 c .args .s)) (start3 c .args .at) (start3 c .args .buffer .now) (c .put-optional-result .last .0) (c .put-optional-result .result)
+wrote3 : (c : tie.After-put-optional-result) → Put (e3 (start3 c .args .slot)) (start3 c .args .at) (start3 c .args .buffer .now) (c .put-optional-result .last .0) (c .put-optional-result .result)
 wrote3 c = then _ (wrote2 (c .before .before .before .before .before)) (room3 (start3 c)) (c .put-optional-result .ensures)
 
 put-slot-member-requires : tie.Need-put-slot-member-requires

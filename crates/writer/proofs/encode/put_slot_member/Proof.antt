@@ -23,15 +23,15 @@ abbrev e3 : VoterSlotRecord → List ℕ
 e3 x = e2 x ++ binding .enc (bindingOf (x .member))
 
 -- there is room for all of it, and so for each part
-room3 : (c : tie.Start) → c .args .at + length (e3 (c .args .s)) ≤ length (c .args .buffer .now)
+room3 : (c : tie.Start) → c .args .at + length (e3 (c .args .slot)) ≤ length (c .args .buffer .now)
 unfolding slotMember via dep
 room3 c = c .pre
 
-room2 : (c : tie.Start) → c .args .at + length (e2 (c .args .s)) ≤ length (c .args .buffer .now)
-room2 c = room-left (e2 (c .args .s)) (binding .enc (bindingOf (c .args .s .member))) _ _ (room3 c)
+room2 : (c : tie.Start) → c .args .at + length (e2 (c .args .slot)) ≤ length (c .args .buffer .now)
+room2 c = room-left (e2 (c .args .slot)) (binding .enc (bindingOf (c .args .slot .member))) _ _ (room3 c)
 
-room1 : (c : tie.Start) → c .args .at + length (e1 (c .args .s)) ≤ length (c .args .buffer .now)
-room1 c = room-left (e1 (c .args .s)) (uint 8 .enc (c .args .s .«retired_through»)) _ _ (room2 c)
+room1 : (c : tie.Start) → c .args .at + length (e1 (c .args .slot)) ≤ length (c .args .buffer .now)
+room1 c = room-left (e1 (c .args .slot)) (uint 8 .enc (c .args .slot .«retired_through»)) _ _ (room2 c)
 
 -- where the function began, from after each put
 abbrev start1 : tie.After-put-identity → tie.Start
@@ -44,13 +44,13 @@ abbrev start3 : tie.After-put-binding → tie.Start
 start3 c = start2 (c .before .before .before .before)
 
 -- what was written after each put
-wrote1 : (c : tie.After-put-identity) → Put (e1 (start1 c .args .s)) (start1 c .args .at) (start1 c .args .buffer .now) (c .put-identity .last .0) (c .put-identity .result)
+wrote1 : (c : tie.After-put-identity) → Put (e1 (start1 c .args .slot)) (start1 c .args .at) (start1 c .args .buffer .now) (c .put-identity .last .0) (c .put-identity .result)
 wrote1 c = c .put-identity .ensures
 
-wrote2 : (c : tie.After-put-be) → Put (e2 (start2 c .args .s)) (start2 c .args .at) (start2 c .args .buffer .now) (c .put-be .last .0) (c .put-be .result)
+wrote2 : (c : tie.After-put-be) → Put (e2 (start2 c .args .slot)) (start2 c .args .at) (start2 c .args .buffer .now) (c .put-be .last .0) (c .put-be .result)
 wrote2 c = then _ (wrote1 (c .before .before .before .before)) (room2 (start2 c)) (c .put-be .ensures)
 
-wrote3 : (c : tie.After-put-binding) → Put (e3 (start3 c .args .s)) (start3 c .args .at) (start3 c .args .buffer .now) (c .put-binding .last .0) (c .put-binding .result)
+wrote3 : (c : tie.After-put-binding) → Put (e3 (start3 c .args .slot)) (start3 c .args .at) (start3 c .args .buffer .now) (c .put-binding .last .0) (c .put-binding .result)
 wrote3 c = then _ (wrote2 (c .before .before .before .before)) (room3 (start3 c)) (c .put-binding .ensures)
 
 put-identity-requires : tie.Need-put-identity-requires

@@ -31,21 +31,21 @@ abbrev e5 : VoterSlotTable → List ℕ
 e5 x = e4 x ++ opt replacement blankVoterReplacementRecord .enc (x .«has_replacement», x .replacement)
 
 -- there is room for all of it, and so for each part
-room5 : (c : tie.Start) → c .args .at + length (e5 (c .args .t)) ≤ length (c .args .buffer .now)
+room5 : (c : tie.Start) → c .args .at + length (e5 (c .args .table)) ≤ length (c .args .buffer .now)
 unfolding table slotCount via dep check
 room5 c = c .pre .0
 
-room4 : (c : tie.Start) → c .args .at + length (e4 (c .args .t)) ≤ length (c .args .buffer .now)
-room4 c = room-left (e4 (c .args .t)) (opt replacement blankVoterReplacementRecord .enc (c .args .t .«has_replacement», c .args .t .replacement)) _ _ (room5 c)
+room4 : (c : tie.Start) → c .args .at + length (e4 (c .args .table)) ≤ length (c .args .buffer .now)
+room4 c = room-left (e4 (c .args .table)) (opt replacement blankVoterReplacementRecord .enc (c .args .table .«has_replacement», c .args .table .replacement)) _ _ (room5 c)
 
-room3 : (c : tie.Start) → c .args .at + length (e3 (c .args .t)) ≤ length (c .args .buffer .now)
-room3 c = room-left (e3 (c .args .t)) (slots (c .args .t .count) .enc (c .args .t .slots)) _ _ (room4 c)
+room3 : (c : tie.Start) → c .args .at + length (e3 (c .args .table)) ≤ length (c .args .buffer .now)
+room3 c = room-left (e3 (c .args .table)) (slots (c .args .table .count) .enc (c .args .table .slots)) _ _ (room4 c)
 
-room2 : (c : tie.Start) → c .args .at + length (e2 (c .args .t)) ≤ length (c .args .buffer .now)
-room2 c = room-left (e2 (c .args .t)) (uint 1 .enc (c .args .t .count)) _ _ (room3 c)
+room2 : (c : tie.Start) → c .args .at + length (e2 (c .args .table)) ≤ length (c .args .buffer .now)
+room2 c = room-left (e2 (c .args .table)) (uint 1 .enc (c .args .table .count)) _ _ (room3 c)
 
-room1 : (c : tie.Start) → c .args .at + length (e1 (c .args .t)) ≤ length (c .args .buffer .now)
-room1 c = room-left (e1 (c .args .t)) (tableHead .enc (tableHeadOf (c .args .t))) _ _ (room2 c)
+room1 : (c : tie.Start) → c .args .at + length (e1 (c .args .table)) ≤ length (c .args .buffer .now)
+room1 c = room-left (e1 (c .args .table)) (tableHead .enc (tableHeadOf (c .args .table))) _ _ (room2 c)
 
 -- where the function began, from after each put
 abbrev start1 : tie.After-put-head → tie.Start
@@ -64,19 +64,19 @@ abbrev start5 : tie.After-put-optional-replacement → tie.Start
 start5 c = start4 (c .before .before .before .before .before)
 
 -- what was written after each put
-wrote1 : (c : tie.After-put-head) → Put (e1 (start1 c .args .t)) (start1 c .args .at) (start1 c .args .buffer .now) (c .put-head .last .0) (c .put-head .result)
+wrote1 : (c : tie.After-put-head) → Put (e1 (start1 c .args .table)) (start1 c .args .at) (start1 c .args .buffer .now) (c .put-head .last .0) (c .put-head .result)
 wrote1 c = c .put-head .ensures
 
-wrote2 : (c : tie.After-put-table-head) → Put (e2 (start2 c .args .t)) (start2 c .args .at) (start2 c .args .buffer .now) (c .put-table-head .last .0) (c .put-table-head .result)
+wrote2 : (c : tie.After-put-table-head) → Put (e2 (start2 c .args .table)) (start2 c .args .at) (start2 c .args .buffer .now) (c .put-table-head .last .0) (c .put-table-head .result)
 wrote2 c = then _ (wrote1 (c .before .before .before .before)) (room2 (start2 c)) (c .put-table-head .ensures)
 
-wrote3 : (c : tie.After-put-be) → Put (e3 (start3 c .args .t)) (start3 c .args .at) (start3 c .args .buffer .now) (c .put-be .last .0) (c .put-be .result)
+wrote3 : (c : tie.After-put-be) → Put (e3 (start3 c .args .table)) (start3 c .args .at) (start3 c .args .buffer .now) (c .put-be .last .0) (c .put-be .result)
 wrote3 c = then _ (wrote2 (c .before .before .before .before)) (room3 (start3 c)) (c .put-be .ensures)
 
-wrote4 : (c : tie.After-put-slots) → Put (e4 (start4 c .args .t)) (start4 c .args .at) (start4 c .args .buffer .now) (c .put-slots .last .0) (c .put-slots .result)
+wrote4 : (c : tie.After-put-slots) → Put (e4 (start4 c .args .table)) (start4 c .args .at) (start4 c .args .buffer .now) (c .put-slots .last .0) (c .put-slots .result)
 wrote4 c = then _ (wrote3 (c .before .before .before .before .before)) (room4 (start4 c)) (c .put-slots .ensures)
 
-wrote5 : (c : tie.After-put-optional-replacement) → Put (e5 (start5 c .args .t)) (start5 c .args .at) (start5 c .args .buffer .now) (c .put-optional-replacement .last .0) (c .put-optional-replacement .result)
+wrote5 : (c : tie.After-put-optional-replacement) → Put (e5 (start5 c .args .table)) (start5 c .args .at) (start5 c .args .buffer .now) (c .put-optional-replacement .last .0) (c .put-optional-replacement .result)
 wrote5 c = then _ (wrote4 (c .before .before .before .before .before)) (room5 (start5 c)) (c .put-optional-replacement .ensures)
 
 put-head-requires : tie.Need-put-head-requires

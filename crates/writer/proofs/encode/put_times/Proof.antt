@@ -25,18 +25,18 @@ abbrev e4 : LostVoterAttestationV1 → List ℕ
 e4 x = e3 x ++ uint 8 .enc (x .«expires_ms»)
 
 -- there is room for all of it, and so for each part
-room4 : (c : tie.Start) → c .args .at + length (e4 (c .args .a)) ≤ length (c .args .buffer .now)
+room4 : (c : tie.Start) → c .args .at + length (e4 (c .args .claims)) ≤ length (c .args .buffer .now)
 unfolding times via dep
 room4 c = c .pre
 
-room3 : (c : tie.Start) → c .args .at + length (e3 (c .args .a)) ≤ length (c .args .buffer .now)
-room3 c = room-left (e3 (c .args .a)) (uint 8 .enc (c .args .a .«expires_ms»)) _ _ (room4 c)
+room3 : (c : tie.Start) → c .args .at + length (e3 (c .args .claims)) ≤ length (c .args .buffer .now)
+room3 c = room-left (e3 (c .args .claims)) (uint 8 .enc (c .args .claims .«expires_ms»)) _ _ (room4 c)
 
-room2 : (c : tie.Start) → c .args .at + length (e2 (c .args .a)) ≤ length (c .args .buffer .now)
-room2 c = room-left (e2 (c .args .a)) (uint 8 .enc (c .args .a .«issued_ms»)) _ _ (room3 c)
+room2 : (c : tie.Start) → c .args .at + length (e2 (c .args .claims)) ≤ length (c .args .buffer .now)
+room2 c = room-left (e2 (c .args .claims)) (uint 8 .enc (c .args .claims .«issued_ms»)) _ _ (room3 c)
 
-room1 : (c : tie.Start) → c .args .at + length (e1 (c .args .a)) ≤ length (c .args .buffer .now)
-room1 c = room-left (e1 (c .args .a)) (uint 8 .enc (c .args .a .«decision_ms»)) _ _ (room2 c)
+room1 : (c : tie.Start) → c .args .at + length (e1 (c .args .claims)) ≤ length (c .args .buffer .now)
+room1 c = room-left (e1 (c .args .claims)) (uint 8 .enc (c .args .claims .«decision_ms»)) _ _ (room2 c)
 
 -- where the function began, from after each put
 abbrev start1 : tie.After-put-be → tie.Start
@@ -52,16 +52,16 @@ abbrev start4 : tie.After-put-be4 → tie.Start
 start4 c = start3 (c .before .before .before .before)
 
 -- what was written after each put
-wrote1 : (c : tie.After-put-be) → Put (e1 (start1 c .args .a)) (start1 c .args .at) (start1 c .args .buffer .now) (c .put-be .last .0) (c .put-be .result)
+wrote1 : (c : tie.After-put-be) → Put (e1 (start1 c .args .claims)) (start1 c .args .at) (start1 c .args .buffer .now) (c .put-be .last .0) (c .put-be .result)
 wrote1 c = c .put-be .ensures
 
-wrote2 : (c : tie.After-put-be2) → Put (e2 (start2 c .args .a)) (start2 c .args .at) (start2 c .args .buffer .now) (c .put-be2 .last .0) (c .put-be2 .result)
+wrote2 : (c : tie.After-put-be2) → Put (e2 (start2 c .args .claims)) (start2 c .args .at) (start2 c .args .buffer .now) (c .put-be2 .last .0) (c .put-be2 .result)
 wrote2 c = then _ (wrote1 (c .before .before .before .before)) (room2 (start2 c)) (c .put-be2 .ensures)
 
-wrote3 : (c : tie.After-put-be3) → Put (e3 (start3 c .args .a)) (start3 c .args .at) (start3 c .args .buffer .now) (c .put-be3 .last .0) (c .put-be3 .result)
+wrote3 : (c : tie.After-put-be3) → Put (e3 (start3 c .args .claims)) (start3 c .args .at) (start3 c .args .buffer .now) (c .put-be3 .last .0) (c .put-be3 .result)
 wrote3 c = then _ (wrote2 (c .before .before .before .before)) (room3 (start3 c)) (c .put-be3 .ensures)
 
-wrote4 : (c : tie.After-put-be4) → Put (e4 (start4 c .args .a)) (start4 c .args .at) (start4 c .args .buffer .now) (c .put-be4 .last .0) (c .put-be4 .result)
+wrote4 : (c : tie.After-put-be4) → Put (e4 (start4 c .args .claims)) (start4 c .args .at) (start4 c .args .buffer .now) (c .put-be4 .last .0) (c .put-be4 .result)
 wrote4 c = then _ (wrote3 (c .before .before .before .before)) (room4 (start4 c)) (c .put-be4 .ensures)
 
 put-be-requires : tie.Need-put-be-requires

@@ -10,29 +10,29 @@ use Rattle.writer.specs.SizeLaws.{claims-long, configuration-long, evide
 use Rattle.writer.proofs.encode.replacement_size.Statement.{statement}
 use Rattle.writer.proofs.encode.replacement_size.Tie as tie
 
-held : (c : tie.Start) → HeldVoterReplacementRecord (c .args .x)
-held c = held-voter-replacement-record (c .args .x) _ (c .good .0)
+held : (c : tie.Start) → HeldVoterReplacementRecord (c .args .operation)
+held c = held-voter-replacement-record (c .args .operation) _ (c .good .0)
 
 -- the sizes of the parts
-predecessor-is : (c : tie.After-configuration-size2) → c .before .configuration-size .result ≡ configurationSize (c .before .before .before .before .before .before .args .x .predecessor)
+predecessor-is : (c : tie.After-configuration-size2) → c .before .configuration-size .result ≡ configurationSize (c .before .before .before .before .before .before .args .operation .predecessor)
 predecessor-is c =
     let s = c .before .before .before .before .before .before in
-    c .before .configuration-size .ensures ∙ configuration-long (s .args .x .predecessor) (held s .predecessor) (s .pre .predecessor)
+    c .before .configuration-size .ensures ∙ configuration-long (s .args .operation .predecessor) (held s .predecessor) (s .pre .predecessor)
 
-successor-is : (c : tie.After-configuration-size2) → c .configuration-size2 .result ≡ configurationSize (c .before .before .before .before .before .before .args .x .successor)
+successor-is : (c : tie.After-configuration-size2) → c .configuration-size2 .result ≡ configurationSize (c .before .before .before .before .before .before .args .operation .successor)
 successor-is c =
     let s = c .before .before .before .before .before .before in
-    c .configuration-size2 .ensures ∙ configuration-long (s .args .x .successor) (held s .successor) (s .pre .successor)
+    c .configuration-size2 .ensures ∙ configuration-long (s .args .operation .successor) (held s .successor) (s .pre .successor)
 
-attestation-is : (c : tie.After-attestation-size) → c .attestation-size .result ≡ attestationSize (c .before .before .before .before .before .before .before .args .x .attestation)
+attestation-is : (c : tie.After-attestation-size) → c .attestation-size .result ≡ attestationSize (c .before .before .before .before .before .before .before .args .operation .attestation)
 attestation-is c =
     let s = c .before .before .before .before .before .before .before in
-    c .attestation-size .ensures ∙ claims-long (s .args .x .attestation) (held s .attestation) (s .pre .candidate) (s .pre .controller)
+    c .attestation-size .ensures ∙ claims-long (s .args .operation .attestation) (held s .attestation) (s .pre .candidate) (s .pre .controller)
 
-evidence-is : (c : tie.After-evidence-size) → c .evidence-size .result ≡ evidenceSize (c .before .before .before .before .before .before .before .before .args .x .evidence)
+evidence-is : (c : tie.After-evidence-size) → c .evidence-size .result ≡ evidenceSize (c .before .before .before .before .before .before .before .before .args .operation .evidence)
 evidence-is c =
     let s = c .before .before .before .before .before .before .before .before in
-    c .evidence-size .ensures ∙ evidence-long (s .args .x .evidence) (held s .evidence) (s .pre .snapshot)
+    c .evidence-size .ensures ∙ evidence-long (s .args .operation .evidence) (held s .evidence) (s .pre .snapshot)
 
 configuration-size-requires : tie.Need-configuration-size-requires
 configuration-size-requires c κs = search needs
@@ -65,14 +65,14 @@ add-result-3 : tie.Need-add-result-3
 add-result-3 c =
     let s = c .before .before .before .before .before .before .before .before in
     let f = s .pre in
-    omega (arith, evidence-is c, attestation-is (c .before), predecessor-is (c .before .before), successor-is (c .before .before), evidence-most (s .args .x .evidence) (f .snapshot), f .candidate, f .controller, f .predecessor, f .successor)
+    omega (arith, evidence-is c, attestation-is (c .before), predecessor-is (c .before .before), successor-is (c .before .before), evidence-most (s .args .operation .evidence) (f .snapshot), f .candidate, f .controller, f .predecessor, f .successor)
 
 returns : tie.Need-returns
 unfolding replacementSize
 returns c =
     let s = c .before .before .before .before .before .before .before .before in
     ap₂ _+_ (ap₂ (λ m n. 11 + m + n) (attestation-is (c .before)) (ap₂ _+_ (predecessor-is (c .before .before)) (successor-is (c .before .before)))) (evidence-is c)
-    ∙ sym (replacement-long (s .args .x) (held s) (s .pre))
+    ∙ sym (replacement-long (s .args .operation) (held s) (s .pre))
 
 pub replacement-size-spec : {M : Type 1} → statement M
 replacement-size-spec =
