@@ -12,6 +12,7 @@ import itertools
 import os
 import random
 import resource
+import shutil
 import signal
 import subprocess
 import sys
@@ -27,10 +28,11 @@ LIMITED = ('worked-example', 'whole-replacement', 'every-answer')
 SERVED = ('whole-replacement', 'supersession')
 ENDING = (signal.SIGTERM, signal.SIGINT, signal.SIGHUP, signal.SIGPIPE, signal.SIGKILL)
 
-# A shell has a command in the background ignore SIGINT, and nohup SIGHUP; the programs below would inherit that.
+# A shell has a command in the background ignore SIGINT, and nohup SIGHUP; other starters block signals. The programs below would inherit that.
 for _number in ENDING[:3]:
     if signal.getsignal(_number) is signal.SIG_IGN:
         signal.signal(_number, signal.SIG_DFL)
+signal.pthread_sigmask(signal.SIG_UNBLOCK, ENDING + (signal.SIGCONT,))
 # Kinds of fault that kill, and errors that a system gives.
 KILLS = ('before', 'after', 'half')
 ERRORS = (errno.ENOSPC, errno.EIO)
@@ -147,14 +149,16 @@ def full_disk(program, logs):
     lines = HEAD + b'1 TB 0 1\n' + b''.join(b'%d MK 33 1\n' % number for number in range(2, 2002))
     place = os.path.join(FOLDER, 'disk')
     os.makedirs(place, exist_ok=True)
-    script = 'mount -t tmpfs -o size=4096 none "$1" || exit 77; "$0" >"$1/out"; echo "exit $?" >&2; cat "$1/out"'
-    run = subprocess.run(['unshare', '-m', 'sh', '-c', script, program, place], input=log, stdout=subprocess.PIPE, stderr=subprocess.PIPE,
-                         timeout=PATIENCE, check=False)
-    if run.returncode == 77 or b'unshare' in run.stderr:
+    # What mount says, as a hint on the machine's own file systems, is not the program's.
+    script = 'mount -t tmpfs -o size=4096 none "$1" 2>/dev/null || exit 77; "$0" >"$1/out" || exit; cat "$1/out"'
+    words = ['unshare', '-m', 'sh', '-c', script, program, place]
+    if shutil.which(words[0]):
+        run = subprocess.run(words, input=log, stdout=subprocess.PIPE, stderr=subprocess.PIPE, timeout=PATIENCE, check=False)
+    if not shutil.which(words[0]) or run.returncode == 77 or b'unshare' in run.stderr:
         print('faults: a full file system: not tried, it may not be mounted here')
         return 0
-    held('a full file system', lines[:4096], run.stdout)
-    check_said('a full file system', True, run.stderr.replace(b'exit 0\n', b''))
+    held('a full file system', (lines[:4096], 0), (run.stdout, run.returncode))
+    check_said('a full file system', True, run.stderr)
     return 1
 
 
