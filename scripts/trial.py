@@ -133,8 +133,8 @@ def reached_prover(said):
     return bool(re.search(r'^fn .*: ', said, re.M))
 
 
-def judge(said, f):
-    """What a check says of a changed function, and its first error."""
+def judge(said, f, code=True):
+    """What a check says of a function whose code or else whose contract is changed, and its first error."""
     line = re.search(r'^fn ' + re.escape(f.full) + r': (.*)$', said, re.M)
     if not line:
         sys.exit(f'the check says nothing of {f.full}')
@@ -149,6 +149,6 @@ def judge(said, f):
         return 'fact', word
     if not errors or word.startswith('could not tell'):
         return 'no verdict', errors[0] if errors else word
-    if by_hand(f):
+    if code and by_hand(f):
         return 'shape', 'by hand: ' + errors[0]
     return kind_of_errors(errors), errors[0]

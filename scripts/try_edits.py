@@ -75,7 +75,7 @@ class Trial:
         if not self.functions:
             self.judge_definition(said)
             return
-        found = [(*judge(said, f), f.full) for f in self.functions]
+        found = [(*judge(said, f, self.edit.kind == 'code'), f.full) for f in self.functions]
         self.verdict, self.why, self.where = min(found, key=lambda one: list(VERDICTS).index(one[0]))
 
     def judge_definition(self, said):
@@ -153,6 +153,7 @@ def check(room, crate, row, label):
     edits = [trial.edit for trial in row]
     texts = sources(edits)
     room.write(replaced(edits, texts))
+    print(f'{crate}: check {label}, {len(row)} edits', flush=True)
     said, _, took = room.dev(crate, f'{crate}.{label}')
     room.write(texts)
     if reached_prover(said) or not row[0].functions:
@@ -168,7 +169,7 @@ def check(room, crate, row, label):
         check(room, crate, row[:half], f'{label}a')
         check(room, crate, row[half:], f'{label}b')
         return
-    print(f'  {crate}, check {label}: {len(row)} edits, {took:.0f} s', flush=True)
+    print(f'{crate}: check {label}, {took:.0f} s', flush=True)
 
 
 def run_crate(room, source, crate, trials):
