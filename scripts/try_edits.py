@@ -148,7 +148,16 @@ def applies(row):
     return True
 
 
-def check(room, crate, row, label):
+def strays(source, crate, row, said):
+    """The functions whose own proofs fail though no edit is about them: an edit would reach further than was assumed. A changed
+    contract may fail those that call its function."""
+    about = {name for trial in row for name in trial.names()}
+    contracts = {name for trial in row if trial.edit.kind == 'contract' for name in trial.names()}
+    others = [f for f in source.functions if f.crate == crate and f.full not in about and not contracts & source.calls[f.full]]
+    return [f.full for f in others if own_errors(said, f)]
+
+
+def check(room, source, crate, row, label):
     """Checks a set of trials. Where the compiler refuses it, each half is checked, down to the edit that it refuses."""
     edits = [trial.edit for trial in row]
     texts = sources(edits)
@@ -157,6 +166,9 @@ def check(room, crate, row, label):
     said, _, took = room.dev(crate, f'{crate}.{label}')
     room.write(texts)
     if reached_prover(said) or not row[0].functions:
+        more = strays(source, crate, row, said) if row[0].functions else []
+        if more:
+            sys.exit(f"bin/near-misses: {crate}, check {label}: refused too, with no edit about them: {' '.join(more)}")
         for trial in row:
             trial.judge(said)
             trial.log(said)
@@ -166,8 +178,8 @@ def check(room, crate, row, label):
         row[0].log(said)
     else:
         half = len(row) // 2
-        check(room, crate, row[:half], f'{label}a')
-        check(room, crate, row[half:], f'{label}b')
+        check(room, source, crate, row[:half], f'{label}a')
+        check(room, source, crate, row[half:], f'{label}b')
         return
     print(f'{crate}: check {label}, {took:.0f} s', flush=True)
 
@@ -177,17 +189,17 @@ def run_crate(room, source, crate, trials):
     code = [trial for trial in trials if trial.functions]
     rows = together(source, code, False)
     for n, row in enumerate(rows, 1):
-        check(room, crate, row, f'code-{n}-of-{len(rows)}')
+        check(room, source, crate, row, f'code-{n}-of-{len(rows)}')
         report([trial for trial in row if trial.verdict != 'waits'])
     for n, row in enumerate(together(source, [trial for trial in code if trial.verdict == 'waits'], True), 1):
-        check(room, crate, row, f'again-{n}')
+        check(room, source, crate, row, f'again-{n}')
         report(row)
     # A definition changes what many proofs need: each is checked over what the edits of code have left.
     if not room.kept(crate)[1]:
         room.keep(crate)
     for trial in trials:
         if not trial.functions:
-            check(room, crate, [trial], trial.edit.label)
+            check(room, source, crate, [trial], trial.edit.label)
             report([trial])
 
 
