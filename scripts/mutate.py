@@ -5,6 +5,7 @@ Run it from the root of the repository, by bin/mutate:
 
     bin/mutate [COUNT] [SEED] [CRATE..]     COUNT mutants that compile (240), drawn by SEED (1), in the crates named or in all that have code
     bin/mutate --list [COUNT] [SEED] ..     what would be tried first, and how many there are to draw from; nothing is checked
+    bin/mutate --tables                     the tables of the last run once more
 
 What is changed: the bodies of functions in crates/*/src; no contract, constant, import or comment.
   operators   < <= > >= == !=, + -, += -=, * / %, && ||, & |, << >>; a ! is dropped
@@ -587,11 +588,13 @@ def main():
     listed = '--list' in words
     words = [w for w in words if w != '--list']
     if words == ['--tables']:
-        return tables()
+        tables()
+        return 0
     numbers = [int(w) for w in words if w.isdigit()]
     wanted = [w for w in words if not w.isdigit()] or CRATES
     if len(numbers) > 2 or not set(wanted) <= set(CRATES):
-        sys.exit('usage: bin/mutate [--list] [COUNT] [SEED] [CRATE..]; crates: ' + ' '.join(CRATES))
+        print('usage: bin/mutate [--list] [COUNT] [SEED] [CRATE..]; crates: ' + ' '.join(CRATES), file=sys.stderr)
+        return 2
     count, seed = (numbers + [240, 1][len(numbers):])[:2]
     source = Source(sorted(os.listdir('crates')))
     plan = quotas(source, count, seed)
@@ -601,12 +604,13 @@ def main():
             print(f'{crate}: {len(queue)} of {sum(len(o) for _, o in able)} mutants of {len(able)} functions')
             for _, order in queue:
                 print('  ' + ' '.join(row_of(source, order[0])[1:6]))
-        return None
+        return 0
     room = Room('bin/mutate', ROOM, CRATES)
     for crate in wanted:
         run_crate(room, source, crate, plan)
     tables()
+    return 0
 
 
 if __name__ == '__main__':
-    main()
+    sys.exit(main())

@@ -210,7 +210,8 @@ def main():
     chosen = [edit for edit in edits if edit.crate in wanted or f'{edit.crate}/{edit.label}' in wanted]
     unknown = set(wanted) - {edit.crate for edit in chosen} - {f'{edit.crate}/{edit.label}' for edit in chosen}
     if unknown:
-        sys.exit(f"bin/near-misses: there is no edit {' '.join(sorted(unknown))}")
+        print(f"bin/near-misses: there is no crate and no edit {' '.join(sorted(unknown))}", file=sys.stderr)
+        return 2
     # The order of crates.txt, from the bottom up.
     with open('crates.txt') as file:
         order = [line.split(':')[0] for line in file if ':' in line and not line.startswith('#')]
