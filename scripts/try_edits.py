@@ -26,7 +26,7 @@ VERDICTS = {
     'shape and fact': 'refused: its shape, then a fact',
     'shape': 'REFUSED FOR ITS SHAPE ALONE',
     'waits': 'NOT JUDGED: only a function that it calls is refused',
-    'no verdict': 'NOT JUDGED: the prover could not tell',
+    'no verdict': 'NOT JUDGED: its proof has no error of its own, or the prover could not tell',
     'let through': 'NOT REFUSED',
     'compiler': 'BAD EDIT: it is not well formed',
 }
