@@ -605,7 +605,7 @@ def main():
             for _, order in queue:
                 print('  ' + ' '.join(row_of(source, order[0])[1:6]))
         return 0
-    room = Room('bin/mutate', ROOM, CRATES)
+    room = Room('bin/mutate', ROOM, wanted)
     for crate in wanted:
         run_crate(room, source, crate, plan)
     tables()
