@@ -195,7 +195,7 @@ def run_crate(room, source, crate, trials):
         check(room, source, crate, row, f'again-{n}')
         report(row)
     # A definition changes what many proofs need: each is checked over what the edits of code have left.
-    if not room.kept(crate)[1]:
+    if code and not room.kept(crate)[1]:
         room.keep(crate)
     for trial in trials:
         if not trial.functions:
