@@ -1,18 +1,18 @@
 #!/usr/bin/env python3
-"""Lets things go wrong around the replay program and the example service, and fails where one of
-them does not do what docs/FAULTS.md says: bin/faults runs it, from the root of the repository.
+"""Lets things go wrong around the replay program and the example service, and fails where one of them does not stand it: bin/faults
+runs it, from the root of the repository.
 
     python3 scripts/faults.py REPLAY SERVICE SHIM FOLDER
 
-REPLAY is the replay program, SERVICE the example journal_service, SHIM the library of
-scripts/faults.c, FOLDER one for the service's files. The expected lines are the stored ones,
-samples/NAME.lines.
+REPLAY is the replay program, SERVICE the example journal_service, SHIM the library of scripts/faults.c, FOLDER one for the service's
+files. The expected lines are the stored ones, samples/NAME.lines.
 """
 import errno
 import itertools
 import os
 import random
 import resource
+import shutil
 import signal
 import subprocess
 import sys
@@ -28,11 +28,11 @@ LIMITED = ('worked-example', 'whole-replacement', 'every-answer')
 SERVED = ('whole-replacement', 'supersession')
 ENDING = (signal.SIGTERM, signal.SIGINT, signal.SIGHUP, signal.SIGPIPE, signal.SIGKILL)
 
-# A shell has a command in the background ignore SIGINT, and nohup SIGHUP; the programs below would
-# inherit that.
+# A shell has a command in the background ignore SIGINT, and nohup SIGHUP; other starters block signals. The programs below would inherit that.
 for _number in ENDING[:3]:
     if signal.getsignal(_number) is signal.SIG_IGN:
         signal.signal(_number, signal.SIG_DFL)
+signal.pthread_sigmask(signal.SIG_UNBLOCK, ENDING + (signal.SIGCONT,))
 # Kinds of fault that kill, and errors that a system gives.
 KILLS = ('before', 'after', 'half')
 ERRORS = (errno.ENOSPC, errno.EIO)
@@ -54,8 +54,7 @@ def marks(log):
 # ---- the replay program
 
 def waiting(program, log, count, lines):
-    """The program with so many bytes of a log given, all lines read that are due, and no more input
-    yet."""
+    """The program with so many bytes of a log given, all lines read that are due, and no more input yet."""
     run = subprocess.Popen([program], stdin=subprocess.PIPE, stdout=subprocess.PIPE, stderr=subprocess.PIPE, bufsize=0)
     run.stdin.write(log[:count])
     for line in lines:
@@ -64,9 +63,8 @@ def waiting(program, log, count, lines):
 
 
 def signals(program, logs):
-    """A signal that ends the program, after each record, in the head of the next one and in its
-    body: every line that was due is there, and nothing more. One that stops it for a while changes
-    nothing."""
+    """A signal that ends the program, after each record, in the head of the next one and in its body: every line that was due is there,
+    and nothing more. One that stops it for a while changes nothing."""
     cases = 0
     for name in SIGNALLED:
         log, lines = logs[name]
@@ -90,8 +88,7 @@ def signals(program, logs):
 
 
 def blocked(program, logs):
-    """A signal while the program waits for room in a pipe that nobody reads: what is in the pipe
-    are the first bytes of the right lines."""
+    """A signal while the program waits for room in a pipe that nobody reads: what is in the pipe are the first bytes of the right lines."""
     table = logs['worked-example'][0][:184]
     log = table + b'MK\0\0' * 60000
     lines = HEAD + b'1 TB 0 1\n' + b''.join(b'%d MK 33 1\n' % number for number in range(2, 60002))
@@ -127,8 +124,7 @@ def asleep(pid):
 
 
 def limited(program, logs):
-    """An output that takes so many bytes and no more, for every number of bytes: a file that may
-    not grow further, as on a full disk."""
+    """An output that takes so many bytes and no more, for every number of bytes: a file that may not grow further, as on a full disk."""
     cases = 0
     out = os.path.join(FOLDER, 'out')
     for name in LIMITED:
@@ -153,14 +149,16 @@ def full_disk(program, logs):
     lines = HEAD + b'1 TB 0 1\n' + b''.join(b'%d MK 33 1\n' % number for number in range(2, 2002))
     place = os.path.join(FOLDER, 'disk')
     os.makedirs(place, exist_ok=True)
-    script = 'mount -t tmpfs -o size=4096 none "$1" || exit 77; "$0" >"$1/out"; echo "exit $?" >&2; cat "$1/out"'
-    run = subprocess.run(['unshare', '-m', 'sh', '-c', script, program, place], input=log, stdout=subprocess.PIPE, stderr=subprocess.PIPE,
-                         timeout=PATIENCE, check=False)
-    if run.returncode == 77 or b'unshare' in run.stderr:
+    # What mount says, as a hint on the machine's own file systems, is not the program's.
+    script = 'mount -t tmpfs -o size=4096 none "$1" 2>/dev/null || exit 77; "$0" >"$1/out" || exit; cat "$1/out"'
+    words = ['unshare', '-m', 'sh', '-c', script, program, place]
+    if shutil.which(words[0]):
+        run = subprocess.run(words, input=log, stdout=subprocess.PIPE, stderr=subprocess.PIPE, timeout=PATIENCE, check=False)
+    if not shutil.which(words[0]) or run.returncode == 77 or b'unshare' in run.stderr:
         print('faults: a full file system: not tried, it may not be mounted here')
         return 0
-    held('a full file system', lines[:4096], run.stdout)
-    check_said('a full file system', True, run.stderr.replace(b'exit 0\n', b''))
+    held('a full file system', (lines[:4096], 0), (run.stdout, run.returncode))
+    check_said('a full file system', True, run.stderr)
     return 1
 
 
@@ -217,8 +215,7 @@ def faulty(words, number, kind, path=None):
 
 
 def traced(words, path=None):
-    """The calls of a program that nothing disturbs: name, path or descriptor, and the bytes that
-    are written."""
+    """The calls of a program that nothing disturbs: name, path or descriptor, and the bytes that are written."""
     trace = os.path.join(FOLDER, 'trace')
     remove(trace)
     environment = dict(os.environ, LD_PRELOAD=SHIM, FAULT_TRACE=trace)
@@ -238,8 +235,7 @@ def remove(path):
 # ---- the service
 
 class Service:
-    """The service on one log: the lines that it is to print, and the file that it is to keep after
-    each record."""
+    """The service on one log: the lines that it is to print, and the file that it is to keep after each record."""
 
     def __init__(self, program, name, log, lines):
         self.program, self.name = program, name
@@ -258,8 +254,7 @@ class Service:
         self.check_kept(ends)
 
     def check_kept(self, ends):
-        """The file has the place of a record that changed the table, and the revision that was
-        printed for it."""
+        """The file has the place of a record that changed the table, and the revision that was printed for it."""
         for number, kept in enumerate(self.kept[1:], 1):
             place, revision = int.from_bytes(kept[:8], 'big'), int.from_bytes(kept[78:86], 'big')
             held(f'{self.name}, the revision after record {number}', int(self.lines[number - 1].split()[2]), revision)
@@ -298,8 +293,8 @@ class Service:
         return next(number for number, line in enumerate(self.lines) if int(line.split()[0]) == place)
 
     def confirmed(self, asked, found, said):
-        """How many records are confirmed after a run that found this file and has said this. What
-        it said are the right lines, and the last one may be cut short."""
+        """How many records are confirmed after a run that found this file and has said this. What it said are the right lines, and
+        the last one may be cut short."""
         first = self.first_line(found)
         right = b''.join(self.lines[first:])
         held(asked + ', its lines', right[:len(said)], said)
@@ -313,8 +308,7 @@ class Service:
             raise Difference(f'{asked}: {confirmed} records are confirmed, and the file is another one (place {place})')
 
     def check_end(self, asked, confirmed):
-        """Started again, it leaves out no record that was not confirmed, and comes to the same
-        end."""
+        """Started again, it leaves out no record that was not confirmed, and comes to the same end."""
         found = self.stored()
         first = self.first_line(found)
         if first > confirmed:
@@ -372,8 +366,7 @@ def killed_again(services):
 
 
 def errors_at_every_call(services):
-    """Each call fails once, is interrupted or is short. An error ends the service with a message,
-    and the others change nothing."""
+    """Each call fails once, is interrupted or is short. An error ends the service with a message, and the others change nothing."""
     cases = 0
     for service in services:
         service.restart()
@@ -401,9 +394,8 @@ def errors_at_every_call(services):
 # ---- the power fails
 
 class Disk:
-    """What a disk may hold after the power fails: a file's bytes are sure once it is synced, and a
-    name once its folder is synced. A name that is not sure may be the old or the new one; bytes
-    that are not sure may be there, in part or not at all."""
+    """What a disk may hold after the power fails: a file's bytes are sure once it is synced, and a name once its folder is synced.
+    A name that is not sure may be the old or the new one; bytes that are not sure may be there, in part or not at all."""
 
     def __init__(self):
         self.files = {}     # path: [all bytes, bytes that are sure]
@@ -440,8 +432,7 @@ class Disk:
 
 
 def power_cuts(services):
-    """After each call the power fails: whatever the disk may hold then, nothing that was confirmed
-    is lost."""
+    """After each call the power fails: whatever the disk may hold then, nothing that was confirmed is lost."""
     cases = 0
     for service in services:
         service.restart()

@@ -1,246 +1,46 @@
 #!/usr/bin/env python3
-"""Changes the code in one place at a time and has the prover judge each change: a mutant that is
-still proved is let through.
+"""Changes the code in one place at a time and has the prover judge each change: a mutant that is still proved is let through.
 
 Run it from the root of the repository, by bin/mutate:
 
-    bin/mutate [COUNT] [SEED] [CRATE..]     COUNT mutants that compile (240), drawn by SEED (1), in
-                                            the crates named, or in the ten of CRATES below
-    bin/mutate --list [COUNT] [SEED] ..     what would be tried first, and how many there are to
-                                            draw from; nothing is checked
+    bin/mutate [COUNT] [SEED] [CRATE..]     COUNT mutants that compile (240), drawn by SEED (1), in the crates named or in all that have code
+    bin/mutate --list [COUNT] [SEED] ..     what would be tried first, and how many there are to draw from; nothing is checked
+    bin/mutate --tables                     the tables of the last run once more
 
 What is changed: the bodies of functions in crates/*/src; no contract, constant, import or comment.
+  operators   < <= > >= == !=, + -, += -=, * / %, && ||, & |, << >>; a ! is dropped
+  numbers     n + 1, n - 1, 0 and 1; a byte; a byte of a byte string; true and false
+  names       a variable for another of its type in scope, a constant for one of its type and another value, a field for one of its type
+              in its struct, a variant of an enum for one that holds the same, a called function for one with the same signature
 
-    operators   < <= > >= == !=, + -, += -=, * / %, && ||, & |, << >>; a ! is dropped
-    numbers     n + 1, n - 1, 0 and 1; a byte; a byte of a byte string; true and false
-    names       a variable for another of its type in scope, a constant for one of its type and
-                another value, a field for one of its type in its struct, a variant of an enum for
-                one that holds the same, a called function for one with the same signature
+How it is judged: a function's body matters to the proof of that function alone, since callers use its contract. So mutants of several
+functions of a crate are checked together, by `rt dev`, over what a first check of the unchanged crate kept. Each function then has its
+own line in the verdict. A mutant counts as refused where its function's own proof has an error of its own; one that is not proved only
+because it calls another changed function is checked again without that one. A mutant that the compiler refuses is counted, and another
+one of that function takes its place. All is done on a copy in target/mutate; the crates must be proved before (`rt check`).
 
-How it is judged: a function's body matters to the proof of that function alone, since callers use
-its contract. So mutants of several functions of a crate are checked together, by `rt dev`, over
-what a first check of the unchanged crate kept. Each function then has its own line in the verdict.
-
-A mutant counts as refused where its function's own proof has an error of its own; one that is not
-proved only because it calls another changed function is checked again without that one. A mutant
-that the compiler refuses is counted, and another one of that function takes its place. All is done
-on a copy in target/mutate; the crates must be proved before (`rt check`).
-
-Mutants that are let through are checked once more, those of a crate together and from nothing, by
-`rt check`. Then each is built into the programs replay, cases and call_cases, and what they write
-is held to what the gate holds it to (their files 'stdout', and scripts/replays.py). The results are
-target/mutate/CRATE.tsv, one line a mutant, and the tables that are printed at the end;
-target/mutate/log has what the prover said.
+Mutants that are let through are checked once more, those of a crate together and from nothing, by `rt check`. Then each is built into the
+programs replay, cases and call_cases, and what they write is held to what the gate holds it to (their files 'stdout', and scripts/replays.py).
+The results are target/mutate/CRATE.tsv, one line a mutant, and the tables that are printed at the end; target/mutate/log has what the prover said.
 """
 import os
 import random
 import re
-import shutil
 import subprocess
 import sys
-import time
+
+from source import CLOSE, OPEN, Source, closing, split
+from trial import TOGETHER, Room, by_hand, judge, proof_of, reached_prover, read
 
 CRATES = ['identity', 'records', 'layout', 'reader', 'writer', 'codec', 'control', 'journal', 'replay', 'voter_slots']
-TOGETHER = 40  # mutants in one check
 LEAST = 7  # mutants of a crate, however small
 ROOM = 'target/mutate'
 
-TOKEN = re.compile(r'''(?P<skip>\s+|//[^\n]*)|(?P<string>b"(?:\\.|[^"\\])*")|(?P<byte>b'(?:\\.|[^'\\])+')|(?P<life>'[a-z]\w*(?!'))
-|(?P<number>0x[0-9A-Fa-f_]+|\d[\d_]*(?:[ui](?:8|16|32|64|size))?)|(?P<name>[^\W\d]\w*)
-|(?P<op>\.\.=|<<=|>>=|\.\.|=>|->|::|<=|>=|==|!=|&&|\|\||<<|>>|[-+*/%&|^]=|.)''', re.X | re.S)
-OPEN, CLOSE = {'(': ')', '[': ']', '{': '}'}, ')]}'
 INTEGERS = {'u8', 'u16', 'u32', 'u64', 'usize', 'i8', 'i16', 'i32', 'i64', 'isize'}
 KEYWORDS = set('as break const continue else enum extern false fn for if impl in let loop match mod mut pub ref return self struct true type use while'.split())
 OPERATORS = {'<': ['<=', '>', '>=', '=='], '<=': ['<', '>', '>=', '=='], '>': ['>=', '<', '<=', '=='], '>=': ['>', '<', '<=', '=='],
              '==': ['!=', '<=', '>='], '!=': ['==', '<', '>'], '+': ['-'], '-': ['+'], '+=': ['-='], '-=': ['+='], '*': ['+', '/'],
              '/': ['%', '*'], '%': ['/'], '&&': ['||'], '||': ['&&'], '&': ['|'], '|': ['&'], '<<': ['>>'], '>>': ['<<']}
-
-
-class Token:
-    def __init__(self, kind, text, at):
-        self.kind, self.text, self.at = kind, text, at
-
-
-def tokens_of(text):
-    return [Token(m.lastgroup, m.group(), m.start()) for m in TOKEN.finditer(text) if m.lastgroup != 'skip']
-
-
-def closing(tokens, i):
-    """The place of the bracket that closes the one at i."""
-    depth = 0
-    while True:
-        depth += (tokens[i].text in OPEN) - (tokens[i].text in CLOSE)
-        if depth == 0:
-            return i
-        i += 1
-
-
-def split(tokens, start, end):
-    """The parts between commas outside brackets."""
-    parts, depth, first = [], 0, start
-    for i in range(start, end):
-        depth += (tokens[i].text in OPEN) - (tokens[i].text in CLOSE)
-        if tokens[i].text == ',' and depth == 0:
-            parts.append((first, i))
-            first = i + 1
-    return [p for p in parts + [(first, end)] if p[0] < p[1]]
-
-
-class Function:
-    def __init__(self, **parts):
-        self.__dict__.update(parts)
-
-
-class Source:
-    """All that the crates declare: functions, structs, enums, constants and types, by their last
-    name."""
-
-    def __init__(self, crates):
-        self.structs, self.enums, self.aliases, self.constants, self.values = {}, {}, {}, {}, {}
-        self.signatures, self.functions, self.texts, self.scope = {}, [], {}, {}
-        self.public, self.whole = {}, []
-        for crate in crates:
-            folder = f'crates/{crate}/src'
-            for name in sorted(os.listdir(folder)):
-                with open(f'{folder}/{name}') as file:
-                    self.module(crate, f'{folder}/{name}', file.read())
-        for scope, module in self.whole:
-            for name in self.public.get(module, []):
-                scope.setdefault(name, name)
-        self.calls = {}
-        for crate in crates:
-            self.calls.update(reaches([f for f in self.functions if f.crate == crate]))
-
-    def type_text(self, tokens, start, end):
-        words = [t.text for t in tokens[start:end] if t.kind != 'life']
-        return ' '.join(words).replace('& mut', '&mut ').replace(' ', '') if words else '()'
-
-    def expand(self, kind):
-        while kind in self.aliases:
-            kind = self.aliases[kind]
-        return kind
-
-    def module(self, crate, path, text):
-        tokens = tokens_of(text)
-        self.texts[path] = (text, tokens)
-        base = os.path.basename(path)[:-3]
-        prefix = crate + ('' if base in ('lib', 'main') else '::' + base)
-        scope = self.scope.setdefault(path, {})
-        i, owner, owner_end = 0, None, 0
-        while i < len(tokens):
-            word = tokens[i].text
-            if owner and i >= owner_end:
-                owner = None
-            if word == '#':
-                i = closing(tokens, i + 1) + 1
-            elif word in ('ghost', 'use', 'mod'):
-                end = i
-                while tokens[end].text != ';':
-                    end += 1
-                if word == 'use':
-                    for k in range(i, end):
-                        if tokens[k].kind == 'name' and tokens[k + 1].text in (';', ',', '}') and tokens[k - 1].text != 'as':
-                            scope[tokens[k].text] = tokens[k].text
-                        if tokens[k].text == 'as':
-                            scope[tokens[k + 1].text] = tokens[k - 1].text
-                            scope.pop(tokens[k - 1].text, None)
-                    # a module that is imported whole: what it declares is added when all modules
-                    # are read
-                    if tokens[end - 1].text == '*':
-                        names = [t.text for t in tokens[i + 1:end] if t.kind == 'name']
-                        self.whole.append((scope, '::'.join([crate] + names[1:] if names[0] == 'crate' else names)))
-                i = end + 1
-            elif word == 'const' or word == 'type':
-                name, end, depth = tokens[i + 1].text, i, 0
-                while depth or tokens[end].text != ';':
-                    depth += (tokens[end].text in OPEN) - (tokens[end].text in CLOSE)
-                    end += 1
-                equals, depth = i, 0
-                while tokens[equals].text != '=':
-                    equals += 1
-                if word == 'const':
-                    self.constants.setdefault(name, self.type_text(tokens, i + 3, equals))
-                    self.values.setdefault(name, self.type_text(tokens, equals + 1, end))
-                    scope[name] = name
-                    if tokens[i - 1].text == 'pub':
-                        self.public.setdefault(prefix, []).append(name)
-                else:
-                    self.aliases[name] = self.type_text(tokens, equals + 1, end)
-                i = end + 1
-            elif word in ('struct', 'enum'):
-                name, begin = tokens[i + 1].text, i + 2
-                while tokens[begin].text not in '({;':
-                    begin += 1
-                end = closing(tokens, begin) if tokens[begin].text != ';' else begin
-                (self.struct if word == 'struct' else self.enum)(name, tokens, begin, end)
-                i = end + 1
-            elif word == 'impl':
-                owner, owner_end = tokens[i + 1].text, closing(tokens, i + 2)
-                i += 3
-            elif word == 'fn':
-                if not owner and tokens[i - 1].text == 'pub':
-                    self.public.setdefault(prefix, []).append(tokens[i + 1].text)
-                i = self.function(crate, path, prefix, owner, tokens, i, scope)
-            else:
-                i += 1
-
-    def fields(self, tokens, begin, end):
-        found = {}
-        for a, b in split(tokens, begin, end):
-            while tokens[a].text == 'pub':
-                a += 1
-            found[tokens[a].text] = self.type_text(tokens, a + 2, b)
-        return found
-
-    def struct(self, name, tokens, begin, end):
-        if tokens[begin].text == '{':
-            self.structs[name] = self.fields(tokens, begin + 1, end)
-
-    def enum(self, name, tokens, begin, end):
-        self.enums[name] = {}
-        for a, b in split(tokens, begin + 1, end):
-            held = []
-            if b > a + 1 and tokens[a + 1].text == '(':
-                held = [(None, self.type_text(tokens, x, y)) for x, y in split(tokens, a + 2, b - 1)]
-            elif b > a + 1 and tokens[a + 1].text == '{':
-                held = list(self.fields(tokens, a + 2, b - 1).items())
-            self.enums[name][tokens[a].text] = held
-
-    def function(self, crate, path, prefix, owner, tokens, i, scope):
-        name, at = tokens[i + 1].text, i + 2
-        while tokens[at].text != '(':
-            at += 1
-        end = closing(tokens, at)
-        parameters = []
-        for a, b in split(tokens, at + 1, end):
-            while tokens[a].text == 'mut':
-                a += 1
-            if tokens[a].text in ('self', '&'):
-                parameters.append(('self', owner))
-            else:
-                parameters.append((tokens[a].text, self.type_text(tokens, a + 2, b)))
-        at = end + 1
-        result = '()'
-        if tokens[at].text == '->':
-            first = at + 1
-            while tokens[at].text not in ('requires', 'ensures', 'ghost', '{'):
-                at += 1
-            result = self.type_text(tokens, first, at)
-        clauses = set()
-        while tokens[at].text != '{':
-            clauses.add(tokens[at].text)
-            while tokens[at].text != '{':
-                at += 1
-            at = closing(tokens, at) + 1
-        end = closing(tokens, at)
-        full = f'{prefix}::{owner}::{name}' if owner else f'{prefix}::{name}'
-        made = Function(crate=crate, path=path, name=name, full=full, owner=owner, parameters=parameters, result=result, clauses=clauses,
-                        tokens=tokens, body=(at + 1, end))
-        self.functions.append(made)
-        self.signatures.setdefault(name, made)
-        if not owner:
-            scope[name] = name
-        return end + 1
 
 
 class Body:
@@ -255,8 +55,7 @@ class Body:
         self.walk()
 
     def masks(self):
-        """Which tokens stand in patterns and types; and which braces are those of a struct's
-        literal."""
+        """Which tokens stand in patterns and types; and which braces are those of a struct's literal."""
         t, self.pattern, self.typed, self.literal, self.arm = self.t, set(), set(), set(), {}
         for i in range(self.first, self.end):
             word = t[i].text
@@ -327,20 +126,27 @@ class Body:
         if first.text == '*':
             kind = self.kind_of(start + 1, end, variables)
             return kind.replace('&mut', '').lstrip('&') if kind else None
-        if first.kind != 'name':
-            return None
-        i, kind = start, None
+        return self.kind_of_name(start, end, variables) if first.kind == 'name' else None
+
+    def kind_of_name(self, start, end, variables):
+        """The type of an expression that starts with a name: a call, a variant, a struct, a variable or a constant, and what follows it."""
+        t, first, kind, i = self.t, self.t[start].text, None, start
         if t[i + 1].text == '(':
-            called = self.source.signatures.get(self.scope.get(first.text, first.text))
+            called = self.source.signatures.get(self.scope.get(first, first))
             kind, i = (called.result if called else None), closing(t, i + 1) + 1
-        elif t[i + 1].text == '::' and first.text in self.source.enums:
-            return first.text
-        elif t[i + 1].text == '{' and first.text in self.source.structs:
-            return first.text if closing(t, i + 1) == end - 1 else None
-        elif first.text in variables:
-            kind, i = variables[first.text], i + 1
-        elif first.text in self.source.constants:
-            kind, i = self.source.constants[first.text], i + 1
+        elif t[i + 1].text == '::' and first in self.source.enums:
+            return first
+        elif t[i + 1].text == '{' and first in self.source.structs:
+            return first if closing(t, i + 1) == end - 1 else None
+        elif first in variables:
+            kind, i = variables[first], i + 1
+        elif first in self.source.constants:
+            kind, i = self.source.constants[first], i + 1
+        return self.kind_after(kind, i, end)
+
+    def kind_after(self, kind, i, end):
+        """The type of what calls of methods, fields and indices from i on make of a value."""
+        t = self.t
         while kind and i < end:
             kind = self.source.expand(kind).replace('&mut', '').lstrip('&')
             if t[i].text == '.' and i + 2 < len(t) and t[i + 2].text == '(':
@@ -368,24 +174,11 @@ class Body:
         t, blocks = self.t, [dict(self.f.parameters)]
         later = {}
         for i in range(self.first, self.end):
-            word, kind = t[i].text, t[i].kind
+            word = t[i].text
             variables = {name: k for block in blocks for name, k in block.items()}
             if word == 'let':
-                end = max(k for k in range(i, self.end) if set(range(i, k + 1)) <= self.pattern) + 1
-                k, depth = end, 0
-                inner = t[i - 1].text in ('if', 'while')
-                while depth or t[k].text not in (('{',) if inner else (';',)):
-                    depth += (t[k].text in OPEN) - (t[k].text in CLOSE)
-                    k += 1
-                stop = k
-                for x in range(end, k):
-                    if t[x].text == 'else' and not inner:
-                        stop = x
-                        break
-                names = self.bound(i + 1, end)
-                if len(names) == 1 and None in names.values() and t[end - 1].text in names:
-                    names = {name: self.kind_of(end + 1, stop, variables) for name in names}
-                later.setdefault(k, {}).update(names)
+                end, names = self.bound_by_let(i, variables)
+                later.setdefault(end, {}).update(names)
             if word == '{':
                 blocks.append({})
             if i in later:
@@ -394,25 +187,43 @@ class Body:
                 blocks.pop()
             if word == '=>':
                 blocks[-1].update(self.bound(self.arm[i], i))
-            if i in self.typed:
-                continue
-            if i in self.pattern:
-                if kind in ('number', 'byte'):
-                    self.number(i)
-                continue
-            if kind in ('number', 'byte') and t[i - 1].text != '.':
+            if i not in self.typed:
+                self.change(i, variables)
+
+    def bound_by_let(self, i, variables):
+        """Where the variables that a `let` binds begin to be in scope, and these with their types."""
+        t = self.t
+        end = max(k for k in range(i, self.end) if set(range(i, k + 1)) <= self.pattern) + 1
+        k, depth = end, 0
+        inner = t[i - 1].text in ('if', 'while')
+        while depth or t[k].text != ('{' if inner else ';'):
+            depth += (t[k].text in OPEN) - (t[k].text in CLOSE)
+            k += 1
+        stop = k if inner else next((x for x in range(end, k) if t[x].text == 'else'), k)
+        names = self.bound(i + 1, end)
+        if len(names) == 1 and None in names.values() and t[end - 1].text in names:
+            names = {name: self.kind_of(end + 1, stop, variables) for name in names}
+        return k, names
+
+    def change(self, i, variables):
+        """The changes of one token."""
+        word, kind = self.t[i].text, self.t[i].kind
+        if i in self.pattern:
+            if kind in ('number', 'byte'):
                 self.number(i)
-            elif kind == 'string':
-                body = word[2:-1]
-                if body and '\\' not in body:
-                    k = len(body) // 2
-                    self.put('number', i, f'b"{body[:k]}{chr(ord(body[k]) ^ 1)}{body[k + 1:]}"')
-            elif word in ('true', 'false'):
-                self.put('number', i, 'false' if word == 'true' else 'true')
-            elif kind == 'op':
-                self.operator(i)
-            elif kind == 'name' and word not in KEYWORDS:
-                self.name(i, variables)
+        elif kind in ('number', 'byte') and self.t[i - 1].text != '.':
+            self.number(i)
+        elif kind == 'string':
+            body = word[2:-1]
+            if body and '\\' not in body:
+                k = len(body) // 2
+                self.put('number', i, f'b"{body[:k]}{chr(ord(body[k]) ^ 1)}{body[k + 1:]}"')
+        elif word in ('true', 'false'):
+            self.put('number', i, 'false' if word == 'true' else 'true')
+        elif kind == 'op':
+            self.operator(i)
+        elif kind == 'name' and word not in KEYWORDS:
+            self.name(i, variables)
 
     def number(self, i):
         word = self.t[i].text
@@ -437,60 +248,65 @@ class Body:
                 self.put('operator', i, new)
 
     def name(self, i, variables):
-        t, source, word = self.t, self.source, self.t[i].text
+        t, word = self.t, self.t[i].text
         before, after = t[i - 1].text, t[i + 1].text
         if before == '::':
-            held = source.enums.get(t[i - 2].text)
-            if held and word in held:
-                for other in held:
-                    if other != word and [k for _, k in held[other]] == [k for _, k in held[word]]:
-                        self.put('variant', i, other)
+            self.variant(i)
+        elif after == '::' or (after == ':' and t[i + 2].text != ':') or (after == '{' and i + 1 in self.literal):
             return
-        if after == '::' or (after == ':' and t[i + 2].text != ':') or (after == '{' and i + 1 in self.literal):
-            return
-        if before == '.':
-            if after == '(':
-                return
-            start = i - 1
-            while t[start].text == '.' or t[start].text == ']':
-                if t[start].text == ']':
-                    depth = 0
-                    while True:
-                        depth += (t[start].text in CLOSE) - (t[start].text in OPEN)
-                        if depth == 0:
-                            break
-                        start -= 1
-                start -= 1
-            kind = self.kind_of(start, i - 1, variables)
-            kind = source.expand(kind).replace('&mut', '').lstrip('&') if kind else None
-            owners = [source.structs[kind]] if kind in source.structs else [s for s in source.structs.values() if word in s]
-            others = {x for s in owners for x in s if x != word and word in s and self.alike(s[x], s[word]) and s[x] == s[word]}
-            for other in sorted(others):
-                self.put('field', i, other)
-            return
-        if after == '(':
-            mine = source.signatures.get(self.scope.get(word, word))
-            if mine is None:
-                return
-            shape = self.shape(mine)
-            for name, real in sorted(self.scope.items()):
-                other = source.signatures.get(real)
-                if other and name != word and other.owner is None and self.shape(other) == shape:
-                    # A call that leads back to the caller would ask for another kind of proof.
-                    if other.full != self.f.full and self.f.full not in source.calls[other.full]:
-                        self.put('function', i, name)
-            return
-        if word in source.constants and word not in variables:
-            for name, real in sorted(self.scope.items()):
-                if real in source.constants and source.expand(source.constants[real]) == source.expand(source.constants[word]):
-                    if source.values[real] != source.values[word]:
-                        self.put('constant', i, name)
-            return
-        if word in variables:
+        elif before == '.':
+            if after != '(':
+                self.field(i, variables)
+        elif after == '(':
+            self.called(i)
+        elif word in self.source.constants and word not in variables:
+            self.constant(i)
+        elif word in variables:
             short = self.short(i)
             for other in sorted(variables):
                 if other != word and other != '_' and self.alike(variables[other], variables[word]):
                     self.put('variable', i, f'{word}: {other}' if short else other)
+
+    def variant(self, i):
+        word, held = self.t[i].text, self.source.enums.get(self.t[i - 2].text)
+        if held and word in held:
+            for other in held:
+                if other != word and [k for _, k in held[other]] == [k for _, k in held[word]]:
+                    self.put('variant', i, other)
+
+    def field(self, i, variables):
+        t, source, word, start = self.t, self.source, self.t[i].text, i - 1
+        while t[start].text == '.' or t[start].text == ']':
+            if t[start].text == ']':
+                depth = 0
+                while True:
+                    depth += (t[start].text in CLOSE) - (t[start].text in OPEN)
+                    if depth == 0:
+                        break
+                    start -= 1
+            start -= 1
+        kind = self.kind_of(start, i - 1, variables)
+        kind = source.expand(kind).replace('&mut', '').lstrip('&') if kind else None
+        owners = [source.structs[kind]] if kind in source.structs else [s for s in source.structs.values() if word in s]
+        for other in sorted({x for s in owners for x in s if x != word and word in s and s[x] == s[word]}):
+            self.put('field', i, other)
+
+    def called(self, i):
+        source, word = self.source, self.t[i].text
+        mine = source.signatures.get(self.scope.get(word, word))
+        for name, real in sorted(self.scope.items()) if mine else []:
+            other = source.signatures.get(real)
+            if other and name != word and other.owner is None and self.shape(other) == self.shape(mine):
+                # A call that leads back to the caller would ask for another kind of proof.
+                if other.full != self.f.full and self.f.full not in source.calls[other.full]:
+                    self.put('function', i, name)
+
+    def constant(self, i):
+        source, word = self.source, self.t[i].text
+        for name, real in sorted(self.scope.items()):
+            if real in source.constants and source.expand(source.constants[real]) == source.expand(source.constants[word]):
+                if source.values[real] != source.values[word]:
+                    self.put('constant', i, name)
 
     def shape(self, function):
         return [self.source.expand(k) for _, k in function.parameters], self.source.expand(function.result)
@@ -522,8 +338,7 @@ class Mutant:
 
 
 def drawn(source, function, seed):
-    """All mutants of a function in the order in which they are tried: first a kind, then a place,
-    then what stands there instead."""
+    """All mutants of a function in the order in which they are tried: first a kind, then a place, then what stands there instead."""
     pick = random.Random(f'{seed}:{function.full}')
     groups = {}
     for kind, i, new in Body(source, function).changes:
@@ -541,23 +356,8 @@ def drawn(source, function, seed):
     return order
 
 
-def reaches(functions):
-    """For each function of a crate the functions of the crate that it calls, directly or through
-    others; by name, so rather too many."""
-    by_name = {}
-    for f in functions:
-        by_name.setdefault(f.name, []).append(f.full)
-    calls = {f.full: {c for k in range(*f.body) if f.tokens[k + 1].text == '(' for c in by_name.get(f.tokens[k].text, [])} - {f.full} for f in functions}
-    while True:
-        wider = {f: calls[f].union(*(calls[g] for g in calls[f])) for f in calls}
-        if wider == calls:
-            return calls
-        calls = wider
-
-
 def quotas(source, count, seed):
-    """The functions of each crate that are changed, and how often: by the number of functions of
-    the crate that have a place to change."""
+    """The functions of each crate that are changed, and how often: by the number of functions of the crate that have a place to change."""
     able = {}
     for f in source.functions:
         if f.crate in CRATES:
@@ -600,73 +400,6 @@ def apart(mutants, calls):
     return row, rest
 
 
-def read(path):
-    with open(path) as file:
-        return file.read()
-
-
-class Room:
-    """The copy in which mutants are checked."""
-
-    def __init__(self):
-        missing = [c for c in CRATES if not os.path.exists(f'target/stamp/{c}')]
-        if missing:
-            sys.exit(f"bin/mutate: not proved yet: {' '.join(missing)}; run 'rt check {' '.join(CRATES)}' first")
-        shutil.rmtree(f'{ROOM}/crates', ignore_errors=True)
-        os.makedirs(f'{ROOM}/log', exist_ok=True)
-        shutil.copytree('crates', f'{ROOM}/crates', ignore=shutil.ignore_patterns('must-fail'))
-        shutil.copy('crates.txt', f'{ROOM}/crates.txt')
-        for part in ('rlib', 'stamp'):
-            os.makedirs(f'{ROOM}/target/{part}', exist_ok=True)
-        for crate in sorted(os.listdir('target/stamp')):
-            if not os.path.exists(f'{ROOM}/target/stamp/{crate}') or read(f'{ROOM}/target/stamp/{crate}') != read(f'target/stamp/{crate}'):
-                self.restore(crate)
-
-    def restore(self, crate):
-        """The crate's library as it was proved in the repository."""
-        rlib = f'target/rlib/{crate}.rlib'
-        if os.path.isdir(rlib):
-            shutil.rmtree(f'{ROOM}/{rlib}', ignore_errors=True)
-            shutil.copytree(rlib, f'{ROOM}/{rlib}', symlinks=True)
-        shutil.copy(f'target/stamp/{crate}', f'{ROOM}/target/stamp/{crate}')
-
-    def write(self, texts):
-        for path, text in texts.items():
-            with open(f'{ROOM}/{path}', 'w') as file:
-                file.write(text)
-
-    def run(self, words, log):
-        began = time.time()
-        run = subprocess.run(['rt'] + words, cwd=ROOM, stdout=subprocess.PIPE, stderr=subprocess.STDOUT, env={**os.environ, 'RT_CUT': '0'})
-        said = run.stdout.decode(errors='replace')
-        with open(f'{ROOM}/log/{log}', 'w') as file:
-            file.write(said)
-        return said, run.returncode, time.time() - began
-
-    def prime(self, crate):
-        """Checks the unchanged crate, and keeps what was checked for later runs, until the crate
-        changes."""
-        kept, used = f'{ROOM}/target/kept/{crate}', f'{ROOM}/target/inc/{crate}'
-        stamp = read(f'target/stamp/{crate}')
-        if os.path.exists(f'{kept}.stamp') and read(f'{kept}.stamp') == stamp:
-            return
-        shutil.rmtree(kept, ignore_errors=True)
-        shutil.rmtree(used, ignore_errors=True)
-        said, status, took = self.run(['dev', crate], f'{crate}.unchanged')
-        if status != 0:
-            sys.exit(f'bin/mutate: the unchanged crate {crate} is not proved: see {ROOM}/log/{crate}.unchanged')
-        print(f'{crate}: unchanged, proved ({took:.0f} s)', flush=True)
-        shutil.copytree(used, kept, symlinks=True)
-        with open(f'{kept}.stamp', 'w') as file:
-            file.write(stamp)
-
-    def dev(self, crate, log):
-        kept, used = f'{ROOM}/target/kept/{crate}', f'{ROOM}/target/inc/{crate}'
-        shutil.rmtree(used, ignore_errors=True)
-        shutil.copytree(kept, used, symlinks=True)
-        return self.run(['dev', crate], log)
-
-
 def applied(source, mutants):
     """The files with the mutants in them."""
     texts = {}
@@ -680,58 +413,6 @@ def applied(source, mutants):
 
 def originals(source, mutants):
     return {m.f.path: source.texts[m.f.path][0] for m in mutants}
-
-
-# What the prover says where a proof names what the changed code does not have: refused for its
-# shape, and not for a fact.
-SHAPE = re.compile(r'has no (field )?`|this pattern needs')
-
-
-def own_errors(said, f):
-    """What the prover said of a function's own proof; what only waits for another declaration is
-    left out."""
-    place = '/'.join(['proofs'] + f.full.split('::')[1:]) + '/'
-    found, mine = [], False
-    for line in said.split('\n'):
-        if line.startswith('  '):
-            if mine:
-                found[-1] += line[1:]
-        else:
-            mine = place in line and ': error: ' in line and 'was not admitted' not in line
-            if mine:
-                found.append(line[line.index(place) + len(place):])
-    return found
-
-
-def by_hand(f):
-    """Whether a function's proof walks its code by hand, so that it cites the code's text."""
-    return os.path.exists(proof_of(f)) and 'Tie' not in read(proof_of(f))
-
-
-def proof_of(f):
-    return f'crates/{f.crate}/proofs/' + '/'.join(f.full.split('::')[1:]) + '/Proof.antt'
-
-
-def judge(said, m):
-    line = re.search(r'^fn ' + re.escape(m.f.full) + r': (.*)$', said, re.M)
-    if not line:
-        sys.exit(f'bin/mutate: the check says nothing of {m.f.full}')
-    word = line.group(1)
-    if word.startswith('proved'):
-        m.verdict = 'let through'
-        return
-    errors = own_errors(said, m.f)
-    m.why = errors[0] if errors else word
-    if word.startswith('could not tell'):
-        m.verdict = 'no verdict'
-    elif not errors and 'it calls' in word:
-        m.verdict = 'waits'
-    elif by_hand(m.f):
-        m.verdict, m.why = 'shape', 'by hand: ' + m.why
-    elif not SHAPE.search(m.why):
-        m.verdict = 'fact'
-    else:
-        m.verdict = 'shape' if all(SHAPE.search(e) for e in errors) else 'shape and fact'
 
 
 def refused_by_compiler(source, said, mutants):
@@ -749,9 +430,8 @@ def refused_by_compiler(source, said, mutants):
 
 
 def try_batch(room, source, crate, row, label, report):
-    """Checks the mutants of a batch: how many checks it took, and how long. One that the compiler
-    refuses makes room for the next of its function; one that is not proved only because it calls
-    another changed function is checked again without that one."""
+    """Checks the mutants of a batch: how many checks it took, and how long. One that the compiler refuses makes room for the next of its
+    function; one that is not proved only because it calls another changed function is checked again without that one."""
     rest = {f.full: order for f, order in row}
     current, waiting = [order.pop(0) for _, order in row if order], []
     turn, checks, spent = 0, 0, 0
@@ -761,10 +441,10 @@ def try_batch(room, source, crate, row, label, report):
         said, _, took = room.dev(crate, f'{crate}.{label}.{turn}')
         room.write(originals(source, current))
         spent += took
-        if re.search(r'^fn .*: ', said, re.M):
+        if reached_prover(said):
             checks += 1
             for m in current:
-                judge(said, m)
+                m.verdict, m.why = judge(said, m.f)
                 if m.verdict != 'waits':
                     report(m)
             waiting += [m for m in current if m.verdict == 'waits']
@@ -815,8 +495,7 @@ def run_crate(room, source, crate, plan):
 
 
 def rename(room, source, crate, mutants):
-    """Where another function is called and the proof only lacks its name: the same again, with that
-    name in the proof."""
+    """Where another function is called and the proof only lacks its name: the same again, with that name in the proof."""
     while mutants:
         row = list({m.f.full: m for m in reversed(mutants)}.values())
         mutants = [m for m in mutants if m not in row]
@@ -828,7 +507,7 @@ def rename(room, source, crate, mutants):
         said, _, took = room.dev(crate, f'{crate}.renamed')
         room.write({**originals(source, row), **proofs})
         for m in row:
-            judge(said, m)
+            m.verdict, m.why = judge(said, m.f)
             if m.verdict in ('fact', 'shape and fact'):
                 m.verdict, m.why = 'shape and fact', 'with its name in the proof: ' + m.why
             else:
@@ -839,8 +518,7 @@ def rename(room, source, crate, mutants):
 
 
 def confirm(room, source, crate, through):
-    """Those that were let through, together and from nothing: one mutant of each function at a
-    time. Then the crate is as it was."""
+    """Those that were let through, together and from nothing: one mutant of each function at a time. Then the crate is as it was."""
     while through:
         row = list({m.f.full: m for m in reversed(through)}.values())
         through = [m for m in through if m not in row]
@@ -854,8 +532,7 @@ def confirm(room, source, crate, through):
 
 
 def caught(room, source, m):
-    """Which run of the gate shows that a program is wrong that was let through: the programs'
-    stored output, or the stored logs."""
+    """Which run of the gate shows that a program is wrong that was let through: the programs' stored output, or the stored logs."""
     room.write(applied(source, [m]))
     try:
         for name in ('replay', 'cases', 'call_cases'):
@@ -911,11 +588,13 @@ def main():
     listed = '--list' in words
     words = [w for w in words if w != '--list']
     if words == ['--tables']:
-        return tables()
+        tables()
+        return 0
     numbers = [int(w) for w in words if w.isdigit()]
     wanted = [w for w in words if not w.isdigit()] or CRATES
     if len(numbers) > 2 or not set(wanted) <= set(CRATES):
-        sys.exit('usage: bin/mutate [--list] [COUNT] [SEED] [CRATE..]; crates: ' + ' '.join(CRATES))
+        print('usage: bin/mutate [--list] [COUNT] [SEED] [CRATE..]; crates: ' + ' '.join(CRATES), file=sys.stderr)
+        return 2
     count, seed = (numbers + [240, 1][len(numbers):])[:2]
     source = Source(sorted(os.listdir('crates')))
     plan = quotas(source, count, seed)
@@ -923,14 +602,15 @@ def main():
         for crate in wanted:
             queue, able = plan[crate]
             print(f'{crate}: {len(queue)} of {sum(len(o) for _, o in able)} mutants of {len(able)} functions')
-            for f, order in queue:
+            for _, order in queue:
                 print('  ' + ' '.join(row_of(source, order[0])[1:6]))
-        return None
-    room = Room()
+        return 0
+    room = Room('bin/mutate', ROOM, wanted)
     for crate in wanted:
         run_crate(room, source, crate, plan)
     tables()
+    return 0
 
 
 if __name__ == '__main__':
-    main()
+    sys.exit(main())
