@@ -32,10 +32,28 @@ same t buffer h answer p v l =
     let q = p ∙ ap (decoded blankVoterSlotTable) (restarted-same t h v buffer l) in
     (λ i. q i .0, λ i. q i .1)
 
+-- the start, from after the table was written; that place, from where the bytes are known and from where they were refused
+abbrev start : tie.After-encode-voter-slot-table → tie.Start
+start c = c .before .before .before
+
+abbrev called-write : tie.After-known-told → tie.After-encode-voter-slot-table
+called-write c = c .before .before .before .before .before
+
+abbrev refused-write : tie.After-no-table → tie.After-encode-voter-slot-table
+refused-write c = c .before .before .before .before .before .before
+
+-- the arguments
+abbrev table-of : tie.After-encode-voter-slot-table → VoterSlotTable
+table-of c = start c .args .table
+
+abbrev buffer-of : tie.After-encode-voter-slot-table → List ℕ
+buffer-of c = start c .args .buffer .now
+
 -- what was written
-written : (c : tie.After-known-told) → encodeVoterSlotTable (c .before .before .before .before .before .before .before .before .args .table) (c .before .before .before .before .before .before .before .before .args .buffer .now)
-    ≡ ok (c .before .before .before .before .before .encode-voter-slot-table .last .0) (c .before .written .given .0 .0)
-written c = told (c .before .before .before .before .before .before .before .before .args .buffer .now) _ (c .before .before .before .before .before .encode-voter-slot-table .ensures) (c .before .written .given .1)
+written : (c : tie.After-known-told)
+    → encodeVoterSlotTable (table-of (called-write c)) (buffer-of (called-write c))
+    ≡ ok (called-write c .encode-voter-slot-table .last .0) (c .before .written .given .0 .0)
+written c = told (buffer-of (called-write c)) _ (called-write c .encode-voter-slot-table .ensures) (c .before .written .given .1)
 
 encode-voter-slot-table-requires : tie.Need-encode-voter-slot-table-requires
 encode-voter-slot-table-requires c κs = search needs
@@ -58,19 +76,23 @@ same-length c = search needs
 returns : tie.Need-returns
 unfolding restartOutcome
 returns c =
-    let b = c .before .before .before .before .before .before .before .before .before .args .buffer .now in
-    let t = c .before .before .before .before .before .before .before .before .before .args .table in
-    let w = c .before .before .before .before .before .before .encode-voter-slot-table .ensures in
-    let p = decoded-no blankVoterSlotTable (c .no-table .ensures ∙ ap (λ a. decoded blankVoterSlotTable (no (numberOf a))) (c .before .why .ensures ∙ ap whyOf (c .before .before .enum-told .given .1))) (restarted-no t b (told-not b _ w (c .before .before .enum-told .given .1))) in
-    (λ i. (p i, w i .1), same t b (held (c .before .before .before .before .before .before .before .before .before)) _ p)
+    let called = refused-write c in
+    let b = buffer-of called in
+    let t = table-of called in
+    let w = called .encode-voter-slot-table .ensures in
+    let refused = c .before .before .enum-told .given .1 in
+    let p = decoded-no blankVoterSlotTable
+    (c .no-table .ensures ∙ ap (λ a. decoded blankVoterSlotTable (no (numberOf a))) (c .before .why .ensures ∙ ap whyOf refused))
+    (restarted-no t b (told-not b _ w refused)) in
+    (λ i. (p i, w i .1), same t b (held (start called)) _ p)
 
 slice-reshare-prefix-decode-voter-slot-table : tie.Need-slice-reshare-prefix-decode-voter-slot-table
-slice-reshare-prefix-decode-voter-slot-table c =
-    encode-within (c .before .before .before .before .before .before .before .before .args .table) (c .before .before .before .before .before .before .before .before .args .buffer .now) (written c)
+slice-reshare-prefix-decode-voter-slot-table c = encode-within (table-of (called-write c)) (buffer-of (called-write c)) (written c)
 
 slice-aggregate-decode-voter-slot-table : tie.Need-slice-aggregate-decode-voter-slot-table
 slice-aggregate-decode-voter-slot-table c =
-    sym (length-take-le _ _ (encode-within (c .before .before .before .before .before .before .before .before .before .args .table) (c .before .before .before .before .before .before .before .before .before .args .buffer .now) (written (c .before))))
+    let called = called-write (c .before) in
+    sym (length-take-le _ _ (encode-within (table-of called) (buffer-of called) (written (c .before))))
 
 decode-voter-slot-table-requires : tie.Need-decode-voter-slot-table-requires
 decode-voter-slot-table-requires c κs = search needs
@@ -81,11 +103,12 @@ same-length-2 c = search needs
 returns-2 : tie.Need-returns-2
 unfolding restartOutcome
 returns-2 c =
-    let b = c .before .before .before .before .before .before .before .before .before .before .args .buffer .now in
-    let t = c .before .before .before .before .before .before .before .before .before .before .args .table in
+    let called = called-write (c .before .before) in
+    let b = buffer-of called in
+    let t = table-of called in
     let p = c .decode-voter-slot-table .ensures ∙ ap (decoded blankVoterSlotTable) (sym (restarted-on t b (written (c .before .before)))) in
-    let w = c .before .before .before .before .before .before .before .encode-voter-slot-table .ensures in
-    (λ i. (p i, w i .1), same t b (held (c .before .before .before .before .before .before .before .before .before .before)) _ p)
+    let w = called .encode-voter-slot-table .ensures in
+    (λ i. (p i, w i .1), same t b (held (start called)) _ p)
 
 pub restart-spec : {M : Type 1} → statement M
 restart-spec =

@@ -15,15 +15,26 @@ use borrow.Author.Needs.{needs}
 use Rattle.control.proofs.apply.checked.Statement.{statement}
 use Rattle.control.proofs.apply.checked.Tie as tie
 
+-- the start, from after the tests of 30; those, from after the tests of 25
+abbrev start : tie.After-is-representable-control → tie.Start
+start c = c .before .before
+
+abbrev tested : tie.After-is-valid-log-id → tie.After-is-representable-control
+tested c = c .before .before .before .before
+
 -- the two tests of 30, and the two of 25
 fits : (j : tie.After-is-representable-control)
-    → (j .before .is-representable .result && j .is-representable-control .result) ≡ (representable (j .before .before .args .t) && representableControl (j .before .before .args .c))
+    → (j .before .is-representable .result && j .is-representable-control .result) ≡ (representable (start j .args .t) && representableControl (start j .args .c))
 fits j = ap₂ _&&_ (j .before .is-representable .ensures) (j .is-representable-control .ensures)
 
 stands : (j : tie.After-is-valid-log-id)
     → (j .before .accepted .result && j .is-valid-log-id .result)
-    ≡ (isAccepted (validity (j .before .before .before .before .before .before .args .t)) && validLogId (j .before .before .before .before .before .before .args .cut))
+    ≡ (isAccepted (validity (start (tested j) .args .t)) && validLogId (start (tested j) .args .cut))
 stands j = ap₂ _&&_ (j .before .accepted .ensures ∙ ap isAccepted (j .before .before .validate-representable .ensures)) (j .is-valid-log-id .ensures)
+
+-- both are representable
+fit : (c : tie.Else1) → (representable (start (c .before) .args .t) && representableControl (start (c .before) .args .c)) ≡ true
+fit c = sym (fits (c .before)) ∙ held refl (c .if1 .left)
 
 is-representable-requires : tie.Need-is-representable-requires
 is-representable-requires c κs = search needs
@@ -37,8 +48,7 @@ returns c =
     sym (cond-false _ _ _ (sym (fits (c .before)) ∙ failed refl (c .if1 .taken)))
 
 validate-representable-requires : tie.Need-validate-representable-requires
-validate-representable-requires c κs =
-    representable-count (c .before .before .before .args .t) (and-left _ _ (sym (fits (c .before)) ∙ held refl (c .if1 .left)))
+validate-representable-requires c κs = representable-count (start (c .before) .args .t) (and-left _ _ (fit c))
 
 accepted-requires : tie.Need-accepted-requires
 accepted-requires c κs = search needs
@@ -49,12 +59,14 @@ is-valid-log-id-requires c κs = search needs
 returns-2 : tie.Need-returns-2
 unfolding checkedOf
 returns-2 c =
-    sym (cond-true _ _ _ (sym (fits (c .before .before .before .before .before)) ∙ held refl (c .before .before .before .before .if1 .left)) ∙ cond-false _ _ _ (sym (stands (c .before)) ∙ failed refl (c .if2 .taken)))
+    let known = c .before .before .before .before in
+    sym (cond-true _ _ _ (fit known) ∙ cond-false _ _ _ (sym (stands (c .before)) ∙ failed refl (c .if2 .taken)))
 
 returns-3 : tie.Need-returns-3
 unfolding checkedOf
 returns-3 c =
-    sym (cond-true _ _ _ (sym (fits (c .before .before .before .before .before)) ∙ held refl (c .before .before .before .before .if1 .left)) ∙ cond-true _ _ _ (sym (stands (c .before)) ∙ held refl (c .if2 .left)))
+    let known = c .before .before .before .before in
+    sym (cond-true _ _ _ (fit known) ∙ cond-true _ _ _ (sym (stands (c .before)) ∙ held refl (c .if2 .left)))
 
 pub checked-spec : {M : Type 1} → statement M
 checked-spec =

@@ -24,7 +24,10 @@ members-of-requires c κs = search needs
 
 add-epoch : tie.Need-add-epoch
 add-epoch c =
-    let n : (c .before .before .current-configuration .result .epoch ≡ full → ⊥) = λ e. c .before .before .before .before .before .before .pre .1 .0 (ap (λ (x : VoterConfiguration). x .epoch) (sym (c .before .before .current-configuration .ensures)) ∙ e) in
+    let called = c .before .before in
+    let full-not = called .before .before .before .before .pre .1 .0 in
+    let n : (called .current-configuration .result .epoch ≡ full → ⊥) =
+    λ e. full-not (ap (λ (x : VoterConfiguration). x .epoch) (sym (called .current-configuration .ensures)) ∙ e) in
     search needs
 
 prepared-at-requires : tie.Need-prepared-at-requires
@@ -36,13 +39,16 @@ add-revision c = search needs
 returns : tie.Need-returns
 unfolding begunOperation preparedAt
 returns c =
-    let s = c .before .before .before .before .before .before .before .before in
+    let named = c .before .before .before in
+    let configured = named .before in
+    let laid = configured .before .before .before in
+    let s = laid .before in
     let t = s .args .t in
     let r = s .args .b .request in
-    let slots = (c .before .before .before .before .before .before .before .begun-slots .ensures) in
-    let current = (c .before .before .before .before .current-configuration .ensures) in
-    let members = (c .before .before .before .members-of .ensures) ∙ ap (map (λ (x : VoterSlotRecord). x .member)) slots in
-    let evidence = (c .before .prepared-at .ensures) in
+    let slots = laid .begun-slots .ensures in
+    let current = configured .current-configuration .ensures in
+    let members = named .members-of .ensures ∙ ap (map (λ (x : VoterSlotRecord). x .member)) slots in
+    let evidence = c .before .prepared-at .ensures in
     λ i. tableWith t (t .revision + 1) (t .«configuration_epoch») (slots i) true
     (record {
       «expected_revision» = r .«expected_revision»;

@@ -26,14 +26,20 @@ either-requires-2 c κs = search needs
 
 returns : tie.Need-returns
 returns c =
-    let s = c .before .before .before .before .before .before .before .before .before .before .before .before in
+    -- the calls, from the last to the first, and the start
+    let judged = c .before .before in
+    let receipt = judged .before .before .before in
+    let same-digest = receipt .before in
+    let same-id = same-digest .before .before in
+    let s = same-id .before .before .before .before in
     let t = s .args .t in
     let a = s .args .r .attestation in
     let nine = held-voter-slot-table t _ (s .good .0) .slots .count in
-    let is-known = (t .«has_replacement» && c .before .before .before .before .before .before .before .before .same16 .result) || c .before .before .before .before .before .find-receipt .result .found in
+    let is-known = (t .«has_replacement» && same-id .same16 .result) || receipt .find-receipt .result .found in
     (c .either2 .ensures)
-    ∙ (ap (λ (v : Verdict Move). cond is-known v (verdictOf (s .args .fresh))) (c .before .before .either .ensures)
-    ∙ known-judged t nine (a .«request_id») (a .«request_digest») _ _ _ _ _ _ (c .before .before .before .before .before .before .before .before .same16 .ensures) (c .before .before .before .before .before .before .same32 .ensures) (c .before .before .before .before .before .find-receipt .ensures))
+    ∙ (ap (λ (v : Verdict Move). cond is-known v (verdictOf (s .args .fresh))) (judged .either .ensures)
+    ∙ known-judged t nine (a .«request_id») (a .«request_digest») _ _ _ _ _ _ (same-id .same16 .ensures) (same-digest .same32 .ensures)
+    (receipt .find-receipt .ensures))
 
 pub judge-known-request-spec : {M : Type 1} → statement M
 judge-known-request-spec =

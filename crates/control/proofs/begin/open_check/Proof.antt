@@ -18,7 +18,11 @@ answer-by-requires-4 c κs = search needs
 
 returns : tie.Need-returns
 unfolding openCheck
-returns c = simp ((c .answer-by4 .ensures), (c .before .before .answer-by3 .ensures), (c .before .before .before .before .before .answer-by2 .ensures), (c .before .before .before .before .before .before .before .answer-by .ensures))
+returns c =
+    let third = c .before .before in
+    let second = third .before .before .before in
+    let first = second .before .before in
+    simp (c .answer-by4 .ensures, third .answer-by3 .ensures, second .answer-by2 .ensures, first .answer-by .ensures)
 
 pub open-check-spec : {M : Type 1} → statement M
 open-check-spec =

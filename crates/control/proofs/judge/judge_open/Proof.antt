@@ -24,7 +24,19 @@ refuse-if-requires-3 c κs = search needs
 
 returns : tie.Need-returns
 unfolding judgeOpen
-returns c = simp (c .refuse-if3 .ensures, c .before .refuse-if2 .ensures, c .before .before .refuse-if .ensures, c .before .before .before .before .before .before .before .judge-step .ensures, c .before .before .before .before .before .before .before .before .before .same-digest .ensures, c .before .before .before .before .before .before .before .before .before .before .same-id .ensures)
+returns c =
+    let first = c .before .before in
+    let stepped = first .before .before .before .before .before in
+    let same-digest = stepped .before .before in
+    let same-id = same-digest .before in
+    simp (
+      c .refuse-if3 .ensures,
+      c .before .refuse-if2 .ensures,
+      first .refuse-if .ensures,
+      stepped .judge-step .ensures,
+      same-digest .same-digest .ensures,
+      same-id .same-id .ensures,
+    )
 
 pub judge-open-spec : {M : Type 1} → statement M
 judge-open-spec =

@@ -28,7 +28,12 @@ change-if-requires c κs = search needs
 
 returns-2 : tie.Need-returns-2
 unfolding judgeSnapshot
-returns-2 c = simp (c .before .before .before .before .before .before .before .before .before .before .before .before .before .if1 .left, c .before .before .before .before .before .before .before .before .is-valid-snapshot-id .ensures, c .before .before .before .before .before .before .before .log-id-follows .ensures, c .before .before .before .before .before .before .fits-continuation .ensures, c .change-if .ensures)
+returns-2 c =
+    let fits = c .before .before .before .before .before .before in
+    let follows = fits .before in
+    let named = follows .before in
+    let none-yet = named .before .before .before .before .before in
+    simp (none-yet .if1 .left, named .is-valid-snapshot-id .ensures, follows .log-id-follows .ensures, fits .fits-continuation .ensures, c .change-if .ensures)
 
 pub judge-snapshot-spec : {M : Type 1} → statement M
 judge-snapshot-spec =

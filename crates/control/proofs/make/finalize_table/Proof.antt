@@ -43,8 +43,9 @@ blank-voter-replacement-record-requires c κs = search needs
 returns : tie.Need-returns
 unfolding finalizedSlot
 returns c =
-    let s = c .before .before .before .before .before .before .before .before in
-    ap₂ (finalizedWith (s .args .t) (s .args .c .cut)) (c .before .before .before .before .before .before .before .slot-index .ensures) (c .blank-voter-replacement-record .ensures)
+    let indexed = c .before .before .before .before .before .before .before in
+    let a = indexed .before .args in
+    ap₂ (finalizedWith (a .t) (a .c .cut)) (indexed .slot-index .ensures) (c .blank-voter-replacement-record .ensures)
 
 pub finalize-table-spec : {M : Type 1} → statement M
 finalize-table-spec =

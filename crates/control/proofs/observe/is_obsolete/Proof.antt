@@ -38,10 +38,12 @@ element-copy-out-retired c = search needs
 returns-2 : tie.Need-returns-2
 unfolding isObsolete
 returns-2 c =
-    let a = c .before .before .before .before .before .before .before .before .before .before .args in
+    let known = c .before .before .before .before .before in
+    let called = known .before .before in
+    let a = called .before .before .before .args in
     let op = a .t .replacement in
     let p = op .predecessor in
-    let m = c .before .before .before .before .before .before .before .member-index in
+    let m = called .member-index in
     let e : ltb (m .result) (p .count) ≡ true = lt-ltb (m .result) (p .count) (omega arith) in
     sym
     (ap

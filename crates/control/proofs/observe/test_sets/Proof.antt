@@ -39,16 +39,24 @@ is-one-more-requires c κs = search needs
 
 returns : tie.Need-returns
 returns c =
-    let a = c .before .before .before .before .before .before .before .before .before .before .before .before .before .before .args in
-    let nodes = a .nodes .now in
-    let l = c .before .before .before .before .before .before .before .before .least-new .ensures in
-    let h = c .before .before .before .before .before .before .before .contains .ensures ∙ ap (λ (k : ℕ). contains k nodes) l in
-    let has-old = c .before .before .before .before .before .before .is-subset .ensures in
-    let has-new = c .before .before .before .before .before .is-subset2 .ensures in
-    let only = c .before .before .before .before .is-subset3 .ensures in
-    let one = c .before .before .before .is-one-set .ensures in
-    let other = c .before .before .is-one-set2 .ensures in
-    let two = c .before .are-two-sets .ensures in
+    -- the calls, from the last to the first
+    let two-called = c .before in
+    let other-called = two-called .before in
+    let one-called = other-called .before in
+    let only-called = one-called .before in
+    let new-called = only-called .before in
+    let old-called = new-called .before in
+    let has-called = old-called .before in
+    let least-called = has-called .before in
+    let a = least-called .before .before .before .before .before .before .args in
+    let l = least-called .least-new .ensures in
+    let h = has-called .contains .ensures ∙ ap (λ (k : ℕ). contains k (a .nodes .now)) l in
+    let has-old = old-called .is-subset .ensures in
+    let has-new = new-called .is-subset2 .ensures in
+    let only = only-called .is-subset3 .ensures in
+    let one = one-called .is-one-set .ensures in
+    let other = other-called .is-one-set2 .ensures in
+    let two = two-called .are-two-sets .ensures in
     let more = c .is-one-more .ensures in
     λ i.
     record {

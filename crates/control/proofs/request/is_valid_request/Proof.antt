@@ -18,7 +18,12 @@ same32-requires-2 c κs = search needs
 
 returns : tie.Need-returns
 unfolding validRequest
-returns c = simp ((c .before .before .before .before .before .before .before .before .before .before .are-valid-claims .ensures), (c .before .before .before .before .before .before .before .same32 .ensures), (c .before .before .before .before .before .before .is-next .ensures), (c .before .before .before .same322 .ensures))
+returns c =
+    let same-again = c .before .before .before in
+    let next = same-again .before .before .before in
+    let same = next .before in
+    let claims = same .before .before .before in
+    simp (claims .are-valid-claims .ensures, same .same32 .ensures, next .is-next .ensures, same-again .same322 .ensures)
 
 pub is-valid-request-spec : {M : Type 1} → statement M
 is-valid-request-spec =

@@ -36,16 +36,26 @@ answer-by-requires-3 c κs = search needs
 
 returns : tie.Need-returns
 returns c =
-    let s = c .before .before .before .before .before .before .before .before .before .before .before .before .before .before .before in
+    -- the calls, from the last to the first, and the start
+    let answered = c .before .before .before in
+    let newer = answered .before .before .before .before in
+    let attested = newer .before in
+    let same = attested .before in
+    let expected = same .before .before .before in
+    let named = expected .before .before in
+    let s = named .before in
     let t = s .args .t in
     let r = s .args .r in
     let nine = held-voter-slot-table t _ (s .good .0) .slots .count in
     let bytes = held-lost-voter-attestation-v1 (r .attestation) _ (s .good .1 .0 .1 .1 .1 .1 .1 .0) .«old_descriptor_digest» .count in
-    let x = c .before .before .before .before .before .before .before .before .before .before .before .before .before .before .named-member .result in
-    let now = x .found && (eqb (t .revision) (r .«expected_revision») && (c .before .before .before .before .before .before .before .before .before .before .before .before .is-expected .result && (c .before .before .before .before .before .before .before .before .before .same32 .result && c .before .before .before .before .before .before .before .before .is-attested .result))) in
+    let x = named .named-member .result in
+    let right = expected .is-expected .result && (same .same32 .result && attested .is-attested .result) in
+    let now = x .found && (eqb (t .revision) (r .«expected_revision») && right) in
     (c .answer-by3 .ensures)
-    ∙ (ap (λ (a : Answer). cond now a StaleIncarnation) ((c .before .answer-by2 .ensures) ∙ ap (λ (a : Answer). cond (leb 3 (t .count)) a NoSurvivingQuorum) (c .before .before .before .answer-by .ensures))
-    ∙ slot-judged t r nine bytes x _ _ _ _ (c .before .before .before .before .before .before .before .before .before .before .before .before .before .before .named-member .ensures) (c .before .before .before .before .before .before .before .before .before .before .before .before .is-expected .ensures) (c .before .before .before .before .before .before .before .before .before .same32 .ensures) (c .before .before .before .before .before .before .before .before .is-attested .ensures) (c .before .before .before .before .before .before .before .is-newer .ensures))
+    ∙ (ap (λ (a : Answer). cond now a StaleIncarnation)
+    ((c .before .answer-by2 .ensures) ∙ ap (λ (a : Answer). cond (leb 3 (t .count)) a NoSurvivingQuorum) (answered .answer-by .ensures))
+    ∙ slot-judged t r nine bytes x _ _ _ _ (named .named-member .ensures) (expected .is-expected .ensures) (same .same32 .ensures)
+    (attested .is-attested .ensures) (newer .is-newer .ensures))
 
 pub slot-check-spec : {M : Type 1} → statement M
 slot-check-spec =
