@@ -34,30 +34,30 @@ pub struct Controlled {
 
 // `apply_control`: any table, any command and any cut.
 pub fn apply_control(
-    t: VoterSlotTable,
+    table: VoterSlotTable,
     control: VoterSlotControl,
     cut: VoterSlotLogId,
 ) -> Controlled
-    ensures { λ r. ⌜ (r .answer, r .table) ≡ applyControl t control cut ⌝ }
+    ensures { λ r. ⌜ (r .answer, r .table) ≡ applyControl table control cut ⌝ }
 {
-    let answer = checked(t, control, cut);
+    let answer = checked(table, control, cut);
     if !accepted(answer) {
-        return Controlled { answer, table: t };
+        return Controlled { answer, table };
     }
     let command = VoterCommand { control, cut };
-    apply_to_valid(t, command)
+    apply_to_valid(table, command)
 }
 
 // The tests of the entry point: 30, and 25 for an invalid table or a zero in the cut.
-fn checked(t: VoterSlotTable, c: VoterSlotControl, cut: VoterSlotLogId) -> Answer
-    ensures { λ r. ⌜ r ≡ checkedOf t c cut ⌝ }
+fn checked(table: VoterSlotTable, control: VoterSlotControl, cut: VoterSlotLogId) -> Answer
+    ensures { λ r. ⌜ r ≡ checkedOf table control cut ⌝ }
 {
-    let fits = is_representable(t);
-    let command = is_representable_control(c);
+    let fits = is_representable(table);
+    let command = is_representable_control(control);
     if !(fits & command) {
         return Answer::Unrepresentable;
     }
-    let valid = accepted(validate_representable(t));
+    let valid = accepted(validate_representable(table));
     let nonzero = is_valid_log_id(cut);
     if !(valid & nonzero) {
         return Answer::InvalidTransition;
@@ -66,28 +66,28 @@ fn checked(t: VoterSlotTable, c: VoterSlotControl, cut: VoterSlotLogId) -> Answe
 }
 
 // `apply_control` on a table that is lent: any table, any command and any cut.
-pub fn apply_control_in_place(t: &mut VoterSlotTable, c: VoterCommand) -> Answer
-    ensures { λ b. ⌜ (b, now (t .exit)) ≡ applyControl (now (t .entry)) (c .control) (c .cut) ⌝ }
+pub fn apply_control_in_place(table: &mut VoterSlotTable, command: VoterCommand) -> Answer
+    ensures { λ b. ⌜ (b, now (table .exit)) ≡ applyControl (now (table .entry)) (command .control) (command .cut) ⌝ }
 {
-    let judged = judge_entry(*t, c);
+    let judged = judge_entry(*table, command);
     match route(judged) {
         ROUTE_SNAPSHOT => {
-            *t = make_snapshot(*t, c);
+            *table = make_snapshot(*table, command);
         }
         ROUTE_CAUGHT_UP => {
-            *t = make_caught_up(*t, c);
+            *table = make_caught_up(*table, command);
         }
         ROUTE_CONTINUATION => {
-            *t = make_continuation(*t, c);
+            *table = make_continuation(*table, command);
         }
         ROUTE_FENCE => {
-            *t = make_fence(*t, c);
+            *table = make_fence(*table, command);
         }
         ROUTE_FINALIZE => {
-            *t = make_finalize(*t, c);
+            *table = make_finalize(*table, command);
         }
         ROUTE_BEGIN => {
-            *t = make_begin(*t, c);
+            *table = make_begin(*table, command);
         }
         _ => {}
     }
@@ -95,13 +95,13 @@ pub fn apply_control_in_place(t: &mut VoterSlotTable, c: VoterCommand) -> Answer
 }
 
 // The verdict of the entry point. The command is judged in any case: judges have no requirements.
-pub fn judge_entry(t: VoterSlotTable, c: VoterCommand) -> Judged
-    ensures { λ r. ⌜ verdictOf r ≡ entryVerdict t (c .control) (c .cut) ⌝ }
+fn judge_entry(table: VoterSlotTable, command: VoterCommand) -> Judged
+    ensures { λ r. ⌜ verdictOf r ≡ entryVerdict table (command .control) (command .cut) ⌝ }
 {
-    let control = c.control;
-    let cut = c.cut;
-    let answer = checked(t, control, cut);
-    let judged = judge_command(t, c);
+    let control = command.control;
+    let cut = command.cut;
+    let answer = checked(table, control, cut);
+    let judged = judge_command(table, command);
     let passed = accepted(answer);
     either(passed, judged, Judged::Refuse(answer))
 }
@@ -109,94 +109,94 @@ pub fn judge_entry(t: VoterSlotTable, c: VoterCommand) -> Judged
 // A command on a table that is known to be valid, by value. The caller has tested that the cut has
 // no zero and that the command is representable (`checkedOf` accepted); then the answer is
 // `applyControl`'s (`entry-passed` of VerdictLaws; by the two tests, `valid-applied` of ApplyLaws).
-pub fn apply_to_valid(t: VoterSlotTable, c: VoterCommand) -> Controlled
-    requires { ⌜ validate t ≡ Accepted ⌝ }
-    ensures { λ r. ⌜ (r .answer, r .table) ≡ appliedOf t (c .control) (c .cut) ⌝ }
+pub fn apply_to_valid(table: VoterSlotTable, command: VoterCommand) -> Controlled
+    requires { ⌜ validate table ≡ Accepted ⌝ }
+    ensures { λ r. ⌜ (r .answer, r .table) ≡ appliedOf table (command .control) (command .cut) ⌝ }
 {
-    let kind = c.control.kind;
+    let kind = command.control.kind;
     match kind {
-        BEGIN => begin(t, begin_of(c)),
-        ADVANCE => advance(t, advance_of(c)),
-        _ => mark(t, c),
+        BEGIN => begin(table, begin_of(command)),
+        ADVANCE => advance(table, advance_of(command)),
+        _ => mark(table, command),
     }
 }
 
 // A Marker, by value: the table stays as it is.
-fn mark(t: VoterSlotTable, c: VoterCommand) -> Controlled
-    ensures { λ r. ⌜ (r .answer, r .table) ≡ paired (answerOf (judgeMarker t (c .control .«request_id») (c .control .«request_digest»))) t ⌝ }
+fn mark(table: VoterSlotTable, command: VoterCommand) -> Controlled
+    ensures { λ r. ⌜ (r .answer, r .table) ≡ paired (answerOf (judgeMarker table (command .control .«request_id») (command .control .«request_digest»))) table ⌝ }
 {
-    let judged = judge_named(t, c);
+    let judged = judge_named(table, command);
     Controlled {
         answer: answer_of(judged),
-        table: t,
+        table,
     }
 }
 
 // An Advance, by value. The caller has made the tests that `apply_to_valid` names
 // (`valid-advance`).
-pub fn advance(t: VoterSlotTable, c: VoterAdvance) -> Controlled
-    requires { ⌜ validate t ≡ Accepted ⌝ }
-    ensures { λ r. ⌜ (r .answer, r .table) ≡ advanceOutcome t c ⌝ }
+pub fn advance(table: VoterSlotTable, advance: VoterAdvance) -> Controlled
+    requires { ⌜ validate table ≡ Accepted ⌝ }
+    ensures { λ r. ⌜ (r .answer, r .table) ≡ advanceOutcome table advance ⌝ }
 {
-    let judged = judge_advance(t, c);
+    let judged = judge_advance(table, advance);
     match judged {
-        Judged::Refuse(answer) => Controlled { answer, table: t },
+        Judged::Refuse(answer) => Controlled { answer, table },
         Judged::Keep => Controlled {
             answer: Answer::Accepted,
-            table: t,
+            table,
         },
         Judged::Begin => Controlled {
             answer: Answer::Accepted,
-            table: t,
+            table,
         },
         Judged::RecordSnapshot => Controlled {
             answer: Answer::Accepted,
-            table: snapshot_table(t, c),
+            table: snapshot_table(table, advance),
         },
         Judged::RecordCaughtUp => Controlled {
             answer: Answer::Accepted,
-            table: catch_up_table(t, c),
+            table: catch_up_table(table, advance),
         },
         Judged::Continue => Controlled {
             answer: Answer::Accepted,
-            table: continue_table(t, c),
+            table: continue_table(table, advance),
         },
         Judged::Fence => Controlled {
             answer: Answer::Accepted,
-            table: fence_table(t, c),
+            table: fence_table(table, advance),
         },
         Judged::Finalize => Controlled {
             answer: Answer::Accepted,
-            table: finalize_table(t, c),
+            table: finalize_table(table, advance),
         },
     }
 }
 
 // `apply_to_valid` on a table that is lent: the same tests. It takes 5 KB: calls by kind are
 // faster.
-pub fn apply_in_place(t: &mut VoterSlotTable, c: VoterCommand) -> Answer
-    requires { ⌜ validate (now t) ≡ Accepted ⌝ }
-    ensures { λ a. ⌜ (a, now (t .exit)) ≡ appliedOf (now (t .entry)) (c .control) (c .cut) ⌝ }
+pub fn apply_in_place(table: &mut VoterSlotTable, command: VoterCommand) -> Answer
+    requires { ⌜ validate (now table) ≡ Accepted ⌝ }
+    ensures { λ a. ⌜ (a, now (table .exit)) ≡ appliedOf (now (table .entry)) (command .control) (command .cut) ⌝ }
 {
-    let judged = judge_command(*t, c);
+    let judged = judge_command(*table, command);
     match route(judged) {
         ROUTE_SNAPSHOT => {
-            *t = make_snapshot(*t, c);
+            *table = make_snapshot(*table, command);
         }
         ROUTE_CAUGHT_UP => {
-            *t = make_caught_up(*t, c);
+            *table = make_caught_up(*table, command);
         }
         ROUTE_CONTINUATION => {
-            *t = make_continuation(*t, c);
+            *table = make_continuation(*table, command);
         }
         ROUTE_FENCE => {
-            *t = make_fence(*t, c);
+            *table = make_fence(*table, command);
         }
         ROUTE_FINALIZE => {
-            *t = make_finalize(*t, c);
+            *table = make_finalize(*table, command);
         }
         ROUTE_BEGIN => {
-            *t = make_begin(*t, c);
+            *table = make_begin(*table, command);
         }
         _ => {}
     }
@@ -204,26 +204,26 @@ pub fn apply_in_place(t: &mut VoterSlotTable, c: VoterCommand) -> Answer
 }
 
 // `advance` on a table that is lent: the caller has made the same tests.
-pub fn advance_in_place(t: &mut VoterSlotTable, c: VoterAdvance) -> Answer
-    requires { ⌜ validate (now t) ≡ Accepted ⌝ }
-    ensures { λ v. ⌜ (v, now (t .exit)) ≡ advanceOutcome (now (t .entry)) c ⌝ }
+pub fn advance_in_place(table: &mut VoterSlotTable, advance: VoterAdvance) -> Answer
+    requires { ⌜ validate (now table) ≡ Accepted ⌝ }
+    ensures { λ v. ⌜ (v, now (table .exit)) ≡ advanceOutcome (now (table .entry)) advance ⌝ }
 {
-    let judged = judge_advance(*t, c);
+    let judged = judge_advance(*table, advance);
     match route(judged) {
         ROUTE_SNAPSHOT => {
-            *t = snapshot_table(*t, c);
+            *table = snapshot_table(*table, advance);
         }
         ROUTE_CAUGHT_UP => {
-            *t = catch_up_table(*t, c);
+            *table = catch_up_table(*table, advance);
         }
         ROUTE_CONTINUATION => {
-            *t = continue_table(*t, c);
+            *table = continue_table(*table, advance);
         }
         ROUTE_FENCE => {
-            *t = fence_table(*t, c);
+            *table = fence_table(*table, advance);
         }
         ROUTE_FINALIZE => {
-            *t = finalize_table(*t, c);
+            *table = finalize_table(*table, advance);
         }
         _ => {}
     }

@@ -6,7 +6,7 @@
 // parts are judged before the first refusal is picked, as in judge.rt.
 ghost use Prim.Native.Nat.{_<_, _≤_};
 ghost use mathlib.Core.Path.{_≡_};
-ghost use mathlib.Core.Bool.{cond, false};
+ghost use mathlib.Core.Bool.{cond};
 ghost use mathlib.Core.List.{map};
 ghost use Rattle.identity.specs.Answer.{isAccepted};
 ghost use Rattle.identity.specs.declared.answer.Answer.the-variants.{Accepted, IdempotencyConflict};
@@ -42,18 +42,18 @@ pub struct VoterBegin {
 }
 
 // `begin`, up to the first change of the table.
-pub fn judge_begin(t: VoterSlotTable, b: VoterBegin) -> Judged
-    ensures { λ v. ⌜ verdictOf v ≡ judgeBegin t (b .request) (b .cut) ⌝ }
+pub fn judge_begin(table: VoterSlotTable, begin: VoterBegin) -> Judged
+    ensures { λ v. ⌜ verdictOf v ≡ judgeBegin table (begin .request) (begin .cut) ⌝ }
 {
-    let r = b.request;
-    let cut = b.cut;
-    let valid = validate_request(r);
-    let check = begin_check(t, r, cut, valid);
-    let later = is_later(t, cut);
+    let request = begin.request;
+    let cut = begin.cut;
+    let valid = validate_request(request);
+    let check = begin_check(table, request, cut, valid);
+    let later = is_later(table, cut);
     let change = change_if(later, Judged::Begin);
     let fresh = or_refuse(check, change);
     let again = or_refuse(valid, Judged::Keep);
-    judge_known_request(t, r, again, fresh)
+    judge_known_request(table, request, again, fresh)
 }
 
 // What follows an answer that is no refusal.
@@ -78,21 +78,21 @@ fn first_refusal(answer: Answer, next: Answer) -> Answer
 
 // A request that the open one or a receipt has: again, or 14 with another digest. Else a fresh one.
 fn judge_known_request(
-    t: VoterSlotTable,
-    r: VoterReplacementRequest,
+    table: VoterSlotTable,
+    request: VoterReplacementRequest,
     again: Judged,
     fresh: Judged,
 ) -> Judged
-    ensures { λ v. ⌜ verdictOf v ≡ cond (isKnown t (r .attestation .«request_id»)) (cond (eqBytes (knownDigest t (r .attestation .«request_id»)) (r .attestation .«request_digest»)) (verdictOf again) (refused IdempotencyConflict)) (verdictOf fresh) ⌝ }
+    ensures { λ v. ⌜ verdictOf v ≡ cond (isKnown table (request .attestation .«request_id»)) (cond (eqBytes (knownDigest table (request .attestation .«request_id»)) (request .attestation .«request_digest»)) (verdictOf again) (refused IdempotencyConflict)) (verdictOf fresh) ⌝ }
 {
-    let id = r.attestation.request_id;
-    let digest = r.attestation.request_digest;
-    let open_id = t.replacement.attestation.request_id;
+    let id = request.attestation.request_id;
+    let digest = request.attestation.request_digest;
+    let open_id = table.replacement.attestation.request_id;
     let same_id = same16(open_id, id);
-    let open_digest = t.replacement.attestation.request_digest;
+    let open_digest = table.replacement.attestation.request_digest;
     let own = same32(open_digest, digest);
-    let receipt = find_receipt(t, id, digest);
-    let open = t.has_replacement & same_id;
+    let receipt = find_receipt(table, id, digest);
+    let open = table.has_replacement & same_id;
     let same = (open & own) | (!open & receipt.same);
     let repeated = either(same, again, Judged::Refuse(Answer::IdempotencyConflict));
     either(open | receipt.found, repeated, fresh)
@@ -101,54 +101,58 @@ fn judge_known_request(
 // The tests of a fresh request, in the order of the Rust, with the request check as it was
 // answered.
 fn begin_check(
-    t: VoterSlotTable,
-    r: VoterReplacementRequest,
+    table: VoterSlotTable,
+    request: VoterReplacementRequest,
     cut: VoterSlotLogId,
     valid: Answer,
 ) -> Answer
-    ensures { λ a. ⌜ a ≡ firstRefusal (openCheck t r cut) (firstRefusal valid (firstRefusal (staleCheck t r) (firstRefusal (candidateCheck t r) (fullCheck t)))) ⌝ }
+    ensures { λ a. ⌜ a ≡ firstRefusal (openCheck table request cut) (firstRefusal valid (firstRefusal (staleCheck table request) (firstRefusal (candidateCheck table request) (fullCheck table)))) ⌝ }
 {
-    let open = open_check(t, r, cut);
-    let slot = slot_check(t, r);
-    let full = full_check(t);
+    let open = open_check(table, request, cut);
+    let slot = slot_check(table, request);
+    let full = full_check(table);
     let last = first_refusal(slot, full);
     let rest = first_refusal(valid, last);
     first_refusal(open, rest)
 }
 
 // The open request against the one that is to supersede it: 15, 19, 25.
-fn open_check(t: VoterSlotTable, r: VoterReplacementRequest, cut: VoterSlotLogId) -> Answer
-    ensures { λ a. ⌜ a ≡ openCheck t r cut ⌝ }
+fn open_check(
+    table: VoterSlotTable,
+    request: VoterReplacementRequest,
+    cut: VoterSlotLogId,
+) -> Answer
+    ensures { λ a. ⌜ a ≡ openCheck table request cut ⌝ }
 {
-    let prepare = t.replacement.evidence.prepare;
+    let prepare = table.replacement.evidence.prepare;
     let early = answer_by(
         cut.index <= prepare.index,
         Answer::InvalidTransition,
         Answer::Accepted,
     );
     let fenced = answer_by(
-        FENCED <= t.replacement.phase,
+        FENCED <= table.replacement.phase,
         Answer::ReplacementPastFence,
         early,
     );
     let other = answer_by(
-        !(t.replacement.attestation.slot == r.attestation.slot),
+        !(table.replacement.attestation.slot == request.attestation.slot),
         Answer::ReplacementInProgress,
         fenced,
     );
-    answer_by(!t.has_replacement, Answer::Accepted, other)
+    answer_by(!table.has_replacement, Answer::Accepted, other)
 }
 
 // A full epoch or revision: 23, 24.
-fn full_check(t: VoterSlotTable) -> Answer
-    ensures { λ a. ⌜ a ≡ fullCheck t ⌝ }
+fn full_check(table: VoterSlotTable) -> Answer
+    ensures { λ a. ⌜ a ≡ fullCheck table ⌝ }
 {
     let revision = answer_by(
-        t.revision == u64::MAX,
+        table.revision == u64::MAX,
         Answer::RevisionExhausted,
         Answer::Accepted,
     );
-    let epoch = current_epoch(t);
+    let epoch = current_epoch(table);
     answer_by(
         epoch == u64::MAX,
         Answer::ConfigurationEpochExhausted,
@@ -157,64 +161,64 @@ fn full_check(t: VoterSlotTable) -> Answer
 }
 
 // A request that is superseded has all its evidence before this cut.
-fn is_later(t: VoterSlotTable, cut: VoterSlotLogId) -> bool
-    ensures { λ a. ⌜ a ≡ beginTest t cut ⌝ }
+fn is_later(table: VoterSlotTable, cut: VoterSlotLogId) -> bool
+    ensures { λ a. ⌜ a ≡ beginTest table cut ⌝ }
 {
-    let evidence = t.replacement.evidence;
+    let evidence = table.replacement.evidence;
     let latest = latest_cut(evidence);
     let later = log_id_follows(cut, latest, false);
-    !t.has_replacement | later
+    !table.has_replacement | later
 }
 
 // The table with the request opened. No test is made again. The request is put together here: made
 // by a call of its own, the whole table would be copied once more.
-pub fn begin_table(t: VoterSlotTable, b: VoterBegin) -> VoterSlotTable
-    requires { ⌜ (t .revision ≡ full → ⊥) × ((currentConfiguration t .epoch ≡ full → ⊥) × ((t .count ≤ 9) × (namedIndex t (b .request) < t .count))) ⌝ }
-    ensures { λ u. ⌜ u ≡ begun t (b .request) (b .cut) ⌝ }
+pub fn begin_table(table: VoterSlotTable, begin: VoterBegin) -> VoterSlotTable
+    requires { ⌜ (table .revision ≡ full → ⊥) × ((currentConfiguration table .epoch ≡ full → ⊥) × ((table .count ≤ 9) × (namedIndex table (begin .request) < table .count))) ⌝ }
+    ensures { λ next. ⌜ next ≡ begun table (begin .request) (begin .cut) ⌝ }
 {
-    let mut u = t;
-    let slots = begun_slots(t, b);
-    let attestation = b.request.attestation;
-    let cut = b.cut;
-    let predecessor = current_configuration(t);
+    let mut next = table;
+    let slots = begun_slots(table, begin);
+    let attestation = begin.request.attestation;
+    let cut = begin.cut;
+    let predecessor = current_configuration(table);
     let members = members_of(slots);
     let epoch = predecessor.epoch + 1;
     let successor = VoterConfiguration {
         epoch,
         members,
-        count: t.count,
+        count: table.count,
     };
     let evidence = prepared_at(cut);
     let operation = VoterReplacementRecord {
-        expected_revision: b.request.expected_revision,
+        expected_revision: begin.request.expected_revision,
         attestation,
         predecessor,
         successor,
         phase: PREPARED,
         evidence,
     };
-    let revision = t.revision + 1;
-    u.slots = slots;
-    u.replacement = operation;
-    u.has_replacement = true;
-    u.revision = revision;
-    u
+    let revision = table.revision + 1;
+    next.slots = slots;
+    next.replacement = operation;
+    next.has_replacement = true;
+    next.revision = revision;
+    next
 }
 
 // The first slot of that number gets the candidate. (Found here and not by `slot_index`, so that
 // the slots are copied once.)
-fn begun_slots(t: VoterSlotTable, b: VoterBegin) -> [VoterSlotRecord; MAX_FIXED_VOTER_SLOTS]
-    requires { ⌜ (t .revision ≡ full → ⊥) × ((t .count ≤ 9) × (namedIndex t (b .request) < t .count)) ⌝ }
-    ensures { λ l. ⌜ l ≡ begunSlots t (b .request) (b .cut) ⌝ }
+fn begun_slots(table: VoterSlotTable, begin: VoterBegin) -> [VoterSlotRecord; MAX_FIXED_VOTER_SLOTS]
+    requires { ⌜ (table .revision ≡ full → ⊥) × ((table .count ≤ 9) × (namedIndex table (begin .request) < table .count)) ⌝ }
+    ensures { λ l. ⌜ l ≡ begunSlots table (begin .request) (begin .cut) ⌝ }
 {
-    let number = b.request.attestation.slot;
-    let count = t.count;
-    let mut slots = t.slots;
+    let number = begin.request.attestation.slot;
+    let count = table.count;
+    let mut slots = table.slots;
     let mut i = 0;
     while i < count {
         if slots[i].member.identity.slot == number {
             let old = slots[i];
-            let slot = begun_slot(t, b, old);
+            let slot = begun_slot(table, begin, old);
             slots[i] = slot;
             return slots;
         }
@@ -224,41 +228,41 @@ fn begun_slots(t: VoterSlotTable, b: VoterBegin) -> [VoterSlotRecord; MAX_FIXED_
 }
 
 // The slot with the candidate: the incarnation before it is retired.
-fn begun_slot(t: VoterSlotTable, b: VoterBegin, old: VoterSlotRecord) -> VoterSlotRecord
-    requires { ⌜ (t .revision ≡ full → ⊥) ⌝ }
-    ensures { λ s. ⌜ s ≡ slotFrom t (b .request) (b .cut) old ⌝ }
+fn begun_slot(table: VoterSlotTable, begin: VoterBegin, old: VoterSlotRecord) -> VoterSlotRecord
+    requires { ⌜ (table .revision ≡ full → ⊥) ⌝ }
+    ensures { λ s. ⌜ s ≡ slotFrom table (begin .request) (begin .cut) old ⌝ }
 {
-    let member = b.request.candidate;
-    let cut = b.cut;
-    let last_result = left_receipt(t, cut, old);
+    let member = begin.request.candidate;
+    let cut = begin.cut;
+    let last_result = left_receipt(table, cut, old);
     VoterSlotRecord {
         member,
-        retired_through: b.request.attestation.expected_incarnation,
+        retired_through: begin.request.attestation.expected_incarnation,
         phase: PENDING,
-        has_last_result: t.has_replacement | old.has_last_result,
+        has_last_result: table.has_replacement | old.has_last_result,
         last_result,
     }
 }
 
 // A request that is superseded leaves its receipt; else the slot keeps the one that it has.
 fn left_receipt(
-    t: VoterSlotTable,
+    table: VoterSlotTable,
     cut: VoterSlotLogId,
     old: VoterSlotRecord,
 ) -> VoterReplacementResult
-    requires { ⌜ (t .revision ≡ full → ⊥) ⌝ }
-    ensures { λ x. ⌜ x ≡ receiptLeft t cut old ⌝ }
+    requires { ⌜ (table .revision ≡ full → ⊥) ⌝ }
+    ensures { λ x. ⌜ x ≡ receiptLeft table cut old ⌝ }
 {
-    if t.has_replacement {
-        let request_id = t.replacement.attestation.request_id;
-        let request_digest = t.replacement.attestation.request_digest;
-        let revision = t.revision + 1;
+    if table.has_replacement {
+        let request_id = table.replacement.attestation.request_id;
+        let request_digest = table.replacement.attestation.request_digest;
+        let revision = table.revision + 1;
         return VoterReplacementResult {
             request_id,
             request_digest,
             incarnation: old.member.identity.incarnation,
             revision,
-            configuration_epoch: t.configuration_epoch,
+            configuration_epoch: table.configuration_epoch,
             kind: SUPERSEDED,
             terminal: cut,
         };
@@ -267,19 +271,19 @@ fn left_receipt(
 }
 
 // `current_configuration`.
-fn current_configuration(t: VoterSlotTable) -> VoterConfiguration
-    ensures { λ x. ⌜ x ≡ currentConfiguration t ⌝ }
+fn current_configuration(table: VoterSlotTable) -> VoterConfiguration
+    ensures { λ x. ⌜ x ≡ currentConfiguration table ⌝ }
 {
-    if t.has_replacement & (t.replacement.phase < UNIFORM) {
-        let predecessor = t.replacement.predecessor;
+    if table.has_replacement & (table.replacement.phase < UNIFORM) {
+        let predecessor = table.replacement.predecessor;
         return predecessor;
     }
-    let slots = t.slots;
+    let slots = table.slots;
     let members = members_of(slots);
     VoterConfiguration {
-        epoch: t.configuration_epoch,
+        epoch: table.configuration_epoch,
         members,
-        count: t.count,
+        count: table.count,
     }
 }
 
@@ -322,28 +326,28 @@ fn prepared_at(cut: VoterSlotLogId) -> VoterReplacementEvidence
 
 // A Begin, by value. The caller has tested that the cut has no zero and that the command is
 // representable (`checkedOf` accepted); then the answer is `applyControl`'s (`valid-begin`).
-pub fn begin(t: VoterSlotTable, b: VoterBegin) -> Controlled
-    requires { ⌜ validate t ≡ Accepted ⌝ }
-    ensures { λ r. ⌜ (r .answer, r .table) ≡ beginOutcome t b ⌝ }
+pub fn begin(table: VoterSlotTable, begin: VoterBegin) -> Controlled
+    requires { ⌜ validate table ≡ Accepted ⌝ }
+    ensures { λ r. ⌜ (r .answer, r .table) ≡ beginOutcome table begin ⌝ }
 {
-    let judged = judge_begin(t, b);
+    let judged = judge_begin(table, begin);
     let answer = answer_of(judged);
     if route(judged) == ROUTE_BEGIN {
-        let table = begin_table(t, b);
+        let table = begin_table(table, begin);
         return Controlled { answer, table };
     }
-    Controlled { answer, table: t }
+    Controlled { answer, table }
 }
 
 // `begin` on a table that is lent: the caller has made the same tests.
-pub fn begin_in_place(t: &mut VoterSlotTable, b: VoterBegin) -> Answer
-    requires { ⌜ validate (now t) ≡ Accepted ⌝ }
-    ensures { λ v. ⌜ (v, now (t .exit)) ≡ beginOutcome (now (t .entry)) b ⌝ }
+pub fn begin_in_place(table: &mut VoterSlotTable, begin: VoterBegin) -> Answer
+    requires { ⌜ validate (now table) ≡ Accepted ⌝ }
+    ensures { λ v. ⌜ (v, now (table .exit)) ≡ beginOutcome (now (table .entry)) begin ⌝ }
 {
-    let judged = judge_begin(*t, b);
+    let judged = judge_begin(*table, begin);
     match route(judged) {
         ROUTE_BEGIN => {
-            *t = begin_table(*t, b);
+            *table = begin_table(*table, begin);
         }
         _ => {}
     }

@@ -19,13 +19,13 @@ use crate::make::*;
 use records::records::VoterSlotTable;
 
 // The Advance that a command holds.
-pub fn advance_of(c: VoterCommand) -> VoterAdvance
-    ensures { λ r. ⌜ r ≡ advanceIn (c .control) (c .cut) ⌝ }
+pub fn advance_of(command: VoterCommand) -> VoterAdvance
+    ensures { λ r. ⌜ r ≡ advanceIn (command .control) (command .cut) ⌝ }
 {
-    let request_id = c.control.request_id;
-    let request_digest = c.control.request_digest;
-    let step = c.control.step;
-    let cut = c.cut;
+    let request_id = command.control.request_id;
+    let request_digest = command.control.request_digest;
+    let step = command.control.step;
+    let cut = command.cut;
     VoterAdvance {
         request_id,
         request_digest,
@@ -35,74 +35,74 @@ pub fn advance_of(c: VoterCommand) -> VoterAdvance
 }
 
 // The Begin that a command holds.
-pub fn begin_of(c: VoterCommand) -> VoterBegin
-    ensures { λ r. ⌜ r ≡ beginIn (c .control) (c .cut) ⌝ }
+pub fn begin_of(command: VoterCommand) -> VoterBegin
+    ensures { λ r. ⌜ r ≡ beginIn (command .control) (command .cut) ⌝ }
 {
-    let request = c.control.request;
-    let cut = c.cut;
+    let request = command.control.request;
+    let cut = command.cut;
     VoterBegin { request, cut }
 }
 
 // The judge, by the kind.
-pub fn judge_command(t: VoterSlotTable, c: VoterCommand) -> Judged
-    ensures { λ r. ⌜ verdictOf r ≡ judge t (c .control) (c .cut) ⌝ }
+pub fn judge_command(table: VoterSlotTable, command: VoterCommand) -> Judged
+    ensures { λ r. ⌜ verdictOf r ≡ judge table (command .control) (command .cut) ⌝ }
 {
-    let kind = c.control.kind;
+    let kind = command.control.kind;
     match kind {
-        BEGIN => judge_begin(t, begin_of(c)),
-        ADVANCE => judge_advance(t, advance_of(c)),
-        _ => judge_named(t, c),
+        BEGIN => judge_begin(table, begin_of(command)),
+        ADVANCE => judge_advance(table, advance_of(command)),
+        _ => judge_named(table, command),
     }
 }
 
 // A Marker, by the name that the command holds.
-pub fn judge_named(t: VoterSlotTable, c: VoterCommand) -> Judged
-    ensures { λ r. ⌜ verdictOf r ≡ judgeMarker t (c .control .«request_id») (c .control .«request_digest») ⌝ }
+pub fn judge_named(table: VoterSlotTable, command: VoterCommand) -> Judged
+    ensures { λ r. ⌜ verdictOf r ≡ judgeMarker table (command .control .«request_id») (command .control .«request_digest») ⌝ }
 {
-    let request_id = c.control.request_id;
-    let request_digest = c.control.request_digest;
-    judge_marker(t, request_id, request_digest)
+    let request_id = command.control.request_id;
+    let request_digest = command.control.request_digest;
+    judge_marker(table, request_id, request_digest)
 }
 
 // The makers. Each requires what that of its kind does.
-pub fn make_snapshot(t: VoterSlotTable, c: VoterCommand) -> VoterSlotTable
-    requires { ⌜ (t .revision ≡ full → ⊥) ⌝ }
-    ensures { λ r. ⌜ r ≡ snapshotRecorded t (c .control .step .snapshot) ⌝ }
+pub fn make_snapshot(table: VoterSlotTable, command: VoterCommand) -> VoterSlotTable
+    requires { ⌜ (table .revision ≡ full → ⊥) ⌝ }
+    ensures { λ r. ⌜ r ≡ snapshotRecorded table (command .control .step .snapshot) ⌝ }
 {
-    snapshot_table(t, advance_of(c))
+    snapshot_table(table, advance_of(command))
 }
 
-pub fn make_caught_up(t: VoterSlotTable, c: VoterCommand) -> VoterSlotTable
-    requires { ⌜ (t .revision ≡ full → ⊥) ⌝ }
-    ensures { λ r. ⌜ r ≡ caughtUpRecorded t (c .control .step .«caught_up») ⌝ }
+pub fn make_caught_up(table: VoterSlotTable, command: VoterCommand) -> VoterSlotTable
+    requires { ⌜ (table .revision ≡ full → ⊥) ⌝ }
+    ensures { λ r. ⌜ r ≡ caughtUpRecorded table (command .control .step .«caught_up») ⌝ }
 {
-    catch_up_table(t, advance_of(c))
+    catch_up_table(table, advance_of(command))
 }
 
-pub fn make_continuation(t: VoterSlotTable, c: VoterCommand) -> VoterSlotTable
-    requires { ⌜ (t .revision ≡ full → ⊥) ⌝ }
-    ensures { λ r. ⌜ r ≡ continued t (c .cut) ⌝ }
+pub fn make_continuation(table: VoterSlotTable, command: VoterCommand) -> VoterSlotTable
+    requires { ⌜ (table .revision ≡ full → ⊥) ⌝ }
+    ensures { λ r. ⌜ r ≡ continued table (command .cut) ⌝ }
 {
-    continue_table(t, advance_of(c))
+    continue_table(table, advance_of(command))
 }
 
-pub fn make_fence(t: VoterSlotTable, c: VoterCommand) -> VoterSlotTable
-    requires { ⌜ (t .revision ≡ full → ⊥) ⌝ }
-    ensures { λ r. ⌜ r ≡ fencedAt t (c .cut) ⌝ }
+pub fn make_fence(table: VoterSlotTable, command: VoterCommand) -> VoterSlotTable
+    requires { ⌜ (table .revision ≡ full → ⊥) ⌝ }
+    ensures { λ r. ⌜ r ≡ fencedAt table (command .cut) ⌝ }
 {
-    fence_table(t, advance_of(c))
+    fence_table(table, advance_of(command))
 }
 
-pub fn make_finalize(t: VoterSlotTable, c: VoterCommand) -> VoterSlotTable
-    requires { ⌜ (t .revision ≡ full → ⊥) × ((t .count ≤ 9) × (targetIndex t < t .count)) ⌝ }
-    ensures { λ r. ⌜ r ≡ finalized t (c .cut) ⌝ }
+pub fn make_finalize(table: VoterSlotTable, command: VoterCommand) -> VoterSlotTable
+    requires { ⌜ (table .revision ≡ full → ⊥) × ((table .count ≤ 9) × (targetIndex table < table .count)) ⌝ }
+    ensures { λ r. ⌜ r ≡ finalized table (command .cut) ⌝ }
 {
-    finalize_table(t, advance_of(c))
+    finalize_table(table, advance_of(command))
 }
 
-pub fn make_begin(t: VoterSlotTable, c: VoterCommand) -> VoterSlotTable
-    requires { ⌜ (t .revision ≡ full → ⊥) × ((currentConfiguration t .epoch ≡ full → ⊥) × ((t .count ≤ 9) × (namedIndex t (c .control .request) < t .count))) ⌝ }
-    ensures { λ r. ⌜ r ≡ begun t (c .control .request) (c .cut) ⌝ }
+pub fn make_begin(table: VoterSlotTable, command: VoterCommand) -> VoterSlotTable
+    requires { ⌜ (table .revision ≡ full → ⊥) × ((currentConfiguration table .epoch ≡ full → ⊥) × ((table .count ≤ 9) × (namedIndex table (command .control .request) < table .count))) ⌝ }
+    ensures { λ r. ⌜ r ≡ begun table (command .control .request) (command .cut) ⌝ }
 {
-    begin_table(t, begin_of(c))
+    begin_table(table, begin_of(command))
 }

@@ -19,6 +19,7 @@ ghost use Rattle.control.specs.Judgement.{judgeAdvance, judgeCaughtUp, j
 ghost use Rattle.control.specs.Verdicts.{answerOf, routeOf, verdictOf};
 use crate::control::*;
 use identity::answer::Answer;
+use identity::identity::ConsensusRequestId;
 use records::equality::*;
 use records::evidence::is_in_order;
 use records::evidence::is_valid_snapshot_id;
@@ -48,7 +49,7 @@ pub fn change_if(test: bool, change: Judged) -> Judged
 }
 
 // accepted and unchanged, or else what comes next;
-pub fn keep_if(test: bool, otherwise: Judged) -> Judged
+fn keep_if(test: bool, otherwise: Judged) -> Judged
     ensures { λ r. ⌜ verdictOf r ≡ cond test kept (verdictOf otherwise) ⌝ }
 {
     if test {
@@ -126,13 +127,17 @@ pub fn route(judged: Judged) -> u64
 }
 
 // The arm `Marker` of `apply_control`. A full revision is not tested: nothing is changed.
-pub fn judge_marker(t: VoterSlotTable, request_id: [u8; 16], request_digest: [u8; 32]) -> Judged
-    ensures { λ r. ⌜ verdictOf r ≡ judgeMarker t «request_id» «request_digest» ⌝ }
+pub fn judge_marker(
+    table: VoterSlotTable,
+    request_id: ConsensusRequestId,
+    request_digest: [u8; 32],
+) -> Judged
+    ensures { λ r. ⌜ verdictOf r ≡ judgeMarker table «request_id» «request_digest» ⌝ }
 {
-    let id = same_id(t, request_id);
-    let digest = same_digest(t, request_digest);
-    let phase = t.replacement.phase;
-    let named = (t.has_replacement & id) & digest;
+    let id = same_id(table, request_id);
+    let digest = same_digest(table, request_digest);
+    let phase = table.replacement.phase;
+    let named = (table.has_replacement & id) & digest;
     let catching_up = (phase == LEARNER_ADDED) | (phase == CAUGHT_UP);
     keep_if(
         named & catching_up,
@@ -141,37 +146,37 @@ pub fn judge_marker(t: VoterSlotTable, request_id: [u8; 16], request_digest: [u8
 }
 
 // The id is that of the open request.
-fn same_id(t: VoterSlotTable, request_id: [u8; 16]) -> bool
-    ensures { λ r. ⌜ r ≡ eqBytes (t .replacement .attestation .«request_id») «request_id» ⌝ }
+fn same_id(table: VoterSlotTable, request_id: ConsensusRequestId) -> bool
+    ensures { λ r. ⌜ r ≡ eqBytes (table .replacement .attestation .«request_id») «request_id» ⌝ }
 {
-    let open = t.replacement.attestation.request_id;
+    let open = table.replacement.attestation.request_id;
     same16(open, request_id)
 }
 
 // The digest is that of the open request.
-fn same_digest(t: VoterSlotTable, request_digest: [u8; 32]) -> bool
-    ensures { λ r. ⌜ r ≡ eqBytes (t .replacement .attestation .«request_digest») «request_digest» ⌝ }
+fn same_digest(table: VoterSlotTable, request_digest: [u8; 32]) -> bool
+    ensures { λ r. ⌜ r ≡ eqBytes (table .replacement .attestation .«request_digest») «request_digest» ⌝ }
 {
-    let open = t.replacement.attestation.request_digest;
+    let open = table.replacement.attestation.request_digest;
     same32(open, request_digest)
 }
 
 // `advance`. The revision is tested before all else, also where nothing would change. The slots are
 // searched for a receipt only where no request is open: the search takes longer than most steps.
-pub fn judge_advance(t: VoterSlotTable, c: VoterAdvance) -> Judged
-    ensures { λ r. ⌜ verdictOf r ≡ judgeAdvance t (c .«request_id») (c .«request_digest») (c .step) (c .cut) ⌝ }
+pub fn judge_advance(table: VoterSlotTable, advance: VoterAdvance) -> Judged
+    ensures { λ r. ⌜ verdictOf r ≡ judgeAdvance table (advance .«request_id») (advance .«request_digest») (advance .step) (advance .cut) ⌝ }
 {
-    let request_id = c.request_id;
-    let request_digest = c.request_digest;
-    let step = c.step;
-    let cut = c.cut;
-    if t.revision == u64::MAX {
+    let request_id = advance.request_id;
+    let request_digest = advance.request_digest;
+    let step = advance.step;
+    let cut = advance.cut;
+    if table.revision == u64::MAX {
         return Judged::Refuse(Answer::RevisionExhausted);
     }
-    if t.has_replacement {
-        return judge_open(t, request_id, request_digest, step, cut);
+    if table.has_replacement {
+        return judge_open(table, request_id, request_digest, step, cut);
     }
-    let completed = is_completed(t, request_id, request_digest);
+    let completed = is_completed(table, request_id, request_digest);
     keep_if(
         (step.kind == FINALIZE) & completed,
         Judged::Refuse(Answer::StaleIncarnation),
@@ -180,22 +185,22 @@ pub fn judge_advance(t: VoterSlotTable, c: VoterAdvance) -> Judged
 
 // Whether a slot has the completed receipt of that request. All nine places are passed, so that no
 // slots are copied.
-fn is_completed(t: VoterSlotTable, id: [u8; 16], digest: [u8; 32]) -> bool
-    ensures { λ r. ⌜ r ≡ isCompleted t id digest ⌝ }
+fn is_completed(table: VoterSlotTable, id: ConsensusRequestId, digest: [u8; 32]) -> bool
+    ensures { λ r. ⌜ r ≡ isCompleted table id digest ⌝ }
 {
     let mut none = true;
     let mut i: usize = 0;
     while i < MAX_FIXED_VOTER_SLOTS {
-        let slot = t.slots[i];
+        let slot = table.slots[i];
         let receipt = is_receipt_of(slot, id, digest);
-        none = none & ((t.count <= i) | !receipt);
+        none = none & ((table.count <= i) | !receipt);
         i += 1;
     }
     !none
 }
 
 // The slot has the completed receipt of that request.
-fn is_receipt_of(slot: VoterSlotRecord, id: [u8; 16], digest: [u8; 32]) -> bool
+fn is_receipt_of(slot: VoterSlotRecord, id: ConsensusRequestId, digest: [u8; 32]) -> bool
     ensures { λ r. ⌜ r ≡ isReceiptOf id digest slot ⌝ }
 {
     let held_id = slot.last_result.request_id;
@@ -207,18 +212,18 @@ fn is_receipt_of(slot: VoterSlotRecord, id: [u8; 16], digest: [u8; 32]) -> bool
 
 // The open request is the one that the command names, and the cut lies after its beginning.
 fn judge_open(
-    t: VoterSlotTable,
-    request_id: [u8; 16],
+    table: VoterSlotTable,
+    request_id: ConsensusRequestId,
     request_digest: [u8; 32],
     step: VoterReplacementStep,
     cut: VoterSlotLogId,
 ) -> Judged
-    ensures { λ r. ⌜ verdictOf r ≡ judgeOpen t «request_id» «request_digest» step cut ⌝ }
+    ensures { λ r. ⌜ verdictOf r ≡ judgeOpen table «request_id» «request_digest» step cut ⌝ }
 {
-    let id = same_id(t, request_id);
-    let digest = same_digest(t, request_digest);
-    let prepare = t.replacement.evidence.prepare;
-    let judged = judge_step(t, step, cut);
+    let id = same_id(table, request_id);
+    let digest = same_digest(table, request_digest);
+    let prepare = table.replacement.evidence.prepare;
+    let judged = judge_step(table, step, cut);
     let early = (cut.index <= prepare.index) | (cut.term < prepare.term);
     let later = refuse_if(early, Answer::InvalidTransition, judged);
     let same = refuse_if(!digest, Answer::IdempotencyConflict, later);
@@ -226,38 +231,43 @@ fn judge_open(
 }
 
 // The arms of `advance`, by the kind of the step.
-fn judge_step(t: VoterSlotTable, step: VoterReplacementStep, cut: VoterSlotLogId) -> Judged
-    ensures { λ r. ⌜ verdictOf r ≡ judgeStep t step cut ⌝ }
+fn judge_step(table: VoterSlotTable, step: VoterReplacementStep, cut: VoterSlotLogId) -> Judged
+    ensures { λ r. ⌜ verdictOf r ≡ judgeStep table step cut ⌝ }
 {
     let snapshot = step.snapshot;
     let mark = step.caught_up;
     let kind = step.kind;
     match kind {
-        RECORD_SNAPSHOT => judge_snapshot(t, snapshot, cut),
-        RECORD_CAUGHT_UP => judge_caught_up(t, mark, cut),
-        RECORD_CONTINUATION => judge_continuation(t, cut),
-        FENCE => judge_fence(t, cut),
-        _ => judge_finalize(t, cut),
+        RECORD_SNAPSHOT => judge_snapshot(table, snapshot, cut),
+        RECORD_CAUGHT_UP => judge_caught_up(table, mark, cut),
+        RECORD_CONTINUATION => judge_continuation(table, cut),
+        FENCE => judge_fence(table, cut),
+        _ => judge_finalize(table, cut),
     }
 }
 
 // The arm `RecordSnapshot` of `advance`.
-fn judge_snapshot(t: VoterSlotTable, snapshot: VoterSnapshotEvidence, cut: VoterSlotLogId) -> Judged
-    ensures { λ r. ⌜ verdictOf r ≡ judgeSnapshot t snapshot cut ⌝ }
+fn judge_snapshot(
+    table: VoterSlotTable,
+    snapshot: VoterSnapshotEvidence,
+    cut: VoterSlotLogId,
+) -> Judged
+    ensures { λ r. ⌜ verdictOf r ≡ judgeSnapshot table snapshot cut ⌝ }
 {
-    if t.replacement.evidence.has_snapshot {
-        let held = t.replacement.evidence.snapshot;
+    if table.replacement.evidence.has_snapshot {
+        let held = table.replacement.evidence.snapshot;
         let same = same_voter_snapshot_evidence(held, snapshot);
         return keep_if(same, Judged::Refuse(Answer::IdempotencyConflict));
     }
     let id = snapshot.snapshot_id;
     let at = snapshot.cut;
-    let prepare = t.replacement.evidence.prepare;
-    let continuation = t.replacement.evidence.continuation;
+    let prepare = table.replacement.evidence.prepare;
+    let continuation = table.replacement.evidence.continuation;
     let valid = is_valid_snapshot_id(id);
     let later = log_id_follows(at, prepare, true);
     let fits = fits_continuation(continuation, at, true);
-    let due = (t.replacement.phase == PREPARED) & ((at.index < cut.index) & (at.term <= cut.term));
+    let due = (table.replacement.phase == PREPARED)
+        & ((at.index < cut.index) & (at.term <= cut.term));
     change_if(due & (valid & (later & fits)), Judged::RecordSnapshot)
 }
 
@@ -276,14 +286,14 @@ pub fn fits_continuation(
 }
 
 // The arm `RecordCaughtUp` of `advance`.
-fn judge_caught_up(t: VoterSlotTable, mark: VoterSlotLogId, cut: VoterSlotLogId) -> Judged
-    ensures { λ r. ⌜ verdictOf r ≡ judgeCaughtUp t mark cut ⌝ }
+fn judge_caught_up(table: VoterSlotTable, mark: VoterSlotLogId, cut: VoterSlotLogId) -> Judged
+    ensures { λ r. ⌜ verdictOf r ≡ judgeCaughtUp table mark cut ⌝ }
 {
-    let phase = t.replacement.phase;
-    let caught_up = t.replacement.evidence.caught_up;
+    let phase = table.replacement.phase;
+    let caught_up = table.replacement.evidence.caught_up;
     let held = caught_up.cut;
-    let learner = t.replacement.evidence.learner.cut;
-    let continuation = t.replacement.evidence.continuation;
+    let learner = table.replacement.evidence.learner.cut;
+    let continuation = table.replacement.evidence.continuation;
     let same = same_voter_slot_log_id(held, mark);
     let later = follows_mark(caught_up, mark, learner);
     let fits = fits_continuation(continuation, mark, false);
@@ -305,17 +315,17 @@ fn follows_mark(caught_up: OptionalLogId, mark: VoterSlotLogId, learner: VoterSl
 }
 
 // The arm `RecordContinuation` of `advance`.
-fn judge_continuation(t: VoterSlotTable, cut: VoterSlotLogId) -> Judged
-    ensures { λ r. ⌜ verdictOf r ≡ judgeContinuation t cut ⌝ }
+fn judge_continuation(table: VoterSlotTable, cut: VoterSlotLogId) -> Judged
+    ensures { λ r. ⌜ verdictOf r ≡ judgeContinuation table cut ⌝ }
 {
-    let phase = t.replacement.phase;
-    let snapshot_cut = t.replacement.evidence.snapshot.cut;
+    let phase = table.replacement.phase;
+    let snapshot_cut = table.replacement.evidence.snapshot.cut;
     let snapshot = OptionalLogId {
-        is_some: t.replacement.evidence.has_snapshot,
+        is_some: table.replacement.evidence.has_snapshot,
         cut: snapshot_cut,
     };
-    let learner = t.replacement.evidence.learner;
-    let caught_up = t.replacement.evidence.caught_up;
+    let learner = table.replacement.evidence.learner;
+    let caught_up = table.replacement.evidence.caught_up;
     let fits_snapshot = is_in_order(cut, snapshot, true);
     let fits_learner = is_in_order(cut, learner, false);
     let fits_caught_up = is_in_order(cut, caught_up, false);
@@ -324,17 +334,17 @@ fn judge_continuation(t: VoterSlotTable, cut: VoterSlotLogId) -> Judged
         Judged::Continue,
     );
     let unfenced = refuse_if(FENCED <= phase, Answer::InvalidTransition, change);
-    keep_if(t.replacement.evidence.continuation.is_some, unfenced)
+    keep_if(table.replacement.evidence.continuation.is_some, unfenced)
 }
 
 // The arm `Fence` of `advance`.
-fn judge_fence(t: VoterSlotTable, cut: VoterSlotLogId) -> Judged
-    ensures { λ r. ⌜ verdictOf r ≡ judgeFence t cut ⌝ }
+fn judge_fence(table: VoterSlotTable, cut: VoterSlotLogId) -> Judged
+    ensures { λ r. ⌜ verdictOf r ≡ judgeFence table cut ⌝ }
 {
-    let phase = t.replacement.phase;
-    let caught_up = t.replacement.evidence.caught_up;
+    let phase = table.replacement.phase;
+    let caught_up = table.replacement.evidence.caught_up;
     let mark = caught_up.cut;
-    let continuation = t.replacement.evidence.continuation;
+    let continuation = table.replacement.evidence.continuation;
     let continued = continuation.cut;
     let after_mark = log_id_follows(cut, mark, false);
     let after_continuation = log_id_follows(cut, continued, false);
@@ -345,10 +355,13 @@ fn judge_fence(t: VoterSlotTable, cut: VoterSlotLogId) -> Judged
 }
 
 // The arm `Finalize` of `advance`.
-fn judge_finalize(t: VoterSlotTable, cut: VoterSlotLogId) -> Judged
-    ensures { λ r. ⌜ verdictOf r ≡ judgeFinalize t cut ⌝ }
+fn judge_finalize(table: VoterSlotTable, cut: VoterSlotLogId) -> Judged
+    ensures { λ r. ⌜ verdictOf r ≡ judgeFinalize table cut ⌝ }
 {
-    let uniform = t.replacement.evidence.uniform.cut;
+    let uniform = table.replacement.evidence.uniform.cut;
     let later = log_id_follows(cut, uniform, false);
-    change_if((t.replacement.phase == UNIFORM) & later, Judged::Finalize)
+    change_if(
+        (table.replacement.phase == UNIFORM) & later,
+        Judged::Finalize,
+    )
 }

@@ -16,73 +16,73 @@ use records::records::*;
 use records::successor::slot_index;
 
 // The arm `RecordContinuation` of `advance`.
-pub fn continue_table(t: VoterSlotTable, c: VoterAdvance) -> VoterSlotTable
-    requires { ⌜ (t .revision ≡ full → ⊥) ⌝ }
-    ensures { λ r. ⌜ r ≡ continued t (c .cut) ⌝ }
+pub fn continue_table(table: VoterSlotTable, advance: VoterAdvance) -> VoterSlotTable
+    requires { ⌜ (table .revision ≡ full → ⊥) ⌝ }
+    ensures { λ r. ⌜ r ≡ continued table (advance .cut) ⌝ }
 {
-    let mut u = t;
-    u.replacement.evidence.continuation.is_some = true;
-    u.replacement.evidence.continuation.cut.term = c.cut.term;
-    u.replacement.evidence.continuation.cut.index = c.cut.index;
-    u.has_replacement = true;
-    u.revision = t.revision + 1;
-    u
+    let mut next = table;
+    next.replacement.evidence.continuation.is_some = true;
+    next.replacement.evidence.continuation.cut.term = advance.cut.term;
+    next.replacement.evidence.continuation.cut.index = advance.cut.index;
+    next.has_replacement = true;
+    next.revision = table.revision + 1;
+    next
 }
 
 // The arm `Fence` of `advance`.
-pub fn fence_table(t: VoterSlotTable, c: VoterAdvance) -> VoterSlotTable
-    requires { ⌜ (t .revision ≡ full → ⊥) ⌝ }
-    ensures { λ r. ⌜ r ≡ fencedAt t (c .cut) ⌝ }
+pub fn fence_table(table: VoterSlotTable, advance: VoterAdvance) -> VoterSlotTable
+    requires { ⌜ (table .revision ≡ full → ⊥) ⌝ }
+    ensures { λ r. ⌜ r ≡ fencedAt table (advance .cut) ⌝ }
 {
-    let mut u = t;
-    u.replacement.evidence.fence.is_some = true;
-    u.replacement.evidence.fence.cut.term = c.cut.term;
-    u.replacement.evidence.fence.cut.index = c.cut.index;
-    u.replacement.phase = FENCED;
-    u.has_replacement = true;
-    u.revision = t.revision + 1;
-    u
+    let mut next = table;
+    next.replacement.evidence.fence.is_some = true;
+    next.replacement.evidence.fence.cut.term = advance.cut.term;
+    next.replacement.evidence.fence.cut.index = advance.cut.index;
+    next.replacement.phase = FENCED;
+    next.has_replacement = true;
+    next.revision = table.revision + 1;
+    next
 }
 
 // The arm `RecordCaughtUp` of `advance`.
-pub fn catch_up_table(t: VoterSlotTable, c: VoterAdvance) -> VoterSlotTable
-    requires { ⌜ (t .revision ≡ full → ⊥) ⌝ }
-    ensures { λ r. ⌜ r ≡ caughtUpRecorded t (c .step .«caught_up») ⌝ }
+pub fn catch_up_table(table: VoterSlotTable, advance: VoterAdvance) -> VoterSlotTable
+    requires { ⌜ (table .revision ≡ full → ⊥) ⌝ }
+    ensures { λ r. ⌜ r ≡ caughtUpRecorded table (advance .step .«caught_up») ⌝ }
 {
-    let mut u = t;
-    u.replacement.evidence.caught_up.is_some = true;
-    u.replacement.evidence.caught_up.cut.term = c.step.caught_up.term;
-    u.replacement.evidence.caught_up.cut.index = c.step.caught_up.index;
-    u.replacement.phase = CAUGHT_UP;
-    u.has_replacement = true;
-    u.revision = t.revision + 1;
-    u
+    let mut next = table;
+    next.replacement.evidence.caught_up.is_some = true;
+    next.replacement.evidence.caught_up.cut.term = advance.step.caught_up.term;
+    next.replacement.evidence.caught_up.cut.index = advance.step.caught_up.index;
+    next.replacement.phase = CAUGHT_UP;
+    next.has_replacement = true;
+    next.revision = table.revision + 1;
+    next
 }
 
 // The arm `RecordSnapshot` of `advance`.
-pub fn snapshot_table(t: VoterSlotTable, c: VoterAdvance) -> VoterSlotTable
-    requires { ⌜ (t .revision ≡ full → ⊥) ⌝ }
-    ensures { λ r. ⌜ r ≡ snapshotRecorded t (c .step .snapshot) ⌝ }
+pub fn snapshot_table(table: VoterSlotTable, advance: VoterAdvance) -> VoterSlotTable
+    requires { ⌜ (table .revision ≡ full → ⊥) ⌝ }
+    ensures { λ r. ⌜ r ≡ snapshotRecorded table (advance .step .snapshot) ⌝ }
 {
-    let mut u = t;
-    let attestation = t.replacement.attestation;
-    let predecessor = t.replacement.predecessor;
-    let successor = t.replacement.successor;
-    let snapshot = c.step.snapshot;
-    let old = t.replacement.evidence;
+    let mut next = table;
+    let attestation = table.replacement.attestation;
+    let predecessor = table.replacement.predecessor;
+    let successor = table.replacement.successor;
+    let snapshot = advance.step.snapshot;
+    let old = table.replacement.evidence;
     let evidence = with_snapshot(old, snapshot);
     let operation = VoterReplacementRecord {
-        expected_revision: t.replacement.expected_revision,
+        expected_revision: table.replacement.expected_revision,
         attestation,
         predecessor,
         successor,
         phase: SNAPSHOT_INSTALLED,
         evidence,
     };
-    u.replacement = operation;
-    u.has_replacement = true;
-    u.revision = t.revision + 1;
-    u
+    next.replacement = operation;
+    next.has_replacement = true;
+    next.revision = table.revision + 1;
+    next
 }
 
 // The evidence with the snapshot in it.
@@ -114,24 +114,24 @@ fn with_snapshot(
 
 // The arm `Finalize` of `advance`: the slot being replaced gets the completed receipt, and no
 // request is open any more.
-pub fn finalize_table(t: VoterSlotTable, c: VoterAdvance) -> VoterSlotTable
-    requires { ⌜ (t .revision ≡ full → ⊥) × ((t .count ≤ 9) × (targetIndex t < t .count)) ⌝ }
-    ensures { λ r. ⌜ r ≡ finalized t (c .cut) ⌝ }
+pub fn finalize_table(table: VoterSlotTable, advance: VoterAdvance) -> VoterSlotTable
+    requires { ⌜ (table .revision ≡ full → ⊥) × ((table .count ≤ 9) × (targetIndex table < table .count)) ⌝ }
+    ensures { λ r. ⌜ r ≡ finalized table (advance .cut) ⌝ }
 {
-    let mut u = t;
-    let at = slot_index(t, t.replacement.attestation.slot);
-    let mut slots = t.slots;
+    let mut next = table;
+    let at = slot_index(table, table.replacement.attestation.slot);
+    let mut slots = table.slots;
     let mut slot = slots[at];
-    let request_id = t.replacement.attestation.request_id;
-    let request_digest = t.replacement.attestation.request_digest;
-    let cut = c.cut;
-    let revision = t.revision + 1;
+    let request_id = table.replacement.attestation.request_id;
+    let request_digest = table.replacement.attestation.request_digest;
+    let cut = advance.cut;
+    let revision = table.revision + 1;
     let receipt = VoterReplacementResult {
         request_id,
         request_digest,
         incarnation: slot.member.identity.incarnation,
         revision,
-        configuration_epoch: t.configuration_epoch,
+        configuration_epoch: table.configuration_epoch,
         kind: COMPLETED,
         terminal: cut,
     };
@@ -139,9 +139,9 @@ pub fn finalize_table(t: VoterSlotTable, c: VoterAdvance) -> VoterSlotTable
     slot.last_result = receipt;
     slots[at] = slot;
     let blank = blank_voter_replacement_record();
-    u.replacement = blank;
-    u.has_replacement = false;
-    u.revision = revision;
-    u.slots = slots;
-    u
+    next.replacement = blank;
+    next.has_replacement = false;
+    next.revision = revision;
+    next.slots = slots;
+    next
 }

@@ -24,12 +24,11 @@ ghost use Rattle.control.specs.Observation.{isObsolete, memberIndex, obs
 ghost use Rattle.control.specs.ObserveSight.{Room, Supplied, answerOfObserved, confirmed, entryWeighed, fewMembers, isChange, judgeClosed, judgeKnown, judgeMembers, judgeSeen, judgeSets, lingersAs, routeOfObserved, seenBy, seenOf, seenOld, sightOf, testsOf, verdictOfObserved, weighed};
 use crate::apply::Controlled;
 use crate::judge::ROUTE_NONE;
+use crate::judge::fits_continuation;
 use crate::sets::*;
 use identity::answer::Answer;
 use identity::answer::accepted;
-use identity::identity::VoterSlotIdentity;
-use identity::identity::VoterSlotIdentityResult;
-use records::evidence::is_in_order;
+use identity::identity::*;
 use records::evidence::log_id_follows;
 use records::records::*;
 use records::representable::is_representable;
@@ -126,11 +125,11 @@ fn see_by(phase: u8, tests: SetTests) -> Seen
 
 // The tests: `old` and `new` are the ids of the members of the predecessor and of the successor.
 fn test_sets(
-    old: &[u64],
-    new: &[u64],
-    sets: &[u64],
+    old: &[ConsensusNodeId],
+    new: &[ConsensusNodeId],
+    sets: &[ConsensusNodeId],
     counts: &[usize],
-    nodes: &[u64],
+    nodes: &[ConsensusNodeId],
     phase: u8,
     known: bool,
     lingers: bool,
@@ -162,7 +161,7 @@ fn test_sets(
 // ---- a superseded candidate, which may stay until the engine removes it
 
 // The place of the member of that slot, or the count.
-fn member_index(configuration: VoterConfiguration, slot: u16) -> usize
+fn member_index(configuration: VoterConfiguration, slot: SlotId) -> usize
     requires { ⌜ configuration .count ≤ 9 ⌝ }
     ensures { λ r. ⌜ r ≡ memberIndex configuration slot ⌝ }
 {
@@ -180,27 +179,27 @@ fn member_index(configuration: VoterConfiguration, slot: u16) -> usize
 
 // The identity is a superseded candidate's: of the slot being replaced, after the predecessor's
 // incarnation, and not after the attested one.
-fn is_obsolete(t: VoterSlotTable, identity: VoterSlotIdentity) -> bool
-    requires { ⌜ t .replacement .predecessor .count ≤ 9 ⌝ }
-    ensures { λ r. ⌜ r ≡ isObsolete (t .replacement) (Ok identity) ⌝ }
+fn is_obsolete(table: VoterSlotTable, identity: VoterSlotIdentity) -> bool
+    requires { ⌜ table .replacement .predecessor .count ≤ 9 ⌝ }
+    ensures { λ r. ⌜ r ≡ isObsolete (table .replacement) (Ok identity) ⌝ }
 {
-    let predecessor = t.replacement.predecessor;
+    let predecessor = table.replacement.predecessor;
     let members = predecessor.members;
-    let slot = t.replacement.attestation.slot;
+    let slot = table.replacement.attestation.slot;
     let at = member_index(predecessor, slot);
     if predecessor.count <= at {
         return false;
     }
     let retired = members[at].identity.incarnation;
-    (((t.replacement.phase <= SNAPSHOT_INSTALLED) & (identity.slot == slot))
+    (((table.replacement.phase <= SNAPSHOT_INSTALLED) & (identity.slot == slot))
         & (retired < identity.incarnation))
-        & (identity.incarnation <= t.replacement.attestation.expected_incarnation)
+        & (identity.incarnation <= table.replacement.attestation.expected_incarnation)
 }
 
 // Whether the node of neither configuration, if there is one, is a superseded candidate.
-fn may_linger(t: VoterSlotTable, node: u64) -> bool
-    requires { ⌜ t .replacement .predecessor .count ≤ 9 ⌝ }
-    ensures { λ r. ⌜ r ≡ lingersAs (t .replacement) node ⌝ }
+fn may_linger(table: VoterSlotTable, node: ConsensusNodeId) -> bool
+    requires { ⌜ table .replacement .predecessor .count ≤ 9 ⌝ }
+    ensures { λ r. ⌜ r ≡ lingersAs (table .replacement) node ⌝ }
 {
     if node == NO_ID {
         return true;
@@ -208,7 +207,7 @@ fn may_linger(t: VoterSlotTable, node: u64) -> bool
     let read = VoterSlotIdentity::from_node_id(node);
     match read {
         VoterSlotIdentityResult::Err(_) => false,
-        VoterSlotIdentityResult::Ok(identity) => is_obsolete(t, identity),
+        VoterSlotIdentityResult::Ok(identity) => is_obsolete(table, identity),
     }
 }
 
@@ -216,19 +215,19 @@ fn may_linger(t: VoterSlotTable, node: u64) -> bool
 
 // `old` and `new` are the ids of the members of the predecessor and of the successor.
 fn see_ids(
-    t: VoterSlotTable,
-    old: &[u64],
-    new: &[u64],
-    sets: &[u64],
+    table: VoterSlotTable,
+    old: &[ConsensusNodeId],
+    new: &[ConsensusNodeId],
+    sets: &[ConsensusNodeId],
     counts: &[usize],
-    nodes: &[u64],
+    nodes: &[ConsensusNodeId],
 ) -> Seen
-    requires { ⌜ (total (now counts) ≤ length (now sets)) × (t .replacement .predecessor .count ≤ 9) ⌝ }
-    ensures { λ r. ⌜ sightOf r ≡ seenOf (t .replacement) (now (old .entry)) (now (new .entry)) (now (sets .entry)) (now (counts .entry)) (now (nodes .entry)) ⌝ }
+    requires { ⌜ (total (now counts) ≤ length (now sets)) × (table .replacement .predecessor .count ≤ 9) ⌝ }
+    ensures { λ r. ⌜ sightOf r ≡ seenOf (table .replacement) (now (old .entry)) (now (new .entry)) (now (sets .entry)) (now (counts .entry)) (now (nodes .entry)) ⌝ }
 {
-    let phase = t.replacement.phase;
+    let phase = table.replacement.phase;
     let outside = first_outside(nodes, old, new);
-    let lingers = may_linger(t, outside);
+    let lingers = may_linger(table, outside);
     let tests = test_sets(
         old,
         new,
@@ -243,19 +242,24 @@ fn see_ids(
 }
 
 // `observe_membership` with a request open: what its arms tell apart.
-fn see(t: VoterSlotTable, sets: &[u64], counts: &[usize], nodes: &[u64]) -> Seen
-    requires { ⌜ Supplied (now sets) (now counts) (now nodes) × ((t .replacement .predecessor .count ≤ 9) × (t .replacement .successor .count ≤ 9)) ⌝ }
-    ensures { λ r. ⌜ sightOf r ≡ see (t .replacement) (splitSets (now (sets .entry)) (now (counts .entry))) (now (nodes .entry)) ⌝ }
+fn see(
+    table: VoterSlotTable,
+    sets: &[ConsensusNodeId],
+    counts: &[usize],
+    nodes: &[ConsensusNodeId],
+) -> Seen
+    requires { ⌜ Supplied (now sets) (now counts) (now nodes) × ((table .replacement .predecessor .count ≤ 9) × (table .replacement .successor .count ≤ 9)) ⌝ }
+    ensures { λ r. ⌜ sightOf r ≡ see (table .replacement) (splitSets (now (sets .entry)) (now (counts .entry))) (now (nodes .entry)) ⌝ }
 {
-    let predecessor = t.replacement.predecessor;
-    let successor = t.replacement.successor;
+    let predecessor = table.replacement.predecessor;
+    let successor = table.replacement.successor;
     let before = ids_of(predecessor);
     let after = ids_of(successor);
     let m = predecessor.count;
     let n = successor.count;
     let olds = &before[..];
     let news = &after[..];
-    see_ids(t, &olds[..m], &news[..n], sets, counts, nodes)
+    see_ids(table, &olds[..m], &news[..n], sets, counts, nodes)
 }
 
 // ---- the verdict
@@ -281,31 +285,29 @@ fn refuse_full(revision: u64, otherwise: Observed) -> Observed
 }
 
 // Whether the cut comes next in the evidence, as that of the learner,
-fn is_learner_cut(t: VoterSlotTable, cut: VoterSlotLogId) -> bool
-    ensures { λ r. ⌜ r ≡ learnerTest (t .replacement .evidence) cut ⌝ }
+fn is_learner_cut(table: VoterSlotTable, cut: VoterSlotLogId) -> bool
+    ensures { λ r. ⌜ r ≡ learnerTest (table .replacement .evidence) cut ⌝ }
 {
-    let snapshot = t.replacement.evidence.snapshot.cut;
-    let continuation = t.replacement.evidence.continuation;
-    let own = continuation.cut;
-    let other = OptionalLogId { is_some: true, cut };
+    let snapshot = table.replacement.evidence.snapshot.cut;
+    let continuation = table.replacement.evidence.continuation;
     let later = log_id_follows(cut, snapshot, false);
-    let in_order = is_in_order(own, other, false);
-    later & (!continuation.is_some | in_order)
+    let fits = fits_continuation(continuation, cut, false);
+    later & fits
 }
 
 // of the joint membership,
-fn is_joint_cut(t: VoterSlotTable, cut: VoterSlotLogId) -> bool
-    ensures { λ r. ⌜ r ≡ jointTest (t .replacement .evidence) cut ⌝ }
+fn is_joint_cut(table: VoterSlotTable, cut: VoterSlotLogId) -> bool
+    ensures { λ r. ⌜ r ≡ jointTest (table .replacement .evidence) cut ⌝ }
 {
-    let fence = t.replacement.evidence.fence.cut;
+    let fence = table.replacement.evidence.fence.cut;
     log_id_follows(cut, fence, false)
 }
 
 // or of the uniform one.
-fn is_uniform_cut(t: VoterSlotTable, cut: VoterSlotLogId) -> bool
-    ensures { λ r. ⌜ r ≡ uniformTest (t .replacement .evidence) cut ⌝ }
+fn is_uniform_cut(table: VoterSlotTable, cut: VoterSlotLogId) -> bool
+    ensures { λ r. ⌜ r ≡ uniformTest (table .replacement .evidence) cut ⌝ }
 {
-    let joint = t.replacement.evidence.joint.cut;
+    let joint = table.replacement.evidence.joint.cut;
     log_id_follows(cut, joint, false)
 }
 
@@ -316,15 +318,15 @@ fn is_uniform_cut(t: VoterSlotTable, cut: VoterSlotLogId) -> bool
 // copied.
 
 // `slot_index`, with the places passed from the last to the first.
-fn slot_place(t: VoterSlotTable, slot: u16) -> usize
-    requires { ⌜ t .count ≤ 9 ⌝ }
-    ensures { λ r. ⌜ r ≡ slotIndex t slot ⌝ }
+fn slot_place(table: VoterSlotTable, slot: SlotId) -> usize
+    requires { ⌜ table .count ≤ 9 ⌝ }
+    ensures { λ r. ⌜ r ≡ slotIndex table slot ⌝ }
 {
     let mut at: usize = MAX_FIXED_VOTER_SLOTS;
     let mut i: usize = MAX_FIXED_VOTER_SLOTS;
     while 0 < i {
         i -= 1;
-        if (t.count <= i) | (t.slots[i].member.identity.slot == slot) {
+        if (table.count <= i) | (table.slots[i].member.identity.slot == slot) {
             at = i;
         }
     }
@@ -332,15 +334,15 @@ fn slot_place(t: VoterSlotTable, slot: u16) -> usize
 }
 
 // The phase of the slot at a place.
-fn phase_at(t: VoterSlotTable, at: usize) -> u8
+fn phase_at(table: VoterSlotTable, at: usize) -> u8
     requires { ⌜ at < 9 ⌝ }
-    ensures { λ r. ⌜ r ≡ slotAt t at .phase ⌝ }
+    ensures { λ r. ⌜ r ≡ slotAt table at .phase ⌝ }
 {
     let mut phase = 0;
     let mut i: usize = 0;
     while i < MAX_FIXED_VOTER_SLOTS {
         if i == at {
-            phase = t.slots[i].phase;
+            phase = table.slots[i].phase;
         }
         i += 1;
     }
@@ -348,56 +350,61 @@ fn phase_at(t: VoterSlotTable, at: usize) -> u8
 }
 
 // The table with the phase of the slot at a place.
-fn with_phase(t: VoterSlotTable, at: usize, phase: u8) -> VoterSlotTable
+fn with_phase(table: VoterSlotTable, at: usize, phase: u8) -> VoterSlotTable
     requires { ⌜ at < 9 ⌝ }
-    ensures { λ r. ⌜ r ≡ tableWith t (t .revision) (t .«configuration_epoch») (set (t .slots) at (inPhase (slotAt t at) phase)) (t .«has_replacement») (t .replacement) ⌝ }
+    ensures { λ r. ⌜ r ≡ tableWith table (table .revision) (table .«configuration_epoch») (set (table .slots) at (inPhase (slotAt table at) phase)) (table .«has_replacement») (table .replacement) ⌝ }
 {
-    let mut u = t;
+    let mut next = table;
     let mut i: usize = 0;
     while i < MAX_FIXED_VOTER_SLOTS {
         if i == at {
-            u.slots[i].phase = phase;
+            next.slots[i].phase = phase;
         }
         i += 1;
     }
-    u
+    next
 }
 
 // ---- the judgement of what is seen
 
 // What is seen of a table that is known to be valid, whose slot being replaced is in this phase.
-fn judge_known(t: VoterSlotTable, phase: u8, seen: Seen, cut: VoterSlotLogId) -> Observed
-    requires { ⌜ targetSlot t .phase ≡ phase ⌝ }
-    ensures { λ r. ⌜ verdictOfObserved r ≡ judgeKnown t (sightOf seen) cut ⌝ }
+fn judge_known(table: VoterSlotTable, phase: u8, seen: Seen, cut: VoterSlotLogId) -> Observed
+    requires { ⌜ targetSlot table .phase ≡ phase ⌝ }
+    ensures { λ r. ⌜ verdictOfObserved r ≡ judgeKnown table (sightOf seen) cut ⌝ }
 {
     match seen {
         Seen::Strange => Observed::Refuse(Answer::InvalidTransition),
         Seen::NothingNew => {
-            let right = target_phase(t.replacement.phase);
+            let right = target_phase(table.replacement.phase);
             accept_if(phase == right, Observed::Keep)
         }
-        Seen::NewLearner => accept_if(is_learner_cut(t, cut), Observed::AddLearner),
-        Seen::NewJoint => accept_if(is_joint_cut(t, cut), Observed::AddJoint),
-        Seen::NewUniform => accept_if(is_uniform_cut(t, cut), Observed::AddUniform),
+        Seen::NewLearner => accept_if(is_learner_cut(table, cut), Observed::AddLearner),
+        Seen::NewJoint => accept_if(is_joint_cut(table, cut), Observed::AddJoint),
+        Seen::NewUniform => accept_if(is_uniform_cut(table, cut), Observed::AddUniform),
     }
 }
 
 // A table without the slot being replaced is refused with 25.
-fn judge_seen(t: VoterSlotTable, seen: Seen, cut: VoterSlotLogId) -> Observed
-    requires { ⌜ t .count ≤ 9 ⌝ }
-    ensures { λ r. ⌜ verdictOfObserved r ≡ judgeSeen t (sightOf seen) cut ⌝ }
+fn judge_seen(table: VoterSlotTable, seen: Seen, cut: VoterSlotLogId) -> Observed
+    requires { ⌜ table .count ≤ 9 ⌝ }
+    ensures { λ r. ⌜ verdictOfObserved r ≡ judgeSeen table (sightOf seen) cut ⌝ }
 {
-    let slot = t.replacement.attestation.slot;
-    let at = slot_place(t, slot);
-    if t.count <= at {
+    let slot = table.replacement.attestation.slot;
+    let at = slot_place(table, slot);
+    if table.count <= at {
         return Observed::Refuse(Answer::InvalidTransition);
     }
-    let phase = phase_at(t, at);
-    judge_known(t, phase, seen, cut)
+    let phase = phase_at(table, at);
+    judge_known(table, phase, seen, cut)
 }
 
 // No request is open: `members` are the ids of the slots.
-fn judge_members(members: &[u64], sets: &[u64], counts: &[usize], nodes: &[u64]) -> Observed
+fn judge_members(
+    members: &[ConsensusNodeId],
+    sets: &[ConsensusNodeId],
+    counts: &[usize],
+    nodes: &[ConsensusNodeId],
+) -> Observed
     ensures { λ r. ⌜ verdictOfObserved r ≡ judgeMembers (now (members .entry)) (now (sets .entry)) (now (counts .entry)) (now (nodes .entry)) ⌝ }
 {
     let one = is_one_set(sets, counts, members);
@@ -406,57 +413,63 @@ fn judge_members(members: &[u64], sets: &[u64], counts: &[usize], nodes: &[u64])
 }
 
 // `observe_membership` with no request open.
-fn judge_closed(t: VoterSlotTable, sets: &[u64], counts: &[usize], nodes: &[u64]) -> Observed
-    requires { ⌜ Supplied (now sets) (now counts) (now nodes) × ((t .count ≤ 9) × (t .«has_replacement» ≡ false)) ⌝ }
-    ensures { λ r. ⌜ verdictOfObserved r ≡ judgeClosed t (splitSets (now (sets .entry)) (now (counts .entry))) (now (nodes .entry)) ⌝ }
+fn judge_closed(
+    table: VoterSlotTable,
+    sets: &[ConsensusNodeId],
+    counts: &[usize],
+    nodes: &[ConsensusNodeId],
+) -> Observed
+    requires { ⌜ Supplied (now sets) (now counts) (now nodes) × ((table .count ≤ 9) × (table .«has_replacement» ≡ false)) ⌝ }
+    ensures { λ r. ⌜ verdictOfObserved r ≡ judgeClosed table (splitSets (now (sets .entry)) (now (counts .entry))) (now (nodes .entry)) ⌝ }
 {
-    let ids = ids_of_slots(t);
-    let count = t.count;
+    let ids = ids_of_slots(table);
+    let count = table.count;
     let all = &ids[..];
     judge_members(&all[..count], sets, counts, nodes)
 }
 
 // Past 30 and 31 of what is supplied.
 fn judge_sets(
-    t: VoterSlotTable,
-    sets: &[u64],
+    table: VoterSlotTable,
+    sets: &[ConsensusNodeId],
     counts: &[usize],
-    nodes: &[u64],
+    nodes: &[ConsensusNodeId],
     cut: VoterSlotLogId,
 ) -> Observed
-    requires { ⌜ Supplied (now sets) (now counts) (now nodes) × (fewMembers t ≡ true) ⌝ }
-    ensures { λ r. ⌜ verdictOfObserved r ≡ judgeSets t (splitSets (now (sets .entry)) (now (counts .entry))) (now (nodes .entry)) cut ⌝ }
+    requires { ⌜ Supplied (now sets) (now counts) (now nodes) × (fewMembers table ≡ true) ⌝ }
+    ensures { λ r. ⌜ verdictOfObserved r ≡ judgeSets table (splitSets (now (sets .entry)) (now (counts .entry))) (now (nodes .entry)) cut ⌝ }
 {
-    if !t.has_replacement {
-        let closed = judge_closed(t, sets, counts, nodes);
-        return refuse_full(t.revision, closed);
+    if !table.has_replacement {
+        let closed = judge_closed(table, sets, counts, nodes);
+        return refuse_full(table.revision, closed);
     }
-    let seen = see(t, sets, counts, nodes);
-    let open = judge_seen(t, seen, cut);
-    refuse_full(t.revision, open)
+    let seen = see(table, sets, counts, nodes);
+    let open = judge_seen(table, seen, cut);
+    refuse_full(table.revision, open)
 }
 
 // No count that the code goes by is above nine.
-fn has_few_members(t: VoterSlotTable) -> bool
-    ensures { λ r. ⌜ r ≡ fewMembers t ⌝ }
+fn has_few_members(table: VoterSlotTable) -> bool
+    ensures { λ r. ⌜ r ≡ fewMembers table ⌝ }
 {
-    let old = t.replacement.predecessor.count;
-    let new = t.replacement.successor.count;
-    (t.count <= MAX_FIXED_VOTER_SLOTS)
-        & (!t.has_replacement | ((old <= MAX_FIXED_VOTER_SLOTS) & (new <= MAX_FIXED_VOTER_SLOTS)))
+    let old = table.replacement.predecessor.count;
+    let new = table.replacement.successor.count;
+    (table.count <= MAX_FIXED_VOTER_SLOTS)
+        & (!table.has_replacement
+            | ((old <= MAX_FIXED_VOTER_SLOTS) & (new <= MAX_FIXED_VOTER_SLOTS)))
 }
 
 // The verdict. On a table not known to be valid a change still needs `confirm`.
 pub fn weigh(
-    t: VoterSlotTable,
-    sets: &[u64],
+    table: VoterSlotTable,
+    sets: &[ConsensusNodeId],
     counts: &[usize],
-    nodes: &[u64],
+    nodes: &[ConsensusNodeId],
     cut: VoterSlotLogId,
 ) -> Observed
-    ensures { λ r. ⌜ verdictOfObserved r ≡ weighed t (now (sets .entry)) (now (counts .entry)) (now (nodes .entry)) cut ⌝ }
+    ensures { λ r. ⌜ verdictOfObserved r ≡ weighed table (now (sets .entry)) (now (counts .entry)) (now (nodes .entry)) cut ⌝ }
 {
-    let few = has_few_members(t);
+    let few = has_few_members(table);
     let counted = add_up(counts, sets.len());
     let held = are_held(sets);
     let nodes_held = are_held(nodes);
@@ -468,18 +481,18 @@ pub fn weigh(
     if !(rising & nodes_rise) {
         return Observed::Refuse(Answer::NotRising);
     }
-    judge_sets(t, sets, counts, nodes, cut)
+    judge_sets(table, sets, counts, nodes, cut)
 }
 
 // The whole validity is asked for only where something is new.
-fn confirm(t: VoterSlotTable, judged: Observed) -> Observed
-    requires { ⌜ t .count ≤ 9 ⌝ }
-    ensures { λ r. ⌜ verdictOfObserved r ≡ confirmed (isAccepted (validity t)) (verdictOfObserved judged) ⌝ }
+fn confirm(table: VoterSlotTable, judged: Observed) -> Observed
+    requires { ⌜ table .count ≤ 9 ⌝ }
+    ensures { λ r. ⌜ verdictOfObserved r ≡ confirmed (isAccepted (validity table)) (verdictOfObserved judged) ⌝ }
 {
     if route_of_observed(judged) == ROUTE_NONE {
         return judged;
     }
-    let valid = accepted(validate_representable(t));
+    let valid = accepted(validate_representable(table));
     accept_if(valid, judged)
 }
 
@@ -497,14 +510,14 @@ pub fn answer_of_observed(judged: Observed) -> Answer
 }
 
 // The number of the table that an observation makes.
-pub const ROUTE_LEARNER: u64 = 1;
+const ROUTE_LEARNER: u64 = 1;
 
-pub const ROUTE_JOINT: u64 = 2;
+const ROUTE_JOINT: u64 = 2;
 
-pub const ROUTE_UNIFORM: u64 = 3;
+const ROUTE_UNIFORM: u64 = 3;
 
 // Which table is to be made.
-pub fn route_of_observed(judged: Observed) -> u64
+fn route_of_observed(judged: Observed) -> u64
     ensures { λ r. ⌜ r ≡ routeOfObserved (verdictOfObserved judged) ⌝ }
 {
     match judged {
@@ -519,151 +532,151 @@ pub fn route_of_observed(judged: Observed) -> u64
 // ---- the next table
 
 // The membership with the learner.
-pub fn learner_table(t: VoterSlotTable, cut: VoterSlotLogId) -> VoterSlotTable
-    requires { ⌜ (t .revision ≡ full → ⊥) × ((t .count ≤ 9) × (targetIndex t < t .count)) ⌝ }
-    ensures { λ r. ⌜ r ≡ added t cut addsLearner ⌝ }
+pub fn learner_table(table: VoterSlotTable, cut: VoterSlotLogId) -> VoterSlotTable
+    requires { ⌜ (table .revision ≡ full → ⊥) × ((table .count ≤ 9) × (targetIndex table < table .count)) ⌝ }
+    ensures { λ r. ⌜ r ≡ added table cut addsLearner ⌝ }
 {
-    let mut u = t;
-    let slot = t.replacement.attestation.slot;
-    let at = slot_place(t, slot);
-    u.replacement.evidence.learner.is_some = true;
-    u.replacement.evidence.learner.cut.term = cut.term;
-    u.replacement.evidence.learner.cut.index = cut.index;
-    u.replacement.phase = LEARNER_ADDED;
-    u.has_replacement = true;
-    u.revision = t.revision + 1;
-    with_phase(u, at, CATCHING_UP)
+    let mut next = table;
+    let slot = table.replacement.attestation.slot;
+    let at = slot_place(table, slot);
+    next.replacement.evidence.learner.is_some = true;
+    next.replacement.evidence.learner.cut.term = cut.term;
+    next.replacement.evidence.learner.cut.index = cut.index;
+    next.replacement.phase = LEARNER_ADDED;
+    next.has_replacement = true;
+    next.revision = table.revision + 1;
+    with_phase(next, at, CATCHING_UP)
 }
 
 // The joint membership.
-pub fn joint_table(t: VoterSlotTable, cut: VoterSlotLogId) -> VoterSlotTable
-    requires { ⌜ (t .revision ≡ full → ⊥) × ((t .count ≤ 9) × (targetIndex t < t .count)) ⌝ }
-    ensures { λ r. ⌜ r ≡ added t cut addsJoint ⌝ }
+pub fn joint_table(table: VoterSlotTable, cut: VoterSlotLogId) -> VoterSlotTable
+    requires { ⌜ (table .revision ≡ full → ⊥) × ((table .count ≤ 9) × (targetIndex table < table .count)) ⌝ }
+    ensures { λ r. ⌜ r ≡ added table cut addsJoint ⌝ }
 {
-    let mut u = t;
-    let slot = t.replacement.attestation.slot;
-    let at = slot_place(t, slot);
-    u.replacement.evidence.joint.is_some = true;
-    u.replacement.evidence.joint.cut.term = cut.term;
-    u.replacement.evidence.joint.cut.index = cut.index;
-    u.replacement.phase = JOINT;
-    u.has_replacement = true;
-    u.revision = t.revision + 1;
-    with_phase(u, at, VOTING)
+    let mut next = table;
+    let slot = table.replacement.attestation.slot;
+    let at = slot_place(table, slot);
+    next.replacement.evidence.joint.is_some = true;
+    next.replacement.evidence.joint.cut.term = cut.term;
+    next.replacement.evidence.joint.cut.index = cut.index;
+    next.replacement.phase = JOINT;
+    next.has_replacement = true;
+    next.revision = table.revision + 1;
+    with_phase(next, at, VOTING)
 }
 
 // The successor's membership.
-pub fn uniform_table(t: VoterSlotTable, cut: VoterSlotLogId) -> VoterSlotTable
-    requires { ⌜ (t .revision ≡ full → ⊥) × ((t .count ≤ 9) × (targetIndex t < t .count)) ⌝ }
-    ensures { λ r. ⌜ r ≡ added t cut addsUniform ⌝ }
+pub fn uniform_table(table: VoterSlotTable, cut: VoterSlotLogId) -> VoterSlotTable
+    requires { ⌜ (table .revision ≡ full → ⊥) × ((table .count ≤ 9) × (targetIndex table < table .count)) ⌝ }
+    ensures { λ r. ⌜ r ≡ added table cut addsUniform ⌝ }
 {
-    let mut u = t;
-    let slot = t.replacement.attestation.slot;
-    let at = slot_place(t, slot);
-    u.replacement.evidence.uniform.is_some = true;
-    u.replacement.evidence.uniform.cut.term = cut.term;
-    u.replacement.evidence.uniform.cut.index = cut.index;
-    u.replacement.phase = UNIFORM;
-    u.configuration_epoch = t.replacement.successor.epoch;
-    u.has_replacement = true;
-    u.revision = t.revision + 1;
-    with_phase(u, at, VOTING)
+    let mut next = table;
+    let slot = table.replacement.attestation.slot;
+    let at = slot_place(table, slot);
+    next.replacement.evidence.uniform.is_some = true;
+    next.replacement.evidence.uniform.cut.term = cut.term;
+    next.replacement.evidence.uniform.cut.index = cut.index;
+    next.replacement.phase = UNIFORM;
+    next.configuration_epoch = table.replacement.successor.epoch;
+    next.has_replacement = true;
+    next.revision = table.revision + 1;
+    with_phase(next, at, VOTING)
 }
 
 // ---- the calls
 
 // A verdict carried out, by value.
-fn carry_out(t: VoterSlotTable, judged: Observed, cut: VoterSlotLogId) -> Controlled
-    requires { ⌜ (isChange (verdictOfObserved judged) ≡ true → Room t) ⌝ }
-    ensures { λ r. ⌜ (r .answer, r .table) ≡ carried (added t cut) t (verdictOfObserved judged) ⌝ }
+fn carry_out(table: VoterSlotTable, judged: Observed, cut: VoterSlotLogId) -> Controlled
+    requires { ⌜ (isChange (verdictOfObserved judged) ≡ true → Room table) ⌝ }
+    ensures { λ r. ⌜ (r .answer, r .table) ≡ carried (added table cut) table (verdictOfObserved judged) ⌝ }
 {
     match judged {
-        Observed::Refuse(answer) => Controlled { answer, table: t },
+        Observed::Refuse(answer) => Controlled { answer, table },
         Observed::Keep => Controlled {
             answer: Answer::Accepted,
-            table: t,
+            table,
         },
         Observed::AddLearner => Controlled {
             answer: Answer::Accepted,
-            table: learner_table(t, cut),
+            table: learner_table(table, cut),
         },
         Observed::AddJoint => Controlled {
             answer: Answer::Accepted,
-            table: joint_table(t, cut),
+            table: joint_table(table, cut),
         },
         Observed::AddUniform => Controlled {
             answer: Answer::Accepted,
-            table: uniform_table(t, cut),
+            table: uniform_table(table, cut),
         },
     }
 }
 
 // An observation of a table that is known to be valid, by value.
 pub fn observe_valid(
-    t: VoterSlotTable,
-    sets: &[u64],
+    table: VoterSlotTable,
+    sets: &[ConsensusNodeId],
     counts: &[usize],
-    nodes: &[u64],
+    nodes: &[ConsensusNodeId],
     cut: VoterSlotLogId,
 ) -> Controlled
-    requires { ⌜ validate t ≡ Accepted ⌝ }
-    ensures { λ r. ⌜ (r .answer, r .table) ≡ observeMembership t (now (sets .entry)) (now (counts .entry)) (now (nodes .entry)) cut ⌝ }
+    requires { ⌜ validate table ≡ Accepted ⌝ }
+    ensures { λ r. ⌜ (r .answer, r .table) ≡ observeMembership table (now (sets .entry)) (now (counts .entry)) (now (nodes .entry)) cut ⌝ }
 {
-    let judged = weigh(t, sets, counts, nodes, cut);
-    carry_out(t, judged, cut)
+    let judged = weigh(table, sets, counts, nodes, cut);
+    carry_out(table, judged, cut)
 }
 
 // `VoterSlotTable::observe_membership`.
 pub fn observe_membership(
-    t: VoterSlotTable,
-    sets: &[u64],
+    table: VoterSlotTable,
+    sets: &[ConsensusNodeId],
     counts: &[usize],
-    nodes: &[u64],
+    nodes: &[ConsensusNodeId],
     cut: VoterSlotLogId,
 ) -> Controlled
-    ensures { λ r. ⌜ (r .answer, r .table) ≡ observeMembership t (now (sets .entry)) (now (counts .entry)) (now (nodes .entry)) cut ⌝ }
+    ensures { λ r. ⌜ (r .answer, r .table) ≡ observeMembership table (now (sets .entry)) (now (counts .entry)) (now (nodes .entry)) cut ⌝ }
 {
-    let judged = weigh_entry(t, sets, counts, nodes, cut);
-    carry_out(t, judged, cut)
+    let judged = weigh_entry(table, sets, counts, nodes, cut);
+    carry_out(table, judged, cut)
 }
 
 // The verdict of the entry point: 30 of the table, and its validity where something is new.
-pub fn weigh_entry(
-    t: VoterSlotTable,
-    sets: &[u64],
+fn weigh_entry(
+    table: VoterSlotTable,
+    sets: &[ConsensusNodeId],
     counts: &[usize],
-    nodes: &[u64],
+    nodes: &[ConsensusNodeId],
     cut: VoterSlotLogId,
 ) -> Observed
-    ensures { λ r. ⌜ verdictOfObserved r ≡ entryWeighed t (now (sets .entry)) (now (counts .entry)) (now (nodes .entry)) cut ⌝ }
+    ensures { λ r. ⌜ verdictOfObserved r ≡ entryWeighed table (now (sets .entry)) (now (counts .entry)) (now (nodes .entry)) cut ⌝ }
 {
-    if !is_representable(t) {
+    if !is_representable(table) {
         return Observed::Refuse(Answer::Unrepresentable);
     }
-    let judged = weigh(t, sets, counts, nodes, cut);
-    confirm(t, judged)
+    let judged = weigh(table, sets, counts, nodes, cut);
+    confirm(table, judged)
 }
 
 // `observe_membership` on a table that is lent: any table, any sets, any nodes and any cut.
 pub fn observe_membership_in_place(
-    t: &mut VoterSlotTable,
-    sets: &[u64],
+    table: &mut VoterSlotTable,
+    sets: &[ConsensusNodeId],
     counts: &[usize],
-    nodes: &[u64],
+    nodes: &[ConsensusNodeId],
     cut: VoterSlotLogId,
 ) -> Answer
-    ensures { λ b. ⌜ (b, now (t .exit)) ≡ observeMembership (now (t .entry)) (now (sets .entry)) (now (counts .entry)) (now (nodes .entry)) cut ⌝ }
+    ensures { λ b. ⌜ (b, now (table .exit)) ≡ observeMembership (now (table .entry)) (now (sets .entry)) (now (counts .entry)) (now (nodes .entry)) cut ⌝ }
 {
-    let judged = weigh_entry(*t, sets, counts, nodes, cut);
+    let judged = weigh_entry(*table, sets, counts, nodes, cut);
     match route_of_observed(judged) {
         ROUTE_LEARNER => {
-            *t = learner_table(*t, cut);
+            *table = learner_table(*table, cut);
         }
         ROUTE_JOINT => {
-            *t = joint_table(*t, cut);
+            *table = joint_table(*table, cut);
         }
         ROUTE_UNIFORM => {
-            *t = uniform_table(*t, cut);
+            *table = uniform_table(*table, cut);
         }
         _ => {}
     }
@@ -672,25 +685,25 @@ pub fn observe_membership_in_place(
 
 // An observation of a table that is lent and known to be valid.
 pub fn observe_in_place(
-    t: &mut VoterSlotTable,
-    sets: &[u64],
+    table: &mut VoterSlotTable,
+    sets: &[ConsensusNodeId],
     counts: &[usize],
-    nodes: &[u64],
+    nodes: &[ConsensusNodeId],
     cut: VoterSlotLogId,
 ) -> Answer
-    requires { ⌜ validate (now t) ≡ Accepted ⌝ }
-    ensures { λ v. ⌜ (v, now (t .exit)) ≡ observeMembership (now (t .entry)) (now (sets .entry)) (now (counts .entry)) (now (nodes .entry)) cut ⌝ }
+    requires { ⌜ validate (now table) ≡ Accepted ⌝ }
+    ensures { λ v. ⌜ (v, now (table .exit)) ≡ observeMembership (now (table .entry)) (now (sets .entry)) (now (counts .entry)) (now (nodes .entry)) cut ⌝ }
 {
-    let judged = weigh(*t, sets, counts, nodes, cut);
+    let judged = weigh(*table, sets, counts, nodes, cut);
     match route_of_observed(judged) {
         ROUTE_LEARNER => {
-            *t = learner_table(*t, cut);
+            *table = learner_table(*table, cut);
         }
         ROUTE_JOINT => {
-            *t = joint_table(*t, cut);
+            *table = joint_table(*table, cut);
         }
         ROUTE_UNIFORM => {
-            *t = uniform_table(*t, cut);
+            *table = uniform_table(*table, cut);
         }
         _ => {}
     }

@@ -21,32 +21,32 @@ use records::representable::is_representable_snapshot;
 use records::zero::*;
 
 // A kind of the three; the request is a Begin's, the step an Advance's.
-pub fn is_representable_control(c: VoterSlotControl) -> bool
-    ensures { λ r. ⌜ r ≡ representableControl c ⌝ }
+pub fn is_representable_control(control: VoterSlotControl) -> bool
+    ensures { λ r. ⌜ r ≡ representableControl control ⌝ }
 {
-    let step = c.step;
-    let request_part = is_request_part(c.kind == BEGIN, c);
-    let step_part = is_step_part(c.kind == ADVANCE, step);
-    (c.kind <= MARKER) & (request_part & step_part)
+    let step = control.step;
+    let request_part = is_request_part(control.kind == BEGIN, control);
+    let step_part = is_step_part(control.kind == ADVANCE, step);
+    (control.kind <= MARKER) & (request_part & step_part)
 }
 
 // A Begin has a request and no name; any other command names a request and has none.
-fn is_request_part(is_begin: bool, c: VoterSlotControl) -> bool
-    ensures { λ r. ⌜ r ≡ cond «is_begin» (representableRequest (c .request) && isBlankName c) (isBlankRequest (c .request)) ⌝ }
+fn is_request_part(is_begin: bool, control: VoterSlotControl) -> bool
+    ensures { λ r. ⌜ r ≡ cond «is_begin» (representableRequest (control .request) && isBlankName control) (isBlankRequest (control .request)) ⌝ }
 {
-    let request = c.request;
+    let request = control.request;
     if is_begin {
-        return is_representable_request(request) & is_blank_name(c);
+        return is_representable_request(request) & is_blank_name(control);
     }
     is_blank_request(request)
 }
 
 // The id and the digest by which an Advance or a Marker names its request are absent.
-fn is_blank_name(c: VoterSlotControl) -> bool
-    ensures { λ r. ⌜ r ≡ isBlankName c ⌝ }
+fn is_blank_name(control: VoterSlotControl) -> bool
+    ensures { λ r. ⌜ r ≡ isBlankName control ⌝ }
 {
-    let request_id = zeros(&c.request_id);
-    let request_digest = zeros(&c.request_digest);
+    let request_id = zeros(&control.request_id);
+    let request_digest = zeros(&control.request_digest);
     request_id & request_digest
 }
 
@@ -80,12 +80,12 @@ fn is_blank_request(request: VoterReplacementRequest) -> bool
 }
 
 // As in `zero` of records.
-fn is_blank_consensus_identity(x: ConsensusIdentity) -> bool
-    ensures { λ r. ⌜ r ≡ sameConsensusIdentity x blankConsensusIdentity ⌝ }
+fn is_blank_consensus_identity(identity: ConsensusIdentity) -> bool
+    ensures { λ r. ⌜ r ≡ sameConsensusIdentity identity blankConsensusIdentity ⌝ }
 {
-    let cluster_id = zeros(&x.cluster_id);
-    let configuration_id = zeros(&x.configuration_id);
-    cluster_id & (configuration_id & (x.configuration_epoch == 0))
+    let cluster_id = zeros(&identity.cluster_id);
+    let configuration_id = zeros(&identity.configuration_id);
+    cluster_id & (configuration_id & (identity.configuration_epoch == 0))
 }
 
 // Only an Advance has a step.

@@ -13,6 +13,9 @@ ghost use Rattle.control.specs.Control.{candidateCheck, currentConfigura
 ghost use Rattle.control.specs.BeginJudge.{attestedMember, hasDigest, hasReceipt, namedOf, newerThan, receiptState};
 use crate::control::VoterReplacementRequest;
 use identity::answer::Answer;
+use identity::identity::ConsensusConfigurationEpoch;
+use identity::identity::ConsensusRequestId;
+use identity::identity::SlotId;
 use records::blank::blank_voter_slot_member;
 use records::equality::same16;
 use records::equality::same32;
@@ -32,55 +35,61 @@ pub fn answer_by(test: bool, one: Answer, other: Answer) -> Answer
 }
 
 // `VoterReplacementRequest::validate`: 12.
-pub fn validate_request(r: VoterReplacementRequest) -> Answer
-    ensures { λ a. ⌜ a ≡ requestCheck r ⌝ }
+pub fn validate_request(request: VoterReplacementRequest) -> Answer
+    ensures { λ a. ⌜ a ≡ requestCheck request ⌝ }
 {
-    let valid = is_valid_request(r);
-    let supplied = r.supplied_request_digest;
-    let attested = r.attestation.request_digest;
+    let valid = is_valid_request(request);
+    let supplied = request.supplied_request_digest;
+    let attested = request.attestation.request_digest;
     let same = same32(supplied, attested);
     answer_by(valid & same, Answer::Accepted, Answer::InvalidLossEvidence)
 }
 
 // The claims are valid, and the request says the same as they do.
-fn is_valid_request(r: VoterReplacementRequest) -> bool
-    ensures { λ a. ⌜ a ≡ validRequest r ⌝ }
+fn is_valid_request(request: VoterReplacementRequest) -> bool
+    ensures { λ a. ⌜ a ≡ validRequest request ⌝ }
 {
-    let claims = are_valid_claims(r);
-    let cluster = r.expected_configuration.cluster_id;
-    let attested_cluster = r.attestation.cluster_instance;
+    let claims = are_valid_claims(request);
+    let cluster = request.expected_configuration.cluster_id;
+    let attested_cluster = request.attestation.cluster_instance;
     let same_cluster = same32(cluster, attested_cluster);
     let next = is_next(
-        r.attestation.expected_incarnation,
-        r.candidate.identity.incarnation,
+        request.attestation.expected_incarnation,
+        request.candidate.identity.incarnation,
     );
-    let key = r.candidate.key_digest;
-    let attested_key = r.attestation.candidate_key_digest;
+    let key = request.candidate.key_digest;
+    let attested_key = request.attestation.candidate_key_digest;
     let same_key = same32(key, attested_key);
     claims
-        & ((0 < r.expected_revision)
+        & ((0 < request.expected_revision)
             & (same_cluster
-                & ((r.candidate.identity.slot == r.attestation.slot)
+                & ((request.candidate.identity.slot == request.attestation.slot)
                     & (next
                         & (same_key
-                            & (r.candidate.admission_generation
-                                == r.attestation.admission_generation))))))
+                            & (request.candidate.admission_generation
+                                == request.attestation.admission_generation))))))
 }
 
 // `LostVoterAttestationV1::validate`, part by part: of the attestation itself a copy would be made.
-fn are_valid_claims(r: VoterReplacementRequest) -> bool
-    ensures { λ a. ⌜ a ≡ validAttestation (r .attestation) ⌝ }
+fn are_valid_claims(request: VoterReplacementRequest) -> bool
+    ensures { λ a. ⌜ a ≡ validAttestation (request .attestation) ⌝ }
 {
-    let candidate = r.attestation.candidate_spiffe_id.bytes;
-    let candidate_valid = is_valid_spiffe_id(r.attestation.candidate_spiffe_id.len, candidate);
-    let controller = r.attestation.controller_spiffe_id.bytes;
-    let controller_valid = is_valid_spiffe_id(r.attestation.controller_spiffe_id.len, controller);
+    let candidate = request.attestation.candidate_spiffe_id.bytes;
+    let candidate_valid = is_valid_spiffe_id(
+        request.attestation.candidate_spiffe_id.len,
+        candidate,
+    );
+    let controller = request.attestation.controller_spiffe_id.bytes;
+    let controller_valid = is_valid_spiffe_id(
+        request.attestation.controller_spiffe_id.len,
+        controller,
+    );
     let times_valid = are_valid_times(
-        r.attestation.admission_generation,
-        r.attestation.observation_start_ms,
-        r.attestation.decision_ms,
-        r.attestation.issued_ms,
-        r.attestation.expires_ms,
+        request.attestation.admission_generation,
+        request.attestation.observation_start_ms,
+        request.attestation.decision_ms,
+        request.attestation.issued_ms,
+        request.attestation.expires_ms,
     );
     candidate_valid & (controller_valid & times_valid)
 }
@@ -94,18 +103,18 @@ pub struct Receipt {
 }
 
 // What the receipts of the slots in use say of the request of that id.
-pub fn find_receipt(t: VoterSlotTable, id: [u8; 16], digest: [u8; 32]) -> Receipt
-    ensures { λ a. ⌜ a ≡ receiptState t id digest ⌝ }
+pub fn find_receipt(table: VoterSlotTable, id: ConsensusRequestId, digest: [u8; 32]) -> Receipt
+    ensures { λ a. ⌜ a ≡ receiptState table id digest ⌝ }
 {
     let mut found = false;
     let mut same = false;
     let mut i: usize = MAX_FIXED_VOTER_SLOTS;
     while 0 < i {
         i -= 1;
-        let slot = t.slots[i];
+        let slot = table.slots[i];
         let held = has_receipt(slot, id);
         let own = has_digest(slot, digest);
-        let one = (i < t.count) & held;
+        let one = (i < table.count) & held;
         found = one | found;
         same = (one & own) | (!one & same);
     }
@@ -113,7 +122,7 @@ pub fn find_receipt(t: VoterSlotTable, id: [u8; 16], digest: [u8; 32]) -> Receip
 }
 
 // The slot has a receipt of the request of that id.
-fn has_receipt(slot: VoterSlotRecord, id: [u8; 16]) -> bool
+fn has_receipt(slot: VoterSlotRecord, id: ConsensusRequestId) -> bool
     ensures { λ a. ⌜ a ≡ hasReceipt id slot ⌝ }
 {
     let held = slot.last_result.request_id;
@@ -131,22 +140,22 @@ fn has_digest(slot: VoterSlotRecord, digest: [u8; 32]) -> bool
 
 // The request was made for this table, 13; there are three slots, 16; and its candidate is newer
 // than the slot's member, 12.
-pub fn slot_check(t: VoterSlotTable, r: VoterReplacementRequest) -> Answer
-    ensures { λ a. ⌜ a ≡ firstRefusal (staleCheck t r) (candidateCheck t r) ⌝ }
+pub fn slot_check(table: VoterSlotTable, request: VoterReplacementRequest) -> Answer
+    ensures { λ a. ⌜ a ≡ firstRefusal (staleCheck table request) (candidateCheck table request) ⌝ }
 {
-    let named = named_member(t, r.attestation.slot);
+    let named = named_member(table, request.attestation.slot);
     let member = named.member;
-    let expected = is_expected(t, r);
-    let cluster = t.cluster_instance;
-    let attested_cluster = r.attestation.cluster_instance;
+    let expected = is_expected(table, request);
+    let cluster = table.cluster_instance;
+    let attested_cluster = request.attestation.cluster_instance;
     let same_cluster = same32(attested_cluster, cluster);
-    let attested = is_attested(member, r);
-    let newer = is_newer(member, r);
+    let attested = is_attested(member, request);
+    let newer = is_newer(member, request);
     let current = named.found
-        & ((t.revision == r.expected_revision) & (expected & (same_cluster & attested)));
+        & ((table.revision == request.expected_revision) & (expected & (same_cluster & attested)));
     let fits = answer_by(newer, Answer::Accepted, Answer::InvalidLossEvidence);
     let enough = answer_by(
-        MIN_REPLACEMENT_SLOTS <= t.count,
+        MIN_REPLACEMENT_SLOTS <= table.count,
         fits,
         Answer::NoSurvivingQuorum,
     );
@@ -162,17 +171,17 @@ pub struct Named {
 }
 
 // `position(..)` and the member there.
-fn named_member(t: VoterSlotTable, number: u16) -> Named
-    ensures { λ a. ⌜ a ≡ namedOf t number ⌝ }
+fn named_member(table: VoterSlotTable, number: SlotId) -> Named
+    ensures { λ a. ⌜ a ≡ namedOf table number ⌝ }
 {
     let mut found = false;
     let mut member = blank_voter_slot_member();
     let mut i: usize = MAX_FIXED_VOTER_SLOTS;
     while 0 < i {
         i -= 1;
-        let slot = t.slots[i];
+        let slot = table.slots[i];
         let own = slot.member;
-        let one = (i < t.count) & (slot.member.identity.slot == number);
+        let one = (i < table.count) & (slot.member.identity.slot == number);
         found = one | found;
         member = member_by(one, own, member);
     }
@@ -190,45 +199,45 @@ fn member_by(test: bool, one: VoterSlotMember, other: VoterSlotMember) -> VoterS
 }
 
 // The current configuration is the one that the request names.
-fn is_expected(t: VoterSlotTable, r: VoterReplacementRequest) -> bool
-    ensures { λ a. ⌜ a ≡ isExpected t r ⌝ }
+fn is_expected(table: VoterSlotTable, request: VoterReplacementRequest) -> bool
+    ensures { λ a. ⌜ a ≡ isExpected table request ⌝ }
 {
-    let cluster = t.cluster_instance;
-    let expected_cluster = r.expected_configuration.cluster_id;
+    let cluster = table.cluster_instance;
+    let expected_cluster = request.expected_configuration.cluster_id;
     let same_cluster = same32(cluster, expected_cluster);
-    let id = r.supplied_configuration_id;
-    let expected_id = r.expected_configuration.configuration_id;
+    let id = request.supplied_configuration_id;
+    let expected_id = request.expected_configuration.configuration_id;
     let same_id = same32(id, expected_id);
-    let epoch = current_epoch(t);
-    (same_cluster & same_id) & (epoch == r.expected_configuration.configuration_epoch)
+    let epoch = current_epoch(table);
+    (same_cluster & same_id) & (epoch == request.expected_configuration.configuration_epoch)
 }
 
 // The epoch of the current configuration.
-pub fn current_epoch(t: VoterSlotTable) -> u64
-    ensures { λ a. ⌜ a ≡ currentConfiguration t .epoch ⌝ }
+pub fn current_epoch(table: VoterSlotTable) -> ConsensusConfigurationEpoch
+    ensures { λ a. ⌜ a ≡ currentConfiguration table .epoch ⌝ }
 {
-    if t.has_replacement & (t.replacement.phase < UNIFORM) {
-        return t.replacement.predecessor.epoch;
+    if table.has_replacement & (table.replacement.phase < UNIFORM) {
+        return table.replacement.predecessor.epoch;
     }
-    t.configuration_epoch
+    table.configuration_epoch
 }
 
 // The member is the attested one.
-fn is_attested(member: VoterSlotMember, r: VoterReplacementRequest) -> bool
-    ensures { λ a. ⌜ a ≡ attestedMember r member ⌝ }
+fn is_attested(member: VoterSlotMember, request: VoterReplacementRequest) -> bool
+    ensures { λ a. ⌜ a ≡ attestedMember request member ⌝ }
 {
-    let attested = r.attestation.old_descriptor_digest;
+    let attested = request.attestation.old_descriptor_digest;
     let descriptor = member.descriptor_digest;
     let same = same32(attested, descriptor);
-    (r.attestation.expected_incarnation == member.identity.incarnation) & same
+    (request.attestation.expected_incarnation == member.identity.incarnation) & same
 }
 
 // The candidate is newer than the member, with another key.
-fn is_newer(member: VoterSlotMember, r: VoterReplacementRequest) -> bool
-    ensures { λ a. ⌜ a ≡ newerThan r member ⌝ }
+fn is_newer(member: VoterSlotMember, request: VoterReplacementRequest) -> bool
+    ensures { λ a. ⌜ a ≡ newerThan request member ⌝ }
 {
-    let candidate = r.candidate.key_digest;
+    let candidate = request.candidate.key_digest;
     let key = member.key_digest;
     let same = same32(candidate, key);
-    (member.admission_generation < r.candidate.admission_generation) & !same
+    (member.admission_generation < request.candidate.admission_generation) & !same
 }

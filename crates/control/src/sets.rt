@@ -14,15 +14,13 @@ ghost use Rattle.identity.specs.Identity.{identityOf, nodeId, valueOfNumber};
 ghost use Rattle.identity.specs.Text.{every};
 ghost use Rattle.control.specs.Observation.{allRising, contains, difference, isHeldNodeId, isRising, isSubset, splitSets, total, unionIds};
 ghost use Rattle.control.specs.ObserveSets.{areTwoSets, firstOf, isOneSet, leastNew, listed, noId, slotMembers};
-use identity::identity::CONSENSUS_NODE_ID_MAX;
-use identity::identity::NumberResult;
-use identity::identity::VoterSlotIdentity;
+use identity::identity::*;
 use records::records::MAX_FIXED_VOTER_SLOTS;
 use records::records::VoterConfiguration;
 use records::records::VoterSlotTable;
 
 // No id of a member or a node: those lie below 2^63.
-pub const NO_ID: u64 = u64::MAX;
+pub const NO_ID: ConsensusNodeId = u64::MAX;
 
 // Whether the counts add up to the length. What is left of it is counted down, so that no sum
 // wraps.
@@ -43,7 +41,7 @@ pub fn add_up(counts: &[usize], len: usize) -> bool
 }
 
 // Whether the Rust type can hold every id.
-pub fn are_held(ids: &[u64]) -> bool
+pub fn are_held(ids: &[ConsensusNodeId]) -> bool
     ensures { λ r. ⌜ r ≡ every isHeldNodeId (now (ids .entry)) ⌝ }
 {
     let mut all = true;
@@ -56,7 +54,7 @@ pub fn are_held(ids: &[u64]) -> bool
 }
 
 // Whether the ids rise strictly.
-pub fn rises(ids: &[u64]) -> bool
+pub fn rises(ids: &[ConsensusNodeId]) -> bool
     ensures { λ r. ⌜ r ≡ isRising (now (ids .entry)) ⌝ }
 {
     let mut all = true;
@@ -69,7 +67,7 @@ pub fn rises(ids: &[u64]) -> bool
 }
 
 // Whether each set rises.
-pub fn sets_rise(sets: &[u64], counts: &[usize]) -> bool
+pub fn sets_rise(sets: &[ConsensusNodeId], counts: &[usize]) -> bool
     requires { ⌜ total (now counts) ≤ length (now sets) ⌝ }
     ensures { λ r. ⌜ r ≡ allRising (splitSets (now (sets .entry)) (now (counts .entry))) ⌝ }
 {
@@ -87,7 +85,7 @@ pub fn sets_rise(sets: &[u64], counts: &[usize]) -> bool
 }
 
 // Whether the id is in the set.
-pub fn contains(set: &[u64], id: u64) -> bool
+pub fn contains(set: &[ConsensusNodeId], id: ConsensusNodeId) -> bool
     ensures { λ r. ⌜ r ≡ contains id (now (set .entry)) ⌝ }
 {
     let mut found = false;
@@ -100,7 +98,7 @@ pub fn contains(set: &[u64], id: u64) -> bool
 }
 
 // Whether every id of the one stands in the other.
-pub fn is_subset(ids: &[u64], set: &[u64]) -> bool
+pub fn is_subset(ids: &[ConsensusNodeId], set: &[ConsensusNodeId]) -> bool
     ensures { λ r. ⌜ r ≡ isSubset (now (ids .entry)) (now (set .entry)) ⌝ }
 {
     let mut all = true;
@@ -114,7 +112,7 @@ pub fn is_subset(ids: &[u64], set: &[u64]) -> bool
 }
 
 // Whether the two have the same ids.
-pub fn is_same(set: &[u64], ids: &[u64]) -> bool
+pub fn is_same(set: &[ConsensusNodeId], ids: &[ConsensusNodeId]) -> bool
     ensures { λ r. ⌜ r ≡ (isSubset (now (set .entry)) (now (ids .entry)) && isSubset (now (ids .entry)) (now (set .entry))) ⌝ }
 {
     let within = is_subset(set, ids);
@@ -123,7 +121,11 @@ pub fn is_same(set: &[u64], ids: &[u64]) -> bool
 }
 
 // The first id of the set that neither of the others has, or none.
-pub fn first_outside(set: &[u64], old: &[u64], new: &[u64]) -> u64
+pub fn first_outside(
+    set: &[ConsensusNodeId],
+    old: &[ConsensusNodeId],
+    new: &[ConsensusNodeId],
+) -> ConsensusNodeId
     ensures { λ r. ⌜ r ≡ firstOf (difference (now (set .entry)) (unionIds (now (old .entry)) (now (new .entry)))) ⌝ }
 {
     let mut i = 0;
@@ -140,7 +142,7 @@ pub fn first_outside(set: &[u64], old: &[u64], new: &[u64]) -> u64
 }
 
 // The least of the new ids that is not an old one, or none.
-pub fn least_new(old: &[u64], new: &[u64]) -> u64
+pub fn least_new(old: &[ConsensusNodeId], new: &[ConsensusNodeId]) -> ConsensusNodeId
     ensures { λ r. ⌜ r ≡ leastNew (now (old .entry)) (now (new .entry)) noId ⌝ }
 {
     let mut least = NO_ID;
@@ -155,7 +157,7 @@ pub fn least_new(old: &[u64], new: &[u64]) -> u64
 }
 
 // One of two ids.
-fn pick_id(test: bool, one: u64, other: u64) -> u64
+fn pick_id(test: bool, one: ConsensusNodeId, other: ConsensusNodeId) -> ConsensusNodeId
     ensures { λ r. ⌜ r ≡ cond test one other ⌝ }
 {
     if test {
@@ -166,7 +168,7 @@ fn pick_id(test: bool, one: u64, other: u64) -> u64
 
 // Whether the sets are this one alone. Their number is tested first: ids are compared each with
 // each.
-pub fn is_one_set(sets: &[u64], counts: &[usize], ids: &[u64]) -> bool
+pub fn is_one_set(sets: &[ConsensusNodeId], counts: &[usize], ids: &[ConsensusNodeId]) -> bool
     ensures { λ r. ⌜ r ≡ isOneSet (now (sets .entry)) (now (counts .entry)) (now (ids .entry)) ⌝ }
 {
     if counts.len() != 1 {
@@ -176,7 +178,12 @@ pub fn is_one_set(sets: &[u64], counts: &[usize], ids: &[u64]) -> bool
 }
 
 // Whether the sets are these two.
-pub fn are_two_sets(sets: &[u64], counts: &[usize], old: &[u64], new: &[u64]) -> bool
+pub fn are_two_sets(
+    sets: &[ConsensusNodeId],
+    counts: &[usize],
+    old: &[ConsensusNodeId],
+    new: &[ConsensusNodeId],
+) -> bool
     requires { ⌜ total (now counts) ≤ length (now sets) ⌝ }
     ensures { λ r. ⌜ r ≡ areTwoSets (now (sets .entry)) (now (counts .entry)) (now (old .entry)) (now (new .entry)) ⌝ }
 {
@@ -213,7 +220,7 @@ fn value_of(number: NumberResult) -> u64
 }
 
 // The node id of a slot and an incarnation, or 0.
-fn id_of(slot: u16, incarnation: u64) -> u64
+fn id_of(slot: SlotId, incarnation: VoterIncarnation) -> ConsensusNodeId
     ensures { λ r. ⌜ r ≡ valueOfNumber (nodeId (identityOf slot incarnation)) ⌝ }
 {
     let identity = VoterSlotIdentity { slot, incarnation };
@@ -221,15 +228,15 @@ fn id_of(slot: u16, incarnation: u64) -> u64
 }
 
 // `member_ids` in the order of the nine places; the caller lends those in use.
-pub fn ids_of(c: VoterConfiguration) -> [u64; MAX_FIXED_VOTER_SLOTS]
-    ensures { λ r. ⌜ r ≡ listed c 9 ⌝ }
+pub fn ids_of(configuration: VoterConfiguration) -> [ConsensusNodeId; MAX_FIXED_VOTER_SLOTS]
+    ensures { λ r. ⌜ r ≡ listed configuration 9 ⌝ }
 {
     let mut ids = [0; MAX_FIXED_VOTER_SLOTS];
     let mut i: usize = 0;
     while i < MAX_FIXED_VOTER_SLOTS {
         let id = id_of(
-            c.members[i].identity.slot,
-            c.members[i].identity.incarnation,
+            configuration.members[i].identity.slot,
+            configuration.members[i].identity.incarnation,
         );
         ids[i] = id;
         i += 1;
@@ -238,15 +245,15 @@ pub fn ids_of(c: VoterConfiguration) -> [u64; MAX_FIXED_VOTER_SLOTS]
 }
 
 // The same of the slots.
-pub fn ids_of_slots(t: VoterSlotTable) -> [u64; MAX_FIXED_VOTER_SLOTS]
-    ensures { λ r. ⌜ r ≡ listed (slotMembers t) 9 ⌝ }
+pub fn ids_of_slots(table: VoterSlotTable) -> [ConsensusNodeId; MAX_FIXED_VOTER_SLOTS]
+    ensures { λ r. ⌜ r ≡ listed (slotMembers table) 9 ⌝ }
 {
     let mut ids = [0; MAX_FIXED_VOTER_SLOTS];
     let mut i: usize = 0;
     while i < MAX_FIXED_VOTER_SLOTS {
         let id = id_of(
-            t.slots[i].member.identity.slot,
-            t.slots[i].member.identity.incarnation,
+            table.slots[i].member.identity.slot,
+            table.slots[i].member.identity.incarnation,
         );
         ids[i] = id;
         i += 1;

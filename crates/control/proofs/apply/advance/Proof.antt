@@ -19,14 +19,14 @@ accepted next = (Accepted, next)
 
 -- what the case k of the verdict tells
 module _ (j : tie.After-judge-advance) (k : Judged) (told : j .judge-advance .result ≡ k) where
-  is : judgeOf (j .before .args .t) (j .before .args .c) ≡ verdictOf k
+  is : judgeOf (j .before .args .table) (j .before .args .advance) ≡ verdictOf k
   is = sym (j .judge-advance .ensures) ∙ ap verdictOf told
 
-  picked : carried (stepMade (j .before .args .t) (j .before .args .c .step) (j .before .args .c .cut)) (j .before .args .t) (verdictOf k) ≡ advanceOutcome (j .before .args .t) (j .before .args .c)
-  picked = carried-as (j .before .args .t) (j .before .args .c) (verdictOf k) is
+  picked : carried (stepMade (j .before .args .table) (j .before .args .advance .step) (j .before .args .advance .cut)) (j .before .args .table) (verdictOf k) ≡ advanceOutcome (j .before .args .table) (j .before .args .advance)
+  picked = carried-as (j .before .args .table) (j .before .args .advance) (verdictOf k) is
 
-  room : isMove (verdictOf k) ≡ true → j .before .args .t .revision ≡ full → ⊥
-  room = room-as (j .before .args .t) (j .before .args .c) (verdictOf k) is
+  room : isMove (verdictOf k) ≡ true → j .before .args .table .revision ≡ full → ⊥
+  room = room-as (j .before .args .table) (j .before .args .advance) (verdictOf k) is
 
 judge-advance-requires : tie.Need-judge-advance-requires
 judge-advance-requires c κs = search needs
@@ -71,7 +71,7 @@ finalize-table-requires : tie.Need-finalize-table-requires
 finalize-table-requires c κs =
     let told = c .enum-told7 .given .1 in
     let j = c .before .before in
-    (room j Finalize told refl, target-as (j .before .args .t) (j .before .args .c) (verdictOf Finalize) (is j Finalize told) refl (j .before .pre))
+    (room j Finalize told refl, target-as (j .before .args .table) (j .before .args .advance) (verdictOf Finalize) (is j Finalize told) refl (j .before .pre))
 
 returns : tie.Need-returns
 unfolding carried stepMade

@@ -11,7 +11,7 @@ use Rattle.control.proofs.apply.apply_control.Statement.{statement}
 use Rattle.control.proofs.apply.apply_control.Tie as tie
 
 -- after the tests
-ok : (e : tie.Else1) → isAccepted (checkedOf (e .before .before .before .args .t) (e .before .before .before .args .control) (e .before .before .before .args .cut)) ≡ true
+ok : (e : tie.Else1) → isAccepted (checkedOf (e .before .before .before .args .table) (e .before .before .before .args .control) (e .before .before .before .args .cut)) ≡ true
 ok e = passed _ (e .before .before .checked .result) _ (e .before .before .checked .ensures) (e .before .accepted .ensures) (e .if1 .left)
 
 checked-requires : tie.Need-checked-requires
@@ -24,19 +24,19 @@ returns : tie.Need-returns
 returns c =
     let j = c .before .before in
     let s = j .before in
-    ap (λ (a : Answer). paired a (s .args .t)) (j .checked .ensures)
-    ∙ entry-refused (s .args .t) (s .args .control) (s .args .cut)
-    (refused (checkedOf (s .args .t) (s .args .control) (s .args .cut)) (j .checked .result) _ (j .checked .ensures) (c .before .accepted .ensures) (c .if1 .taken))
+    ap (λ (a : Answer). paired a (s .args .table)) (j .checked .ensures)
+    ∙ entry-refused (s .args .table) (s .args .control) (s .args .cut)
+    (refused (checkedOf (s .args .table) (s .args .control) (s .args .cut)) (j .checked .result) _ (j .checked .ensures) (c .before .accepted .ensures) (c .if1 .taken))
 
 apply-to-valid-requires : tie.Need-apply-to-valid-requires
 apply-to-valid-requires c κs =
     let s = c .before .before .before in
-    entry-valid (s .args .t) (s .args .control) (s .args .cut) (ok c)
+    entry-valid (s .args .table) (s .args .control) (s .args .cut) (ok c)
 
 returns-2 : tie.Need-returns-2
 returns-2 c =
     let s = c .before .before .before .before in
-    c .apply-to-valid .ensures ∙ entry-passed (s .args .t) (s .args .control) (s .args .cut) (ok (c .before))
+    c .apply-to-valid .ensures ∙ entry-passed (s .args .table) (s .args .control) (s .args .cut) (ok (c .before))
 
 pub apply-control-spec : {M : Type 1} → statement M
 apply-control-spec =

@@ -25,17 +25,17 @@ mark-requires c κs = search needs
 returns : tie.Need-returns
 returns c =
     let s = c .before .before .before in
-    c .begin .ensures ∙ (ap (beginOutcome (s .args .t)) (c .before .begin-of .ensures) ∙ applied-begin (s .args .t) (s .args .c .control) (s .args .c .cut) (c .before .before .match .keys1))
+    c .begin .ensures ∙ (ap (beginOutcome (s .args .table)) (c .before .begin-of .ensures) ∙ applied-begin (s .args .table) (s .args .command .control) (s .args .command .cut) (c .before .before .match .keys1))
 
 returns-2 : tie.Need-returns-2
 returns-2 c =
     let s = c .before .before .before in
-    c .advance .ensures ∙ (ap (advanceOutcome (s .args .t)) (c .before .advance-of .ensures) ∙ applied-advance (s .args .t) (s .args .c .control) (s .args .c .cut) (c .before .before .match .keys2))
+    c .advance .ensures ∙ (ap (advanceOutcome (s .args .table)) (c .before .advance-of .ensures) ∙ applied-advance (s .args .table) (s .args .command .control) (s .args .command .cut) (c .before .before .match .keys2))
 
 returns-3 : tie.Need-returns-3
 returns-3 c =
     let s = c .before .before in
-    c .mark .ensures ∙ applied-marker (s .args .t) (s .args .c .control) (s .args .c .cut) (c .before .match .rest .0 .1) (c .before .match .rest .1)
+    c .mark .ensures ∙ applied-marker (s .args .table) (s .args .command .control) (s .args .command .cut) (c .before .match .rest .0 .1) (c .before .match .rest .1)
 
 pub apply-to-valid-spec : {M : Type 1} → statement M
 apply-to-valid-spec =

@@ -24,16 +24,16 @@ tested c = c .before .before .before .before
 
 -- the two tests of 30, and the two of 25
 fits : (j : tie.After-is-representable-control)
-    → (j .before .is-representable .result && j .is-representable-control .result) ≡ (representable (start j .args .t) && representableControl (start j .args .c))
+    → (j .before .is-representable .result && j .is-representable-control .result) ≡ (representable (start j .args .table) && representableControl (start j .args .control))
 fits j = ap₂ _&&_ (j .before .is-representable .ensures) (j .is-representable-control .ensures)
 
 stands : (j : tie.After-is-valid-log-id)
     → (j .before .accepted .result && j .is-valid-log-id .result)
-    ≡ (isAccepted (validity (start (tested j) .args .t)) && validLogId (start (tested j) .args .cut))
+    ≡ (isAccepted (validity (start (tested j) .args .table)) && validLogId (start (tested j) .args .cut))
 stands j = ap₂ _&&_ (j .before .accepted .ensures ∙ ap isAccepted (j .before .before .validate-representable .ensures)) (j .is-valid-log-id .ensures)
 
 -- both are representable
-fit : (c : tie.Else1) → (representable (start (c .before) .args .t) && representableControl (start (c .before) .args .c)) ≡ true
+fit : (c : tie.Else1) → (representable (start (c .before) .args .table) && representableControl (start (c .before) .args .control)) ≡ true
 fit c = sym (fits (c .before)) ∙ held refl (c .if1 .left)
 
 is-representable-requires : tie.Need-is-representable-requires
@@ -48,7 +48,7 @@ returns c =
     sym (cond-false _ _ _ (sym (fits (c .before)) ∙ failed refl (c .if1 .taken)))
 
 validate-representable-requires : tie.Need-validate-representable-requires
-validate-representable-requires c κs = representable-count (start (c .before) .args .t) (and-left _ _ (fit c))
+validate-representable-requires c κs = representable-count (start (c .before) .args .table) (and-left _ _ (fit c))
 
 accepted-requires : tie.Need-accepted-requires
 accepted-requires c κs = search needs

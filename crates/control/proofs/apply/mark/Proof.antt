@@ -15,7 +15,7 @@ answer-of-requires c κs = search needs
 returns : tie.Need-returns
 returns c =
     let j = c .before in
-    ap (λ (a : Answer). paired a (j .before .args .t)) (c .answer-of .ensures ∙ ap answerOf (j .judge-named .ensures))
+    ap (λ (a : Answer). paired a (j .before .args .table)) (c .answer-of .ensures ∙ ap answerOf (j .judge-named .ensures))
 
 pub mark-spec : {M : Type 1} → statement M
 mark-spec = tie.close (tie.spec judge-named-requires answer-of-requires returns)

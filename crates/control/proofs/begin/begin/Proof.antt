@@ -23,22 +23,22 @@ begin-table-requires : tie.Need-begin-table-requires
 begin-table-requires c κs =
     let s = c .before .before .before .before in
     let k = sym (c .before .before .before .judge-begin .ensures) ∙ begin-told (verdictOf (c .before .before .before .judge-begin .result)) (sym (c .before .route .ensures) ∙ c .if1 .taken) in
-    begin-room (s .args .t) (s .args .b) (s .pre) (ap isMove k)
+    begin-room (s .args .table) (s .args .begin) (s .pre) (ap isMove k)
 
 returns : tie.Need-returns
 unfolding carried beginMade
 returns c =
     let s = c .before .before .before .before .before in
-    let t = s .args .t in
-    let b = s .args .b in
+    let t = s .args .table in
+    let b = s .args .begin in
     let k = begin-told (verdictOf (c .before .before .before .before .judge-begin .result)) (sym (c .before .before .route .ensures) ∙ c .before .if1 .taken) in
     ap₂ paired ((c .before .before .before .answer-of .ensures) ∙ ap answerOf k) (c .begin-table .ensures) ∙ ap (carried (beginMade t b) t) (sym k ∙ (c .before .before .before .before .judge-begin .ensures))
 
 returns-2 : tie.Need-returns-2
 returns-2 c =
     let s = c .before .before .before .before in
-    let t = s .args .t in
-    let b = s .args .b in
+    let t = s .args .table in
+    let b = s .args .begin in
     ap (λ (a : Answer). paired a t) (c .before .before .answer-of .ensures) ∙ (begin-kept t b (verdictOf (c .before .before .before .judge-begin .result)) (λ e. c .if1 .left ((c .before .route .ensures) ∙ e)) ∙ ap (carried (beginMade t b) t) (c .before .before .before .judge-begin .ensures))
 
 pub begin-spec : {M : Type 1} → statement M

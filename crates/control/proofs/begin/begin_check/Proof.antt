@@ -30,7 +30,7 @@ returns : tie.Need-returns
 returns c =
     (c .first-refusal3 .ensures)
     ∙ ap₂ (λ (x y : Answer). firstRefusal x y) (c .before .before .before .before .before .open-check .ensures)
-    ((c .before .first-refusal2 .ensures) ∙ ap (λ (x : Answer). firstRefusal (c .before .before .before .before .before .before .args .valid) x) ((c .before .before .first-refusal .ensures) ∙ (ap₂ (λ (x y : Answer). firstRefusal x y) (c .before .before .before .before .slot-check .ensures) (c .before .before .before .full-check .ensures) ∙ then-assoc (staleCheck (c .before .before .before .before .before .before .args .t) (c .before .before .before .before .before .before .args .r)) (candidateCheck (c .before .before .before .before .before .before .args .t) (c .before .before .before .before .before .before .args .r)) (fullCheck (c .before .before .before .before .before .before .args .t)))))
+    ((c .before .first-refusal2 .ensures) ∙ ap (λ (x : Answer). firstRefusal (c .before .before .before .before .before .before .args .valid) x) ((c .before .before .first-refusal .ensures) ∙ (ap₂ (λ (x y : Answer). firstRefusal x y) (c .before .before .before .before .slot-check .ensures) (c .before .before .before .full-check .ensures) ∙ then-assoc (staleCheck (c .before .before .before .before .before .before .args .table) (c .before .before .before .before .before .before .args .request)) (candidateCheck (c .before .before .before .before .before .before .args .table) (c .before .before .before .before .before .before .args .request)) (fullCheck (c .before .before .before .before .before .before .args .table)))))
 
 pub begin-check-spec : {M : Type 1} → statement M
 begin-check-spec =

@@ -14,8 +14,8 @@ left-receipt-requires c κs = search needs
 returns : tie.Need-returns
 returns c =
     let s = c .before .before .before .before .before in
-    let r = s .args .b .request in
-    ap (λ (x : VoterReplacementResult). slotWith (r .candidate) (r .attestation .«expected_incarnation») pending (s .args .t .«has_replacement» || s .args .old .«has_last_result») x) (c .before .before .left-receipt .ensures)
+    let r = s .args .begin .request in
+    ap (λ (x : VoterReplacementResult). slotWith (r .candidate) (r .attestation .«expected_incarnation») pending (s .args .table .«has_replacement» || s .args .old .«has_last_result») x) (c .before .before .left-receipt .ensures)
 
 pub begun-slot-spec : {M : Type 1} → statement M
 begun-slot-spec = tie.close (tie.spec left-receipt-requires returns)

@@ -30,8 +30,8 @@ abbrev μ-loop : tie.MeasureT-loop
 loop-holds : tie.Need-loop-holds Inv-loop μ-loop
 loop-holds c =
     let s = c .before in
-    let t = s .args .t in
-    ((omega arith, s .pre .1 .0), (refl, ap (λ (n : ℕ). firstFrom (bears (t .slots) (s .args .b .request .attestation .slot)) n 0) (sym (sub-zero (t .count)))))
+    let t = s .args .table in
+    ((omega arith, s .pre .1 .0), (refl, ap (λ (n : ℕ). firstFrom (bears (t .slots) (s .args .begin .request .attestation .slot)) n 0) (sym (sub-zero (t .count)))))
 
 mul-if1 : tie.Need-mul-if1 Inv-loop μ-loop
 mul-if1 c = omega arith
@@ -58,9 +58,9 @@ returns : tie.Need-returns Inv-loop μ-loop
 unfolding begunSlot
 returns c =
     let s = c .before .before .before .before .before .before in
-    let t = s .args .t in
-    let r = s .args .b .request in
-    let cut = s .args .b .cut in
+    let t = s .args .table in
+    let r = s .args .begin .request in
+    let cut = s .args .begin .cut in
     let i = c .before .before .before .before .loop .i in
     let l = c .before .before .before .before .loop .slots in
     let h = c .before .before .before .before .loop .inv in
@@ -80,20 +80,20 @@ loop-less c = omega arith
 loop-again : tie.Need-loop-again Inv-loop μ-loop
 loop-again c =
     let s = c .before .before .before .before in
-    let t = s .args .t in
+    let t = s .args .table in
     let i = c .before .before .loop .i in
     let h = c .before .before .loop .inv in
-    let p = bears (t .slots) (s .args .b .request .attestation .slot) in
+    let p = bears (t .slots) (s .args .begin .request .attestation .slot) in
     let off : p i ≡ false = ne-eqb _ _ (λ e. c .if1 .left (ap (λ (x : List VoterSlotRecord). getD x i noSlotRecord .member .identity .slot) (h .1 .0) ∙ e)) in
     ((omega arith, omega arith), (h .1 .0, h .1 .1 ∙ first-more p (t .count) i (omega arith) off))
 
 returns-2 : tie.Need-returns-2 Inv-loop μ-loop
 returns-2 c =
     let s = c .before .before .before in
-    let t = s .args .t in
+    let t = s .args .table in
     let i = c .before .loop .i in
     let h = c .before .loop .inv in
-    let p = bears (t .slots) (s .args .b .request .attestation .slot) in
+    let p = bears (t .slots) (s .args .begin .request .attestation .slot) in
     let e = h .1 .1 ∙ first-none p (t .count) i (omega arith) in
     absurd (omega (arith, e, s .pre .1 .1))
 

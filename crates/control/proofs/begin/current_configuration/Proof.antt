@@ -23,7 +23,7 @@ members-of-requires c κs = search needs
 
 returns-2 : tie.Need-returns-2
 unfolding currentConfiguration
-returns-2 c = ap (configured (c .before .before .before .before .before .args .t)) (c .members-of .ensures) ∙ sym (cond-false _ _ _ (c .before .before .if1 .left))
+returns-2 c = ap (configured (c .before .before .before .before .before .args .table)) (c .members-of .ensures) ∙ sym (cond-false _ _ _ (c .before .before .if1 .left))
 
 pub current-configuration-spec : {M : Type 1} → statement M
 current-configuration-spec = tie.close (tie.spec returns members-of-requires returns-2)

@@ -32,8 +32,8 @@ returns c =
     let same-digest = receipt .before in
     let same-id = same-digest .before .before in
     let s = same-id .before .before .before .before in
-    let t = s .args .t in
-    let a = s .args .r .attestation in
+    let t = s .args .table in
+    let a = s .args .request .attestation in
     let nine = held-voter-slot-table t _ (s .good .0) .slots .count in
     let is-known = (t .«has_replacement» && same-id .same16 .result) || receipt .find-receipt .result .found in
     (c .either2 .ensures)

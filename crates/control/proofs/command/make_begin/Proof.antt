@@ -12,7 +12,7 @@ begin-of-requires c κs = search needs
 
 begin-table-requires : tie.Need-begin-table-requires
 begin-table-requires c κs =
-    let t = c .before .args .t in
+    let t = c .before .args .table in
     subst
     (λ (x : VoterBegin). (t .revision ≡ full → ⊥) × ((currentConfiguration t .epoch ≡ full → ⊥) × ((t .count ≤ 9) × (namedIndex t (x .request) < t .count))))
     (sym (c .begin-of .ensures)) (c .before .pre)
@@ -20,7 +20,7 @@ begin-table-requires c κs =
 returns : tie.Need-returns
 returns c =
     let a = c .before in
-    c .begin-table .ensures ∙ ap (λ (x : VoterBegin). begun (a .before .args .t) (x .request) (x .cut)) (a .begin-of .ensures)
+    c .begin-table .ensures ∙ ap (λ (x : VoterBegin). begun (a .before .args .table) (x .request) (x .cut)) (a .begin-of .ensures)
 
 pub make-begin-spec : {M : Type 1} → statement M
 make-begin-spec = tie.close (tie.spec begin-of-requires begin-table-requires returns)

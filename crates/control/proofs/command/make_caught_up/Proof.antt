@@ -15,7 +15,7 @@ catch-up-table-requires c κs = c .before .pre
 returns : tie.Need-returns
 returns c =
     let a = c .before in
-    c .catch-up-table .ensures ∙ ap (λ (x : VoterAdvance). caughtUpRecorded (a .before .args .t) (x .step .«caught_up»)) (a .advance-of .ensures)
+    c .catch-up-table .ensures ∙ ap (λ (x : VoterAdvance). caughtUpRecorded (a .before .args .table) (x .step .«caught_up»)) (a .advance-of .ensures)
 
 pub make-caught-up-spec : {M : Type 1} → statement M
 make-caught-up-spec = tie.close (tie.spec advance-of-requires catch-up-table-requires returns)

@@ -15,7 +15,7 @@ continue-table-requires c κs = c .before .pre
 returns : tie.Need-returns
 returns c =
     let a = c .before in
-    c .continue-table .ensures ∙ ap (λ (x : VoterAdvance). continued (a .before .args .t) (x .cut)) (a .advance-of .ensures)
+    c .continue-table .ensures ∙ ap (λ (x : VoterAdvance). continued (a .before .args .table) (x .cut)) (a .advance-of .ensures)
 
 pub make-continuation-spec : {M : Type 1} → statement M
 make-continuation-spec = tie.close (tie.spec advance-of-requires continue-table-requires returns)

@@ -15,7 +15,7 @@ fence-table-requires c κs = c .before .pre
 returns : tie.Need-returns
 returns c =
     let a = c .before in
-    c .fence-table .ensures ∙ ap (λ (x : VoterAdvance). fencedAt (a .before .args .t) (x .cut)) (a .advance-of .ensures)
+    c .fence-table .ensures ∙ ap (λ (x : VoterAdvance). fencedAt (a .before .args .table) (x .cut)) (a .advance-of .ensures)
 
 pub make-fence-spec : {M : Type 1} → statement M
 make-fence-spec = tie.close (tie.spec advance-of-requires fence-table-requires returns)

@@ -15,7 +15,7 @@ finalize-table-requires c κs = c .before .pre
 returns : tie.Need-returns
 returns c =
     let a = c .before in
-    c .finalize-table .ensures ∙ ap (λ (x : VoterAdvance). finalized (a .before .args .t) (x .cut)) (a .advance-of .ensures)
+    c .finalize-table .ensures ∙ ap (λ (x : VoterAdvance). finalized (a .before .args .table) (x .cut)) (a .advance-of .ensures)
 
 pub make-finalize-spec : {M : Type 1} → statement M
 make-finalize-spec = tie.close (tie.spec advance-of-requires finalize-table-requires returns)

@@ -15,7 +15,7 @@ snapshot-table-requires c κs = c .before .pre
 returns : tie.Need-returns
 returns c =
     let a = c .before in
-    c .snapshot-table .ensures ∙ ap (λ (x : VoterAdvance). snapshotRecorded (a .before .args .t) (x .step .snapshot)) (a .advance-of .ensures)
+    c .snapshot-table .ensures ∙ ap (λ (x : VoterAdvance). snapshotRecorded (a .before .args .table) (x .step .snapshot)) (a .advance-of .ensures)
 
 pub make-snapshot-spec : {M : Type 1} → statement M
 make-snapshot-spec = tie.close (tie.spec advance-of-requires snapshot-table-requires returns)

@@ -45,7 +45,7 @@ unfolding finalizedSlot
 returns c =
     let indexed = c .before .before .before .before .before .before .before in
     let a = indexed .before .args in
-    ap₂ (finalizedWith (a .t) (a .c .cut)) (indexed .slot-index .ensures) (c .blank-voter-replacement-record .ensures)
+    ap₂ (finalizedWith (a .table) (a .advance .cut)) (indexed .slot-index .ensures) (c .blank-voter-replacement-record .ensures)
 
 pub finalize-table-spec : {M : Type 1} → statement M
 finalize-table-spec =

@@ -14,7 +14,7 @@ add-u : tie.Need-add-u
 add-u c = search needs
 
 returns : tie.Need-returns
-returns c = ap (λ (e : VoterReplacementEvidence). advanced (c .before .before .before .before .before .before .before .args .t) snapshotInstalled e) (c .before .with-snapshot .ensures)
+returns c = ap (λ (e : VoterReplacementEvidence). advanced (c .before .before .before .before .before .before .before .args .table) snapshotInstalled e) (c .before .with-snapshot .ensures)
 
 pub snapshot-table-spec : {M : Type 1} → statement M
 snapshot-table-spec = tie.close (tie.spec with-snapshot-requires add-u returns)

@@ -42,31 +42,31 @@ returns : tie.Need-returns
 unfolding carried
 returns c =
     let a = c .before .before .before .args in
-    sym (ap (λ (j : Observed). carried (added (a .t) (a .cut)) (a .t) (verdictOfObserved j)) (c .before .judged .given .1))
+    sym (ap (λ (j : Observed). carried (added (a .table) (a .cut)) (a .table) (verdictOfObserved j)) (c .before .judged .given .1))
 
 returns-2 : tie.Need-returns-2
 unfolding carried
 returns-2 c =
     let a = c .before .before .args in
-    sym (ap (λ (j : Observed). carried (added (a .t) (a .cut)) (a .t) (verdictOfObserved j)) (c .enum-told .given .1))
+    sym (ap (λ (j : Observed). carried (added (a .table) (a .cut)) (a .table) (verdictOfObserved j)) (c .enum-told .given .1))
 
 returns-3 : tie.Need-returns-3
 unfolding carried
 returns-3 c =
     let a = c .before .before .before .args in
-    ap (λ (n : VoterSlotTable). pair Accepted n) (c .learner-table .ensures) ∙ sym (ap (λ (j : Observed). carried (added (a .t) (a .cut)) (a .t) (verdictOfObserved j)) (c .before .enum-told2 .given .1))
+    ap (λ (n : VoterSlotTable). pair Accepted n) (c .learner-table .ensures) ∙ sym (ap (λ (j : Observed). carried (added (a .table) (a .cut)) (a .table) (verdictOfObserved j)) (c .before .enum-told2 .given .1))
 
 returns-4 : tie.Need-returns-4
 unfolding carried
 returns-4 c =
     let a = c .before .before .before .args in
-    ap (λ (n : VoterSlotTable). pair Accepted n) (c .joint-table .ensures) ∙ sym (ap (λ (j : Observed). carried (added (a .t) (a .cut)) (a .t) (verdictOfObserved j)) (c .before .enum-told3 .given .1))
+    ap (λ (n : VoterSlotTable). pair Accepted n) (c .joint-table .ensures) ∙ sym (ap (λ (j : Observed). carried (added (a .table) (a .cut)) (a .table) (verdictOfObserved j)) (c .before .enum-told3 .given .1))
 
 returns-5 : tie.Need-returns-5
 unfolding carried
 returns-5 c =
     let a = c .before .before .before .args in
-    ap (λ (n : VoterSlotTable). pair Accepted n) (c .uniform-table .ensures) ∙ sym (ap (λ (j : Observed). carried (added (a .t) (a .cut)) (a .t) (verdictOfObserved j)) (c .before .enum-told4 .given .1))
+    ap (λ (n : VoterSlotTable). pair Accepted n) (c .uniform-table .ensures) ∙ sym (ap (λ (j : Observed). carried (added (a .table) (a .cut)) (a .table) (verdictOfObserved j)) (c .before .enum-told4 .given .1))
 
 pub carry-out-spec : {M : Type 1} → statement M
 carry-out-spec =

@@ -18,7 +18,7 @@ route-of-observed-requires c κs = search needs
 returns : tie.Need-returns
 returns c =
     let a = c .before .before .args in
-    confirmed-none (isAccepted (validity (a .t))) (verdictOfObserved (a .judged)) (sym (c .before .route-of-observed .ensures) ∙ c .if1 .taken)
+    confirmed-none (isAccepted (validity (a .table))) (verdictOfObserved (a .judged)) (sym (c .before .route-of-observed .ensures) ∙ c .if1 .taken)
 
 validate-representable-requires : tie.Need-validate-representable-requires
 validate-representable-requires c κs = search needs
@@ -35,7 +35,7 @@ returns-2 c =
     let x = verdictOfObserved (a .judged) in
     c .accept-if .ensures
     ∙ (ap (λ (b : Bool). cond b x (refused InvalidTransition)) (c .before .accepted .ensures ∙ ap isAccepted (c .before .before .validate-representable .ensures))
-    ∙ confirmed-some (isAccepted (validity (a .t))) x (λ z. c .before .before .before .if1 .left (c .before .before .before .before .route-of-observed .ensures ∙ z)))
+    ∙ confirmed-some (isAccepted (validity (a .table))) x (λ z. c .before .before .before .if1 .left (c .before .before .before .before .route-of-observed .ensures ∙ z)))
 
 pub confirm-spec : {M : Type 1} → statement M
 confirm-spec =

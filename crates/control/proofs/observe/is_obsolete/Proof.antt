@@ -18,7 +18,7 @@ returns : tie.Need-returns
 unfolding isObsolete
 returns c =
     let a = c .before .before .before .before .before .args in
-    let op = a .t .replacement in
+    let op = a .table .replacement in
     let p = op .predecessor in
     let m = c .before .before .member-index in
     let e : ltb (memberIndex p (op .attestation .slot)) (p .count) ≡ false = ap (λ (k : ℕ). ltb k (p .count)) (sym (m .ensures)) ∙ le-ltb (m .result) (p .count) (omega arith) in
@@ -41,7 +41,7 @@ returns-2 c =
     let known = c .before .before .before .before .before in
     let called = known .before .before in
     let a = called .before .before .before .args in
-    let op = a .t .replacement in
+    let op = a .table .replacement in
     let p = op .predecessor in
     let m = called .member-index in
     let e : ltb (m .result) (p .count) ≡ true = lt-ltb (m .result) (p .count) (omega arith) in

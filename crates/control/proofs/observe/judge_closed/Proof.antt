@@ -23,7 +23,7 @@ slice-aggregate-all c = search needs
 slice-aggregate-judge-members : tie.Need-slice-aggregate-judge-members
 slice-aggregate-judge-members c =
     let s = c .before .before .before .before .before .before in
-    let t = s .args .t in
+    let t = s .args .table in
     let ids = c .before .before .ids-of-slots .result in
     let n : length ids ≡ 9 = ap length (c .before .before .ids-of-slots .ensures) ∙ length-listed (slotMembers t) 9 in
     let l : t .count ≤ 9 = s .pre .1 .0 in
@@ -40,10 +40,10 @@ returns c =
     let sets = a .sets .now in
     let counts = a .counts .now in
     let nodes = a .nodes .now in
-    let e = ap (take (a .t .count)) (c .before .before .before .ids-of-slots .ensures) ∙ front-listed (slotMembers (a .t)) 9 (a .t .count) (s .pre .1 .0) in
+    let e = ap (take (a .table .count)) (c .before .before .before .ids-of-slots .ensures) ∙ front-listed (slotMembers (a .table)) 9 (a .table .count) (s .pre .1 .0) in
     c .judge-members .ensures
     ∙ (ap (λ (l : List ℕ). judgeMembers l sets counts nodes) e
-    ∙ sym (ap (λ (b : Bool). cond b kept (refused InvalidTransition)) (idle-is (a .t) sets counts nodes (s .pre .0) (s .pre .1 .1))))
+    ∙ sym (ap (λ (b : Bool). cond b kept (refused InvalidTransition)) (idle-is (a .table) sets counts nodes (s .pre .0) (s .pre .1 .1))))
 
 pub judge-closed-spec : {M : Type 1} → statement M
 judge-closed-spec =

@@ -55,7 +55,7 @@ returns : tie.Need-returns
 unfolding judgeKnown
 returns c =
     let a = c .before .before .args in
-    sym (ap (λ (s : Seen). judgeKnown (a .t) (sightOf s) (a .cut)) (c .enum-told .given .1))
+    sym (ap (λ (s : Seen). judgeKnown (a .table) (sightOf s) (a .cut)) (c .enum-told .given .1))
 
 returns-2 : tie.Need-returns-2
 unfolding judgeKnown
@@ -64,28 +64,28 @@ returns-2 c =
     let a = s .args in
     let p = c .before .target-phase .ensures in
     c .accept-if .ensures
-    ∙ ((λ i. cond (eqb (sym (s .pre) i) (p i)) kept (refused InvalidTransition)) ∙ sym (ap (λ (s : Seen). judgeKnown (a .t) (sightOf s) (a .cut)) (c .before .before .enum-told2 .given .1)))
+    ∙ ((λ i. cond (eqb (sym (s .pre) i) (p i)) kept (refused InvalidTransition)) ∙ sym (ap (λ (s : Seen). judgeKnown (a .table) (sightOf s) (a .cut)) (c .before .before .enum-told2 .given .1)))
 
 returns-3 : tie.Need-returns-3
 unfolding judgeKnown
 returns-3 c =
     let a = c .before .before .before .before .args in
     c .accept-if2 .ensures
-    ∙ (ap (λ (b : Bool). cond b (moves addsLearner) (refused InvalidTransition)) (c .before .is-learner-cut .ensures) ∙ sym (ap (λ (s : Seen). judgeKnown (a .t) (sightOf s) (a .cut)) (c .before .before .enum-told3 .given .1)))
+    ∙ (ap (λ (b : Bool). cond b (moves addsLearner) (refused InvalidTransition)) (c .before .is-learner-cut .ensures) ∙ sym (ap (λ (s : Seen). judgeKnown (a .table) (sightOf s) (a .cut)) (c .before .before .enum-told3 .given .1)))
 
 returns-4 : tie.Need-returns-4
 unfolding judgeKnown
 returns-4 c =
     let a = c .before .before .before .before .args in
     c .accept-if3 .ensures
-    ∙ (ap (λ (b : Bool). cond b (moves addsJoint) (refused InvalidTransition)) (c .before .is-joint-cut .ensures) ∙ sym (ap (λ (s : Seen). judgeKnown (a .t) (sightOf s) (a .cut)) (c .before .before .enum-told4 .given .1)))
+    ∙ (ap (λ (b : Bool). cond b (moves addsJoint) (refused InvalidTransition)) (c .before .is-joint-cut .ensures) ∙ sym (ap (λ (s : Seen). judgeKnown (a .table) (sightOf s) (a .cut)) (c .before .before .enum-told4 .given .1)))
 
 returns-5 : tie.Need-returns-5
 unfolding judgeKnown
 returns-5 c =
     let a = c .before .before .before .before .args in
     c .accept-if4 .ensures
-    ∙ (ap (λ (b : Bool). cond b (moves addsUniform) (refused InvalidTransition)) (c .before .is-uniform-cut .ensures) ∙ sym (ap (λ (s : Seen). judgeKnown (a .t) (sightOf s) (a .cut)) (c .before .before .enum-told5 .given .1)))
+    ∙ (ap (λ (b : Bool). cond b (moves addsUniform) (refused InvalidTransition)) (c .before .is-uniform-cut .ensures) ∙ sym (ap (λ (s : Seen). judgeKnown (a .table) (sightOf s) (a .cut)) (c .before .before .enum-told5 .given .1)))
 
 pub judge-known-spec : {M : Type 1} → statement M
 judge-known-spec =

@@ -21,22 +21,22 @@ returns : tie.Need-returns
 returns c =
     let a = c .before .before .before .args in
     let i = c .before .before .slot-place in
-    let e : ltb (targetIndex (a .t)) (a .t .count) ≡ false = ap (λ (k : ℕ). ltb k (a .t .count)) (sym (i .ensures)) ∙ le-ltb (i .result) (a .t .count) (omega arith) in
-    sym (ap (λ (b : Bool). cond b (judgeKnown (a .t) (sightOf (a .seen)) (a .cut)) (refused InvalidTransition)) e)
+    let e : ltb (targetIndex (a .table)) (a .table .count) ≡ false = ap (λ (k : ℕ). ltb k (a .table .count)) (sym (i .ensures)) ∙ le-ltb (i .result) (a .table .count) (omega arith) in
+    sym (ap (λ (b : Bool). cond b (judgeKnown (a .table) (sightOf (a .seen)) (a .cut)) (refused InvalidTransition)) e)
 
 phase-at-requires : tie.Need-phase-at-requires
 phase-at-requires c κs = search needs
 
 judge-known-requires : tie.Need-judge-known-requires
 judge-known-requires c κs =
-    ap (λ (k : ℕ). slotAt (c .before .before .before .before .args .t) k .phase) (sym (c .before .before .before .slot-place .ensures)) ∙ sym (c .phase-at .ensures)
+    ap (λ (k : ℕ). slotAt (c .before .before .before .before .args .table) k .phase) (sym (c .before .before .before .slot-place .ensures)) ∙ sym (c .phase-at .ensures)
 
 returns-2 : tie.Need-returns-2
 returns-2 c =
     let a = c .before .before .before .before .before .args in
     let i = c .before .before .before .before .slot-place in
-    let e : ltb (targetIndex (a .t)) (a .t .count) ≡ true = ap (λ (k : ℕ). ltb k (a .t .count)) (sym (i .ensures)) ∙ lt-ltb (i .result) (a .t .count) (omega arith) in
-    c .judge-known .ensures ∙ sym (ap (λ (b : Bool). cond b (judgeKnown (a .t) (sightOf (a .seen)) (a .cut)) (refused InvalidTransition)) e)
+    let e : ltb (targetIndex (a .table)) (a .table .count) ≡ true = ap (λ (k : ℕ). ltb k (a .table .count)) (sym (i .ensures)) ∙ lt-ltb (i .result) (a .table .count) (omega arith) in
+    c .judge-known .ensures ∙ sym (ap (λ (b : Bool). cond b (judgeKnown (a .table) (sightOf (a .seen)) (a .cut)) (refused InvalidTransition)) e)
 
 pub judge-seen-spec : {M : Type 1} → statement M
 judge-seen-spec =

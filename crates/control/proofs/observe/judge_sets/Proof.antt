@@ -19,7 +19,7 @@ use Rattle.control.proofs.observe.judge_sets.Tie as tie
 judge-closed-requires : tie.Need-judge-closed-requires
 judge-closed-requires c κs =
     let s = c .before .before .before .before .before in
-    let t = s .args .t in
+    let t = s .args .table in
     (s .pre .0, (few-count t (s .pre .1), not-true (t .«has_replacement») (c .if1 .taken)))
 
 refuse-full-requires : tie.Need-refuse-full-requires
@@ -29,7 +29,7 @@ returns : tie.Need-returns
 unfolding judgeSets
 returns c =
     let a = c .before .before .before .before .before .before .before .args in
-    let t = a .t in
+    let t = a .table in
     let sets = splitSets (a .sets .now) (a .counts .now) in
     let nodes = a .nodes .now in
     let e = not-true (t .«has_replacement») (c .before .before .if1 .taken) in
@@ -41,13 +41,13 @@ returns c =
 see-requires : tie.Need-see-requires
 see-requires c κs =
     let s = c .before .before .before .before .before in
-    let t = s .args .t in
+    let t = s .args .table in
     (s .pre .0, few-open t (s .pre .1) (not-false (t .«has_replacement») (c .if1 .left)))
 
 judge-seen-requires : tie.Need-judge-seen-requires
 judge-seen-requires c κs =
     let s = c .before .before .before .before .before .before in
-    few-count (s .args .t) (s .pre .1)
+    few-count (s .args .table) (s .pre .1)
 
 refuse-full-requires-2 : tie.Need-refuse-full-requires-2
 refuse-full-requires-2 c κs = search needs
@@ -56,7 +56,7 @@ returns-2 : tie.Need-returns-2
 unfolding judgeSets
 returns-2 c =
     let a = c .before .before .before .before .before .before .before .before .args in
-    let t = a .t in
+    let t = a .table in
     let sets = splitSets (a .sets .now) (a .counts .now) in
     let nodes = a .nodes .now in
     let e = not-false (t .«has_replacement») (c .before .before .before .if1 .left) in

@@ -15,7 +15,7 @@ use Rattle.control.proofs.observe.may_linger.Tie as tie
 returns : tie.Need-returns
 returns c =
     let a = c .before .args in
-    sym (ap (λ (b : Bool). b || isObsolete (a .t .replacement) (fromNodeId (a .node))) (eq-eqb (a .node) noId (omega arith)))
+    sym (ap (λ (b : Bool). b || isObsolete (a .table .replacement) (fromNodeId (a .node))) (eq-eqb (a .node) noId (omega arith)))
 
 from-node-id-requires : tie.Need-from-node-id-requires
 from-node-id-requires c κs = search needs
@@ -33,7 +33,7 @@ returns-2 : tie.Need-returns-2
 unfolding isObsolete
 returns-2 c =
     let a = c .before .before .before .before .args in
-    let op = a .t .replacement in
+    let op = a .table .replacement in
     let found = c .before .before .from-node-id in
     let read = identity-told (found .result) (fromNodeId (a .node)) (read-telling (a .node)) (found .ensures) in
     let told = c .enum-told .given .1 in
@@ -44,7 +44,7 @@ returns-2 c =
 returns-3 : tie.Need-returns-3
 returns-3 c =
     let a = c .before .before .before .before .before .before .args in
-    let op = a .t .replacement in
+    let op = a .table .replacement in
     let found = c .before .before .before .before .from-node-id in
     let read = identity-told (found .result) (fromNodeId (a .node)) (read-telling (a .node)) (found .ensures) in
     let told = c .before .before .read .given .1 in

@@ -14,13 +14,13 @@ weigh-entry-requires c κs = search needs
 carry-out-requires : tie.Need-carry-out-requires
 carry-out-requires c κs =
     let a = c .before .before .before .before .args in
-    λ h. entry-room (a .t) (a .sets .now) (a .counts .now) (a .nodes .now) (a .cut) (ap isChange (sym (c .weigh-entry .ensures)) ∙ h)
+    λ h. entry-room (a .table) (a .sets .now) (a .counts .now) (a .nodes .now) (a .cut) (ap isChange (sym (c .weigh-entry .ensures)) ∙ h)
 
 returns : tie.Need-returns
 returns c =
     let a = c .before .before .before .before .before .args in
     c .carry-out .ensures
-    ∙ (ap (carried (added (a .t) (a .cut)) (a .t)) (c .before .weigh-entry .ensures) ∙ sym (observes-entry (a .t) (a .sets .now) (a .counts .now) (a .nodes .now) (a .cut)))
+    ∙ (ap (carried (added (a .table) (a .cut)) (a .table)) (c .before .weigh-entry .ensures) ∙ sym (observes-entry (a .table) (a .sets .now) (a .counts .now) (a .nodes .now) (a .cut)))
 
 pub observe-membership-spec : {M : Type 1} → statement M
 observe-membership-spec = tie.close (tie.spec weigh-entry-requires carry-out-requires returns)

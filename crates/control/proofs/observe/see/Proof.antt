@@ -32,7 +32,7 @@ slice-aggregate-news c = search needs
 slice-aggregate-see-ids : tie.Need-slice-aggregate-see-ids
 slice-aggregate-see-ids c =
     let called = c .before .before .before .before in
-    let c₀ = start called .args .t .replacement .predecessor in
+    let c₀ = start called .args .table .replacement .predecessor in
     let ids = called .ids-of .result in
     let n : length ids ≡ 9 = ap length (called .ids-of .ensures) ∙ length-listed c₀ 9 in
     let l : c₀ .count ≤ 9 = start called .pre .1 .0 in
@@ -42,7 +42,7 @@ slice-aggregate-see-ids c =
 slice-aggregate-see-ids-2 : tie.Need-slice-aggregate-see-ids-2
 slice-aggregate-see-ids-2 c =
     let called = c .before .before .before .before in
-    let c₀ = start-new called .args .t .replacement .successor in
+    let c₀ = start-new called .args .table .replacement .successor in
     let ids = called .ids-of2 .result in
     let n : length ids ≡ 9 = ap length (called .ids-of2 .ensures) ∙ length-listed c₀ 9 in
     let l : c₀ .count ≤ 9 = start-new called .pre .1 .1 in
@@ -60,7 +60,7 @@ returns c =
     let called = c .before .before .before .before .before in
     let s = start-new called in
     let a = s .args in
-    let op = a .t .replacement in
+    let op = a .table .replacement in
     let old = op .predecessor in
     let new = op .successor in
     let e = ap (take (old .count)) (called .before .ids-of .ensures) ∙ front-listed old 9 (old .count) (s .pre .1 .0) in

@@ -23,7 +23,7 @@ see-by-requires c κs = search needs
 returns : tie.Need-returns
 returns c =
     let a = c .before .before .before .before .before .before .before .before .before .args in
-    let op = a .t .replacement in
+    let op = a .table .replacement in
     let out = c .before .before .before .first-outside .ensures in
     let ling = c .before .before .may-linger .ensures ∙ ap (lingersAs op) out in
     let tests = c .before .test-sets .ensures in

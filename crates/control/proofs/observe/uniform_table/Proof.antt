@@ -35,7 +35,7 @@ unfolding added
 returns c =
     let a = c .before .before .before .before .before .before .before .args in
     c .with-phase .ensures
-    ∙ ap (λ (k : ℕ). tableWith (a .t) (a .t .revision + 1) (a .t .replacement .successor .epoch) (set (a .t .slots) k (inPhase (slotAt (a .t) k) voting)) true (uniformSeen (a .t .replacement) (a .cut))) (c .before .before .before .before .before .before .slot-place .ensures)
+    ∙ ap (λ (k : ℕ). tableWith (a .table) (a .table .revision + 1) (a .table .replacement .successor .epoch) (set (a .table .slots) k (inPhase (slotAt (a .table) k) voting)) true (uniformSeen (a .table .replacement) (a .cut))) (c .before .before .before .before .before .before .slot-place .ensures)
 
 pub uniform-table-spec : {M : Type 1} → statement M
 uniform-table-spec =

@@ -26,7 +26,7 @@ tested c = c .before .before .before
 
 -- the arguments
 abbrev table-of : tie.After-are-held2 → VoterSlotTable
-table-of c = start c .args .t
+table-of c = start c .args .table
 
 abbrev sets-of : tie.After-are-held2 → List ℕ
 sets-of c = start c .args .sets .now

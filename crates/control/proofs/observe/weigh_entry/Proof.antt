@@ -19,21 +19,21 @@ is-representable-requires c κs = search needs
 returns : tie.Need-returns
 returns c =
     let a = c .before .before .before .before .before .args in
-    sym (ap (λ (b : Bool). cond b (confirmed (isAccepted (validity (a .t))) (weighed (a .t) (a .sets .now) (a .counts .now) (a .nodes .now) (a .cut))) (refused Unrepresentable)) (failed (c .before .is-representable .ensures) (c .if1 .taken)))
+    sym (ap (λ (b : Bool). cond b (confirmed (isAccepted (validity (a .table))) (weighed (a .table) (a .sets .now) (a .counts .now) (a .nodes .now) (a .cut))) (refused Unrepresentable)) (failed (c .before .is-representable .ensures) (c .if1 .taken)))
 
 weigh-requires : tie.Need-weigh-requires
 weigh-requires c κs = search needs
 
 confirm-requires : tie.Need-confirm-requires
-confirm-requires c κs = representable-count (c .before .before .before .before .before .before .args .t) (held (c .before .before .is-representable .ensures) (c .before .if1 .left))
+confirm-requires c κs = representable-count (c .before .before .before .before .before .before .args .table) (held (c .before .before .is-representable .ensures) (c .before .if1 .left))
 
 returns-2 : tie.Need-returns-2
 returns-2 c =
     let a = c .before .before .before .before .before .before .before .args in
-    let v = isAccepted (validity (a .t)) in
+    let v = isAccepted (validity (a .table)) in
     c .confirm .ensures
     ∙ (ap (confirmed v) (c .before .weigh .ensures)
-    ∙ sym (ap (λ (b : Bool). cond b (confirmed v (weighed (a .t) (a .sets .now) (a .counts .now) (a .nodes .now) (a .cut))) (refused Unrepresentable)) (held (c .before .before .before .is-representable .ensures) (c .before .before .if1 .left))))
+    ∙ sym (ap (λ (b : Bool). cond b (confirmed v (weighed (a .table) (a .sets .now) (a .counts .now) (a .nodes .now) (a .cut))) (refused Unrepresentable)) (held (c .before .before .before .is-representable .ensures) (c .before .before .if1 .left))))
 
 pub weigh-entry-spec : {M : Type 1} → statement M
 weigh-entry-spec =
