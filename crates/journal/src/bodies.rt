@@ -304,11 +304,12 @@ pub fn read_advance(body: &[u8]) -> AdvanceRead
     let step = step_read.value;
     AdvanceRead {
         formed: is_whole(step_to, body.len() - at),
-        value: advance_of(named, step),
+        value: advance_by(named, step),
     }
 }
 
-fn advance_of(named: MarkerBody, step: VoterReplacementStep) -> VoterAdvance
+// The Advance of its parts.
+fn advance_by(named: MarkerBody, step: VoterReplacementStep) -> VoterAdvance
     ensures { λ r. ⌜ r ≡ advanceBy named step ⌝ }
 {
     let request_id = named.request_id;
@@ -327,7 +328,7 @@ fn refused_advance() -> AdvanceRead
 {
     AdvanceRead {
         formed: false,
-        value: advance_of(blank_marker_body(), step_of(0)),
+        value: advance_by(blank_marker_body(), step_of(0)),
     }
 }
 
@@ -560,11 +561,12 @@ fn read_attested(head: BeginHead, attestation: &[u8], supplied: &[u8]) -> BeginR
     let configuration = configuration_read.value;
     BeginRead {
         asks: Asks::Begin,
-        value: begin_of(head, attestation, digest, configuration),
+        value: begin_by(head, attestation, digest, configuration),
     }
 }
 
-fn begin_of(
+// The Begin of its parts.
+fn begin_by(
     head: BeginHead,
     attestation: LostVoterAttestationV1,
     supplied_request_digest: [u8; 32],
@@ -592,6 +594,6 @@ fn refused_begin(asks: Asks, head: BeginHead) -> BeginRead
     let attestation = blank_lost_voter_attestation_v1();
     BeginRead {
         asks,
-        value: begin_of(head, attestation, [0; 32], [0; 32]),
+        value: begin_by(head, attestation, [0; 32], [0; 32]),
     }
 }

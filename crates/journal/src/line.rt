@@ -13,9 +13,11 @@ use identity::answer::Answer;
 use identity::answer::number;
 use layout::put::put_bytes;
 
-// Most bytes of a line: three numbers of up to 20 digits, a mark of 2, three spaces and the
-// newline.
-pub const LONGEST_LINE: usize = 3 * 20 + 2 + 3 + 1;
+// Most digits of a number.
+const MOST_DIGITS: usize = 20;
+
+// Most bytes of a line: three numbers, a mark of 2, three spaces and the newline.
+pub const LONGEST_LINE: usize = 3 * MOST_DIGITS + 2 + 3 + 1;
 
 // Puts a line at a place of the buffer, which has room for the longest, and gives the place after
 // it.
@@ -42,12 +44,12 @@ pub fn put_line(
     put_bytes(out, at, b"\n")
 }
 
-// Puts the decimal digits of a number, at most 20.
+// Puts the decimal digits of a number.
 fn put_decimal(out: &mut [u8], at: usize, number: u64) -> usize
     requires { ⌜ at + length (decimal number) ≤ length (now out) ⌝ }
     ensures { λ r. ⌜ Put (decimal number) at (now (out .entry)) (now (out .exit)) r ⌝ }
 {
-    let mut digits = [0u8; 20];
+    let mut digits = [0u8; MOST_DIGITS];
     let count = io::decimal(number, &mut digits);
     put_bytes(out, at, &digits[..count])
 }

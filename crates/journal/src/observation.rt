@@ -38,6 +38,9 @@ pub struct ObservationRead {
 // together.
 pub const MOST_IDS: usize = 8192;
 
+// Bytes of an id.
+const ID_SIZE: usize = 8;
+
 // Most sets: their count has 8 bits.
 pub const MOST_SETS: usize = 255;
 
@@ -133,13 +136,13 @@ fn lay_set(bytes: &[u8], ids: &mut [u64], from: usize) -> Laid
         return not_laid();
     };
     let count = count as usize;
-    if bytes.len() - at < 8 * count {
+    if bytes.len() - at < ID_SIZE * count {
         return not_laid();
     }
     lay_ids(&bytes[at..], ids, from, count);
     Laid {
         formed: true,
-        taken: at + 8 * count,
+        taken: at + ID_SIZE * count,
         ids: count,
     }
 }
@@ -164,7 +167,7 @@ fn lay_ids(bytes: &[u8], ids: &mut [u64], from: usize, count: usize)
     while i < count {
         ids[from + i] = id_at(&bytes[at..]);
         i += 1;
-        at += 8;
+        at += ID_SIZE;
     }
 }
 

@@ -15,7 +15,6 @@ ghost use Rattle.journal.specs.Replay.{asking};
 ghost use Rattle.journal.specs.Step.{HoldsAdvance, HoldsBegin, Makes, answerOfCalled, isChanging, checkedCall, commandVerdict, cutAt, madeBy, numbered, observationVerdict, routeOfCalled, routeOfObservation};
 use crate::bodies::*;
 use crate::observation::*;
-use crate::replay::Mark;
 use control::begin::VoterBegin;
 use control::begin::begin_table;
 use control::begin::judge_begin;
@@ -96,38 +95,38 @@ fn check_call(fits: bool, cut: VoterSlotLogId, judged: Judged) -> Judged
 }
 
 // The judges of the bodies: 33 for one that is not of its form, and then as the calls. An MK;
-pub fn judge_marker_body(t: VoterSlotTable, body: &[u8]) -> Judged
-    requires { ⌜ validate t ≡ Accepted ⌝ }
-    ensures { λ v. ⌜ numbered (verdictOf v) ≡ commandVerdict t (asking Mk (now (body .entry))) ⌝ }
+pub fn judge_marker_body(table: VoterSlotTable, body: &[u8]) -> Judged
+    requires { ⌜ validate table ≡ Accepted ⌝ }
+    ensures { λ v. ⌜ numbered (verdictOf v) ≡ commandVerdict table (asking Mk (now (body .entry))) ⌝ }
 {
     let read = read_marker(body);
     let cut = read.value.cut;
     let request_id = read.value.request_id;
     let request_digest = read.value.request_digest;
-    let judged = judge_marker(t, request_id, request_digest);
+    let judged = judge_marker(table, request_id, request_digest);
     let checked = check_call(true, cut, judged);
     refuse_if(!read.formed, Answer::BadRecord, checked)
 }
 
 // an AD;
-pub fn judge_advance_body(t: VoterSlotTable, body: &[u8]) -> Judged
-    requires { ⌜ validate t ≡ Accepted ⌝ }
-    ensures { λ v. ⌜ numbered (verdictOf v) ≡ commandVerdict t (asking Ad (now (body .entry))) ⌝ }
+pub fn judge_advance_body(table: VoterSlotTable, body: &[u8]) -> Judged
+    requires { ⌜ validate table ≡ Accepted ⌝ }
+    ensures { λ v. ⌜ numbered (verdictOf v) ≡ commandVerdict table (asking Ad (now (body .entry))) ⌝ }
 {
     let read = read_advance(body);
     let advance = read.value;
     let cut = advance.cut;
     let step = advance.step;
-    let judged = judge_advance(t, advance);
+    let judged = judge_advance(table, advance);
     let fits = is_representable_step(step);
     let checked = check_call(fits, cut, judged);
     refuse_if(!read.formed, Answer::BadRecord, checked)
 }
 
 // a BG, with its attestation's own number before 30;
-pub fn judge_begin_body(t: VoterSlotTable, body: &[u8]) -> Judged
-    requires { ⌜ validate t ≡ Accepted ⌝ }
-    ensures { λ v. ⌜ numbered (verdictOf v) ≡ commandVerdict t (asking Bg (now (body .entry))) ⌝ }
+pub fn judge_begin_body(table: VoterSlotTable, body: &[u8]) -> Judged
+    requires { ⌜ validate table ≡ Accepted ⌝ }
+    ensures { λ v. ⌜ numbered (verdictOf v) ≡ commandVerdict table (asking Bg (now (body .entry))) ⌝ }
 {
     let read = read_begin(body);
     let asks = read.asks;
@@ -138,7 +137,7 @@ pub fn judge_begin_body(t: VoterSlotTable, body: &[u8]) -> Judged
         Asks::Begin => {
             let cut = begin.cut;
             let request = begin.request;
-            let judged = judge_begin(t, begin);
+            let judged = judge_begin(table, begin);
             let fits = is_representable_request(request);
             check_call(fits, cut, judged)
         }
@@ -147,50 +146,61 @@ pub fn judge_begin_body(t: VoterSlotTable, body: &[u8]) -> Judged
 
 // an OB, whose ids and counts are read into the lent arrays.
 pub fn judge_observation_body(
-    t: VoterSlotTable,
+    table: VoterSlotTable,
     body: &[u8],
     ids: &mut [u64; MOST_IDS],
     counts: &mut [usize; MOST_SETS],
 ) -> Observed
-    requires { ⌜ (validate t ≡ Accepted) × (length (now body) ≤ 65535) ⌝ }
-    ensures { λ v. ⌜ numbered (verdictOfObserved v) ≡ observationVerdict t (asking Ob (now (body .entry))) ⌝ }
+    requires { ⌜ (validate table ≡ Accepted) × (length (now body) ≤ 65535) ⌝ }
+    ensures { λ v. ⌜ numbered (verdictOfObserved v) ≡ observationVerdict table (asking Ob (now (body .entry))) ⌝ }
 {
     let read = read_observation(body, ids, counts);
     if !read.formed {
         return Observed::Refuse(Answer::BadRecord);
     }
-    weigh_read(t, read, ids, counts)
+    weigh_read(table, read, ids, counts)
 }
 
 // What was read, from the front of the ids and of the counts.
-fn weigh_read(t: VoterSlotTable, read: ObservationRead, ids: &[u64], counts: &[usize]) -> Observed
+fn weigh_read(
+    table: VoterSlotTable,
+    read: ObservationRead,
+    ids: &[u64],
+    counts: &[usize],
+) -> Observed
     requires { ⌜ (read .ids + read .nodes ≤ length (now ids)) × (read .sets ≤ length (now counts)) ⌝ }
-    ensures { λ v. ⌜ verdictOfObserved v ≡ weighed t (take (read .ids) (now (ids .entry))) (take (read .sets) (now (counts .entry))) (take (read .nodes) (drop (read .ids) (now (ids .entry)))) (read .cut) ⌝ }
+    ensures { λ v. ⌜ verdictOfObserved v ≡ weighed table (take (read .ids) (now (ids .entry))) (take (read .sets) (now (counts .entry))) (take (read .nodes) (drop (read .ids) (now (ids .entry)))) (read .cut) ⌝ }
 {
     let set_ids = read.ids;
     let sets = read.sets;
     let end = set_ids + read.nodes;
     let cut = read.cut;
-    weigh(t, &ids[..set_ids], &counts[..sets], &ids[set_ids..end], cut)
+    weigh(
+        table,
+        &ids[..set_ids],
+        &counts[..sets],
+        &ids[set_ids..end],
+        cut,
+    )
 }
 
 // The table after the record. Where the table that stands is to be changed, its owner chooses the
 // maker itself, as `play_on` does: what this returns is copied.
-pub fn make_record(t: VoterSlotTable, body: &[u8], called: Called) -> VoterSlotTable
-    requires { ⌜ Makes t (now body) called ⌝ }
-    ensures { λ r. ⌜ r ≡ madeBy t (now (body .entry)) called ⌝ }
+pub fn make_record(table: VoterSlotTable, body: &[u8], called: Called) -> VoterSlotTable
+    requires { ⌜ Makes table (now body) called ⌝ }
+    ensures { λ r. ⌜ r ≡ madeBy table (now (body .entry)) called ⌝ }
 {
     match route_of_called(called) {
-        ROUTE_SNAPSHOT => snapshot_table(t, advance_in(body)),
-        ROUTE_CAUGHT_UP => catch_up_table(t, advance_in(body)),
-        ROUTE_CONTINUATION => continue_table(t, advance_in(body)),
-        ROUTE_FENCE => fence_table(t, advance_in(body)),
-        ROUTE_FINALIZE => finalize_table(t, advance_in(body)),
-        ROUTE_BEGIN => begin_table(t, begin_in(body)),
-        MAKER_LEARNER => learner_table(t, cut_in(body)),
-        MAKER_JOINT => joint_table(t, cut_in(body)),
-        MAKER_UNIFORM => uniform_table(t, cut_in(body)),
-        _ => t,
+        ROUTE_SNAPSHOT => snapshot_table(table, advance_in(body)),
+        ROUTE_CAUGHT_UP => catch_up_table(table, advance_in(body)),
+        ROUTE_CONTINUATION => continue_table(table, advance_in(body)),
+        ROUTE_FENCE => fence_table(table, advance_in(body)),
+        ROUTE_FINALIZE => finalize_table(table, advance_in(body)),
+        ROUTE_BEGIN => begin_table(table, begin_in(body)),
+        MAKER_LEARNER => learner_table(table, cut_in(body)),
+        MAKER_JOINT => joint_table(table, cut_in(body)),
+        MAKER_UNIFORM => uniform_table(table, cut_in(body)),
+        _ => table,
     }
 }
 

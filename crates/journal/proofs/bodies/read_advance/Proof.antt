@@ -65,14 +65,14 @@ sub-is-whole c = markerBody .within _ (named (c .before .before .before))
 is-whole-requires : tie.Need-is-whole-requires
 is-whole-requires c κs = search needs
 
-advance-of-requires : tie.Need-advance-of-requires
-advance-of-requires c κs = search needs
+advance-by-requires : tie.Need-advance-by-requires
+advance-by-requires c κs = search needs
 
 returns-2 : tie.Need-returns-2
 returns-2 c =
     let k = c .before .before .before .before .before in
     let r = c .before .before .before .read-step in
-    (λ i. cond (c .before .is-whole .ensures i) (asks (command (advanceControl (c .advance-of .ensures i)) (c .advance-of .ensures i .cut))) bad)
+    (λ i. cond (c .before .is-whole .ensures i) (asks (command (advanceControl (c .advance-by .ensures i)) (c .advance-by .ensures i .cut))) bad)
     ∙ advance-asks (input k) (r .result .answer) (named k) (r .ensures ∙ ap (λ l. outcome blankVoterReplacementStep (decMap (stepBody .dec) stepOf l)) (rest (input k) _))
 
 pub read-advance-spec : {M : Type 1} → statement M
@@ -90,5 +90,5 @@ read-advance-spec =
     read-step-requires
     sub-is-whole
     is-whole-requires
-    advance-of-requires
+    advance-by-requires
     returns-2)

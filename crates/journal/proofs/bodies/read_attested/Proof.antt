@@ -52,8 +52,8 @@ part-read-array32-end c = search needs
 read-array32-requires-2 : tie.Need-read-array32-requires-2
 read-array32-requires-2 c κs = search needs
 
-begin-of-requires : tie.Need-begin-of-requires
-begin-of-requires c κs = search needs
+begin-by-requires : tie.Need-begin-by-requires
+begin-by-requires c κs = search needs
 
 returns-2 : tie.Need-returns-2
 unfolding beginAskingBy
@@ -62,7 +62,7 @@ returns-2 c =
     let k = accepted-at r in
     let d = decoded k .decode-lost-voter-attestation in
     let s = decoded k .before .before .before .args in
-    attested-asks (s .head) (s .attestation .now) (s .supplied .now) (d .result .answer) (d .result .attestation) (c .begin-of .ensures)
+    attested-asks (s .head) (s .attestation .now) (s .supplied .now) (d .result .answer) (d .result .attestation) (c .begin-by .ensures)
     (supplied-read (s .supplied .now) (omega arith) (r .read-array32 .ensures))
     (supplied-read (drop 32 (s .supplied .now)) (omega (arith, length-drop 32 (s .supplied .now)))
     (c .before .before .read-array322 .ensures ∙ ap (λ l. outcome (zeros 32) (raw 32 .dec l)) (rest (s .supplied .now) 32)))
@@ -81,5 +81,5 @@ read-attested-spec =
     part-read-array32-start
     part-read-array32-end
     read-array32-requires-2
-    begin-of-requires
+    begin-by-requires
     returns-2)

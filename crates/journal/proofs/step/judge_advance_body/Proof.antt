@@ -34,7 +34,7 @@ returns c =
     (c .refuse-if .ensures
     ∙ ap (λ (w : Verdict Move). cond (not (r .result .formed)) (refused BadRecord) w)
     (c .before .before .check-call .ensures ∙ ap₂ (λ (f : Bool) (w : Verdict Move). checkedCall f (a .cut) w) (c .before .before .before .is-representable-step .ensures) (c .before .before .before .before .judge-advance .ensures)))
-    ∙ advance-verdict (s .args .t) (s .pre) (r .result) (s .args .body .now) (r .ensures)
+    ∙ advance-verdict (s .args .table) (s .pre) (r .result) (s .args .body .now) (r .ensures)
 
 pub judge-advance-body-spec : {M : Type 1} → statement M
 judge-advance-body-spec =

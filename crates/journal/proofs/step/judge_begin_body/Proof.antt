@@ -35,15 +35,15 @@ returns : tie.Need-returns
 returns c =
     let s = c .before .before .before .before .before in
     let r = c .before .before .before .read-begin in
-    ap (λ (x : Asks). numbered (beginVerdict (s .args .t) x (r .result .value))) (sym (c .enum-told .given .1))
-    ∙ begin-verdict (s .args .t) (s .pre) (r .result) (s .args .body .now) (r .ensures)
+    ap (λ (x : Asks). numbered (beginVerdict (s .args .table) x (r .result .value))) (sym (c .enum-told .given .1))
+    ∙ begin-verdict (s .args .table) (s .pre) (r .result) (s .args .body .now) (r .ensures)
 
 returns-2 : tie.Need-returns-2
 returns-2 c =
     let s = c .before .before .before .before .before .before in
     let r = c .before .before .before .before .read-begin in
-    ap (λ (x : Asks). numbered (beginVerdict (s .args .t) x (r .result .value))) (sym (c .before .asks .given .1))
-    ∙ begin-verdict (s .args .t) (s .pre) (r .result) (s .args .body .now) (r .ensures)
+    ap (λ (x : Asks). numbered (beginVerdict (s .args .table) x (r .result .value))) (sym (c .before .asks .given .1))
+    ∙ begin-verdict (s .args .table) (s .pre) (r .result) (s .args .body .now) (r .ensures)
 
 returns-3 : tie.Need-returns-3
 returns-3 c =
@@ -51,8 +51,8 @@ returns-3 c =
     let r = c .before .before .before .before .before .before .before .before .read-begin in
     ap numbered
     (c .check-call .ensures ∙ ap₂ (λ (f : Bool) (w : Verdict Move). checkedCall f (r .result .value .cut) w) (c .before .is-representable-request .ensures) (c .before .before .judge-begin .ensures))
-    ∙ ap (λ (x : Asks). numbered (beginVerdict (s .args .t) x (r .result .value))) (sym (c .before .before .before .before .before .enum-told2 .given .1))
-    ∙ begin-verdict (s .args .t) (s .pre) (r .result) (s .args .body .now) (r .ensures)
+    ∙ ap (λ (x : Asks). numbered (beginVerdict (s .args .table) x (r .result .value))) (sym (c .before .before .before .before .before .enum-told2 .given .1))
+    ∙ begin-verdict (s .args .table) (s .pre) (r .result) (s .args .body .now) (r .ensures)
 
 pub judge-begin-body-spec : {M : Type 1} → statement M
 judge-begin-body-spec =

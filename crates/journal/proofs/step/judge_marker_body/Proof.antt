@@ -31,7 +31,7 @@ returns c =
     (c .refuse-if .ensures
     ∙ ap (λ (w : Verdict Move). cond (not (r .result .formed)) (refused BadRecord) w)
     (c .before .before .check-call .ensures ∙ ap (λ (w : Verdict Move). checkedCall true (a .cut) w) (c .before .before .before .judge-marker .ensures)))
-    ∙ marker-verdict (s .args .t) (s .pre) (r .result) (s .args .body .now) (r .ensures)
+    ∙ marker-verdict (s .args .table) (s .pre) (r .result) (s .args .body .now) (r .ensures)
 
 pub judge-marker-body-spec : {M : Type 1} → statement M
 judge-marker-body-spec =

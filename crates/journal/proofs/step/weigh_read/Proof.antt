@@ -37,7 +37,7 @@ returns c =
     let a = c .before .before .before .before .before .before .before .before .args in
     let e : a .read .ids + a .read .nodes - a .read .ids ≡ a .read .nodes = omega arith in
     c .weigh .ensures
-    ∙ ap (λ (n : ℕ). weighed (a .t) (take (a .read .ids) (a .ids .now)) (take (a .read .sets) (a .counts .now)) (take n (drop (a .read .ids) (a .ids .now))) (a .read .cut)) e
+    ∙ ap (λ (n : ℕ). weighed (a .table) (take (a .read .ids) (a .ids .now)) (take (a .read .sets) (a .counts .now)) (take n (drop (a .read .ids) (a .ids .now))) (a .read .cut)) e
 
 pub weigh-read-spec : {M : Type 1} → statement M
 weigh-read-spec =
