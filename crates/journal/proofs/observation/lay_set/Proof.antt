@@ -1,4 +1,6 @@
 -- `journal::observation::lay_set` meets its contract: the count, and so many ids. Assumes nothing.
+use Prim.Native.Nat.{ℕ}
+use mathlib.Core.List.{List}
 use mathlib.Core.Path.{_≡_}
 use Rattle.format.specs.Num.{uint}
 use Rattle.format.specs.Res.Res.{ok}
@@ -9,9 +11,20 @@ use borrow.Author.Needs.{needs}
 use Rattle.journal.proofs.observation.lay_set.Statement.{statement}
 use Rattle.journal.proofs.observation.lay_set.Tie as tie
 
+-- the start, from after the count
+abbrev start : tie.After-known-told → tie.Start
+start c = c .before .before .before .before .before .before
+
+-- the bytes, and from where on the ids are laid
+abbrev bytes-of : tie.After-known-told → List ℕ
+bytes-of c = start c .args .bytes .now
+
+abbrev from-of : tie.After-known-told → ℕ
+from-of c = start c .args .from
+
 -- the count
-got-1 : (c : tie.After-known-told) → uint 2 .dec (c .before .before .before .before .before .before .args .bytes .now) ≡ ok (c .before .count-read .given .0 .0) (c .before .count-read .given .0 .1 .0)
-got-1 c = got u16Read (c .before .before .before .read-u16 .ensures) (c .before .count-read .given .1)
+count : (c : tie.After-known-told) → uint 2 .dec (bytes-of c) ≡ ok (c .before .count-read .given .0 .0) (c .before .count-read .given .0 .1 .0)
+count c = got u16Read (c .before .before .before .read-u16 .ensures) (c .before .count-read .given .1)
 
 read-u16-requires : tie.Need-read-u16-requires
 read-u16-requires c κs = search needs
@@ -28,15 +41,14 @@ not-laid-requires c κs = search needs
 returns : tie.Need-returns
 returns c =
     let s = c .before .before .before .before .before .before .args in
-    set-headless (s .bytes .now) (s .from) (s .ids .now) (c .not-laid .ensures) (got u16Read (c .before .before .before .read-u16 .ensures) (c .before .enum-told .given .1))
+    set-headless (s .bytes .now) (s .from) (s .ids .now) (c .not-laid .ensures)
+    (got u16Read (c .before .before .before .read-u16 .ensures) (c .before .enum-told .given .1))
 
 cast-count : tie.Need-cast-count
 cast-count c = search needs
 
 sub-if1 : tie.Need-sub-if1
-sub-if1 c =
-    let s = c .before .before .before .before .before .before .args in
-    head-within (s .bytes .now) (s .from) (got-1 c)
+sub-if1 c = head-within (bytes-of c) (from-of c) (count c)
 
 mul-if1 : tie.Need-mul-if1
 mul-if1 c = search needs
@@ -46,18 +58,14 @@ not-laid-requires-2 c κs = search needs
 
 returns-2 : tie.Need-returns-2
 returns-2 c =
-    let s = c .before .before .before .before .before .before .before .before .args in
-    set-short (s .bytes .now) (s .from) (got-1 (c .before .before)) (s .ids .now) (c .not-laid2 .ensures) (c .before .if1 .taken)
+    let s = c .before .before in
+    set-short (bytes-of s) (from-of s) (count s) (start s .args .ids .now) (c .not-laid2 .ensures) (c .before .if1 .taken)
 
 sub-lay-ids : tie.Need-sub-lay-ids
-sub-lay-ids c =
-    let s = c .before .before .before .before .before .before .before .args in
-    head-within (s .bytes .now) (s .from) (got-1 (c .before))
+sub-lay-ids c = head-within (bytes-of (c .before)) (from-of (c .before)) (count (c .before))
 
 part-lay-ids-start : tie.Need-part-lay-ids-start
-part-lay-ids-start c =
-    let s = c .before .before .before .before .before .before .before .args in
-    head-within (s .bytes .now) (s .from) (got-1 (c .before))
+part-lay-ids-start c = head-within (bytes-of (c .before)) (from-of (c .before)) (count (c .before))
 
 part-lay-ids-end : tie.Need-part-lay-ids-end
 part-lay-ids-end c = search needs
@@ -76,8 +84,9 @@ same-length c = search needs
 
 returns-3 : tie.Need-returns-3
 returns-3 c =
-    let s = c .before .before .before .before .before .before .before .before .before .before .before .before .args in
-    set-there (s .bytes .now) (s .from) (got-1 (c .before .before .before .before .before .before)) (c .before .before .before .before .before .if1 .left) (c .before .before .lay-ids .ensures)
+    let known = c .before .before .before .before .before in
+    let s = known .before in
+    set-there (bytes-of s) (from-of s) (count s) (known .if1 .left) (c .before .before .lay-ids .ensures)
 
 pub lay-set-spec : {M : Type 1} → statement M
 lay-set-spec =

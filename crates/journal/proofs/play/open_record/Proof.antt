@@ -49,22 +49,41 @@ bad-record-requires-5 : tie.Need-bad-record-requires-5
 bad-record-requires-5 c κs = search needs
 
 returns : tie.Need-returns
-returns c = opening-table (c .before .before .before .before .args .body .now) (bytes (c .before .before .before)) (c .before .before .before .before .args .asks) (c .before .enum-told .given .1) (c .decode-voter-slot-table .result .answer) (c .decode-voter-slot-table .result .table) (c .decode-voter-slot-table .ensures)
+returns c =
+    let known = c .before .before .before in
+    let a = known .before .args in
+    let read = c .decode-voter-slot-table in
+    opening-table (a .body .now) (bytes known) (a .asks) (c .before .enum-told .given .1) (read .result .answer) (read .result .table) (read .ensures)
 
 returns-2 : tie.Need-returns-2
-returns-2 c = opening-bad (c .before .before .before .before .args .body .now) (c .before .before .before .before .args .asks) Mk (c .before .enum-told2 .given .1) refl (c .bad-record .result .answer) (c .bad-record .result .table) (c .bad-record .ensures .0) (c .bad-record .ensures .1)
+returns-2 c =
+    let a = c .before .before .before .before .args in
+    let bad = c .bad-record in
+    opening-bad (a .body .now) (a .asks) Mk (c .before .enum-told2 .given .1) refl (bad .result .answer) (bad .result .table) (bad .ensures .0) (bad .ensures .1)
 
 returns-3 : tie.Need-returns-3
-returns-3 c = opening-bad (c .before .before .before .before .args .body .now) (c .before .before .before .before .args .asks) Ad (c .before .enum-told3 .given .1) refl (c .bad-record2 .result .answer) (c .bad-record2 .result .table) (c .bad-record2 .ensures .0) (c .bad-record2 .ensures .1)
+returns-3 c =
+    let a = c .before .before .before .before .args in
+    let bad = c .bad-record2 in
+    opening-bad (a .body .now) (a .asks) Ad (c .before .enum-told3 .given .1) refl (bad .result .answer) (bad .result .table) (bad .ensures .0) (bad .ensures .1)
 
 returns-4 : tie.Need-returns-4
-returns-4 c = opening-bad (c .before .before .before .before .args .body .now) (c .before .before .before .before .args .asks) Bg (c .before .enum-told4 .given .1) refl (c .bad-record3 .result .answer) (c .bad-record3 .result .table) (c .bad-record3 .ensures .0) (c .bad-record3 .ensures .1)
+returns-4 c =
+    let a = c .before .before .before .before .args in
+    let bad = c .bad-record3 in
+    opening-bad (a .body .now) (a .asks) Bg (c .before .enum-told4 .given .1) refl (bad .result .answer) (bad .result .table) (bad .ensures .0) (bad .ensures .1)
 
 returns-5 : tie.Need-returns-5
-returns-5 c = opening-bad (c .before .before .before .before .args .body .now) (c .before .before .before .before .args .asks) Ob (c .before .enum-told5 .given .1) refl (c .bad-record4 .result .answer) (c .bad-record4 .result .table) (c .bad-record4 .ensures .0) (c .bad-record4 .ensures .1)
+returns-5 c =
+    let a = c .before .before .before .before .args in
+    let bad = c .bad-record4 in
+    opening-bad (a .body .now) (a .asks) Ob (c .before .enum-told5 .given .1) refl (bad .result .answer) (bad .result .table) (bad .ensures .0) (bad .ensures .1)
 
 returns-6 : tie.Need-returns-6
-returns-6 c = opening-bad (c .before .before .before .before .args .body .now) (c .before .before .before .before .args .asks) Unknown (c .before .enum-told6 .given .1) refl (c .bad-record5 .result .answer) (c .bad-record5 .result .table) (c .bad-record5 .ensures .0) (c .bad-record5 .ensures .1)
+returns-6 c =
+    let a = c .before .before .before .before .args in
+    let bad = c .bad-record5 in
+    opening-bad (a .body .now) (a .asks) Unknown (c .before .enum-told6 .given .1) refl (bad .result .answer) (bad .result .table) (bad .ensures .0) (bad .ensures .1)
 
 pub open-record-spec : {M : Type 1} → statement M
 open-record-spec = tie.close (tie.spec enum-told decode-voter-slot-table-requires enum-told-2 bad-record-requires enum-told-3 bad-record-requires-2 enum-told-4 bad-record-requires-3 enum-told-5 bad-record-requires-4 enum-told-6 bad-record-requires-5 returns returns-2 returns-3 returns-4 returns-5 returns-6)

@@ -45,23 +45,33 @@ valid c = valid-at (c .before .before .loop .t) (c .before .before .loop .inv .1
 
 -- ---- the record that was found
 
+-- the loop's head, from there; where the bytes are known, and the start, from the loop's head
+abbrev head : tie.After-record-at Inv-loop μ-loop → tie.At-loop Inv-loop μ-loop
+head c = c .before .before .before
+
+abbrev known-input : tie.At-loop Inv-loop μ-loop → tie.After-shared-slice-known Inv-loop μ-loop
+known-input c = c .before .before .before .before .before .before
+
+abbrev start : tie.At-loop Inv-loop μ-loop → tie.Start Inv-loop μ-loop
+start c = known-input c .before
+
 abbrev input-at : tie.After-record-at Inv-loop μ-loop → List ℕ
-input-at c = c .before .before .before .before .before .before .before .before .before .before .args .input .now
+input-at c = start (head c) .args .input .now
 
 abbrev last-at : tie.After-record-at Inv-loop μ-loop → Bool
-last-at c = c .before .before .before .before .before .before .before .before .before .before .args .last
+last-at c = start (head c) .args .last
 
 abbrev body-at : tie.After-record-at Inv-loop μ-loop → List ℕ
 body-at c = bodyIn (input-at c) (c .record-at .result)
 
 abbrev table-at : tie.After-record-at Inv-loop μ-loop → VoterSlotTable
-table-at c = c .before .before .before .loop .t
+table-at c = head c .loop .t
 
-here-at : (c : tie.After-record-at Inv-loop μ-loop) → Here (input-at c) (last-at c) (c .before .before .before .loop .place .read) (c .record-at .result)
+here-at : (c : tie.After-record-at Inv-loop μ-loop) → Here (input-at c) (last-at c) (head c .loop .place .read) (c .record-at .result)
 here-at c =
-    let at = c .before .before .before .loop .place .read in
+    let at = head c .loop .place .read in
     subst (λ (r : Record). Here (input-at c) (last-at c) at r) (sym (c .record-at .ensures))
-    (here (input-at c) (last-at c) at (c .before .before .before .loop .inv .1 .within) (bytes (c .before .before .before .before .before .before .before .before .before)))
+    (here (input-at c) (last-at c) at (head c .loop .inv .1 .within) (bytes (known-input (head c))))
 
 -- ---- what was judged of it, and the table that is made
 
@@ -159,7 +169,9 @@ enum-told-4 : tie.Need-enum-told-4 Inv-loop μ-loop
 enum-told-4 c = search needs
 
 judge-observation-body-requires : tie.Need-judge-observation-body-requires Inv-loop μ-loop
-judge-observation-body-requires c κs = (valid (c .before .before .before .before .before .before), (let h = here-at (c .before .before .before .before .before) in simp (length-take, length-drop) (omega arith)))
+judge-observation-body-requires c κs =
+    let d = c .before .before .before .before .before in
+    (valid (d .before), (let h = here-at d in simp (length-take, length-drop) (omega arith)))
 
 enum-told-5 : tie.Need-enum-told-5 Inv-loop μ-loop
 enum-told-5 c = search needs
@@ -174,55 +186,82 @@ advance-in-requires : tie.Need-advance-in-requires Inv-loop μ-loop
 advance-in-requires c κs = search needs
 
 snapshot-table-requires : tie.Need-snapshot-table-requires Inv-loop μ-loop
-snapshot-table-requires c κs = let r = c .before .before in step-room (table-at (found-at r)) (body-at (found-at r)) (called-at r) (makes-at r) recordsSnapshot refl (sym (r .route-of-called .ensures) ∙ c .before .match2 .keys1) (c .advance-in .result) (c .advance-in .ensures)
+snapshot-table-requires c κs =
+    let r = c .before .before in
+    step-room (table-at (found-at r)) (body-at (found-at r)) (called-at r) (makes-at r) recordsSnapshot refl
+    (sym (r .route-of-called .ensures) ∙ c .before .match2 .keys1) (c .advance-in .result) (c .advance-in .ensures)
 
 advance-in-requires-2 : tie.Need-advance-in-requires-2 Inv-loop μ-loop
 advance-in-requires-2 c κs = search needs
 
 catch-up-table-requires : tie.Need-catch-up-table-requires Inv-loop μ-loop
-catch-up-table-requires c κs = let r = c .before .before in step-room (table-at (found-at r)) (body-at (found-at r)) (called-at r) (makes-at r) recordsCaughtUp refl (sym (r .route-of-called .ensures) ∙ c .before .match2 .keys2) (c .advance-in2 .result) (c .advance-in2 .ensures)
+catch-up-table-requires c κs =
+    let r = c .before .before in
+    step-room (table-at (found-at r)) (body-at (found-at r)) (called-at r) (makes-at r) recordsCaughtUp refl
+    (sym (r .route-of-called .ensures) ∙ c .before .match2 .keys2) (c .advance-in2 .result) (c .advance-in2 .ensures)
 
 advance-in-requires-3 : tie.Need-advance-in-requires-3 Inv-loop μ-loop
 advance-in-requires-3 c κs = search needs
 
 continue-table-requires : tie.Need-continue-table-requires Inv-loop μ-loop
-continue-table-requires c κs = let r = c .before .before in step-room (table-at (found-at r)) (body-at (found-at r)) (called-at r) (makes-at r) continues refl (sym (r .route-of-called .ensures) ∙ c .before .match2 .keys3) (c .advance-in3 .result) (c .advance-in3 .ensures)
+continue-table-requires c κs =
+    let r = c .before .before in
+    step-room (table-at (found-at r)) (body-at (found-at r)) (called-at r) (makes-at r) continues refl
+    (sym (r .route-of-called .ensures) ∙ c .before .match2 .keys3) (c .advance-in3 .result) (c .advance-in3 .ensures)
 
 advance-in-requires-4 : tie.Need-advance-in-requires-4 Inv-loop μ-loop
 advance-in-requires-4 c κs = search needs
 
 fence-table-requires : tie.Need-fence-table-requires Inv-loop μ-loop
-fence-table-requires c κs = let r = c .before .before in step-room (table-at (found-at r)) (body-at (found-at r)) (called-at r) (makes-at r) fences refl (sym (r .route-of-called .ensures) ∙ c .before .match2 .keys4) (c .advance-in4 .result) (c .advance-in4 .ensures)
+fence-table-requires c κs =
+    let r = c .before .before in
+    step-room (table-at (found-at r)) (body-at (found-at r)) (called-at r) (makes-at r) fences refl
+    (sym (r .route-of-called .ensures) ∙ c .before .match2 .keys4) (c .advance-in4 .result) (c .advance-in4 .ensures)
 
 advance-in-requires-5 : tie.Need-advance-in-requires-5 Inv-loop μ-loop
 advance-in-requires-5 c κs = search needs
 
 finalize-table-requires : tie.Need-finalize-table-requires Inv-loop μ-loop
-finalize-table-requires c κs = let r = c .before .before in step-target (table-at (found-at r)) (body-at (found-at r)) (called-at r) (makes-at r) finalizes refl (sym (r .route-of-called .ensures) ∙ c .before .match2 .keys5) (c .advance-in5 .result) (c .advance-in5 .ensures)
+finalize-table-requires c κs =
+    let r = c .before .before in
+    step-target (table-at (found-at r)) (body-at (found-at r)) (called-at r) (makes-at r) finalizes refl
+    (sym (r .route-of-called .ensures) ∙ c .before .match2 .keys5) (c .advance-in5 .result) (c .advance-in5 .ensures)
 
 begin-in-requires : tie.Need-begin-in-requires Inv-loop μ-loop
 begin-in-requires c κs = search needs
 
 begin-table-requires : tie.Need-begin-table-requires Inv-loop μ-loop
-begin-table-requires c κs = let r = c .before .before in begin-target (table-at (found-at r)) (body-at (found-at r)) (called-at r) (makes-at r) (sym (r .route-of-called .ensures) ∙ c .before .match2 .keys6) (c .begin-in .result) (c .begin-in .ensures)
+begin-table-requires c κs =
+    let r = c .before .before in
+    begin-target (table-at (found-at r)) (body-at (found-at r)) (called-at r) (makes-at r)
+    (sym (r .route-of-called .ensures) ∙ c .before .match2 .keys6) (c .begin-in .result) (c .begin-in .ensures)
 
 cut-in-requires : tie.Need-cut-in-requires Inv-loop μ-loop
 cut-in-requires c κs = search needs
 
 learner-table-requires : tie.Need-learner-table-requires Inv-loop μ-loop
-learner-table-requires c κs = let r = c .before .before in addition-room (table-at (found-at r)) (body-at (found-at r)) (called-at r) (makes-at r) addsLearner (sym (r .route-of-called .ensures) ∙ c .before .match2 .keys7)
+learner-table-requires c κs =
+    let r = c .before .before in
+    addition-room (table-at (found-at r)) (body-at (found-at r)) (called-at r) (makes-at r) addsLearner
+    (sym (r .route-of-called .ensures) ∙ c .before .match2 .keys7)
 
 cut-in-requires-2 : tie.Need-cut-in-requires-2 Inv-loop μ-loop
 cut-in-requires-2 c κs = search needs
 
 joint-table-requires : tie.Need-joint-table-requires Inv-loop μ-loop
-joint-table-requires c κs = let r = c .before .before in addition-room (table-at (found-at r)) (body-at (found-at r)) (called-at r) (makes-at r) addsJoint (sym (r .route-of-called .ensures) ∙ c .before .match2 .keys8)
+joint-table-requires c κs =
+    let r = c .before .before in
+    addition-room (table-at (found-at r)) (body-at (found-at r)) (called-at r) (makes-at r) addsJoint
+    (sym (r .route-of-called .ensures) ∙ c .before .match2 .keys8)
 
 cut-in-requires-3 : tie.Need-cut-in-requires-3 Inv-loop μ-loop
 cut-in-requires-3 c κs = search needs
 
 uniform-table-requires : tie.Need-uniform-table-requires Inv-loop μ-loop
-uniform-table-requires c κs = let r = c .before .before in addition-room (table-at (found-at r)) (body-at (found-at r)) (called-at r) (makes-at r) addsUniform (sym (r .route-of-called .ensures) ∙ c .before .match2 .keys9)
+uniform-table-requires c κs =
+    let r = c .before .before in
+    addition-room (table-at (found-at r)) (body-at (found-at r)) (called-at r) (makes-at r) addsUniform
+    (sym (r .route-of-called .ensures) ∙ c .before .match2 .keys9)
 
 answer-of-called-requires : tie.Need-answer-of-called-requires Inv-loop μ-loop
 answer-of-called-requires c κs = search needs
@@ -230,7 +269,7 @@ answer-of-called-requires c κs = search needs
 put-turn-requires : tie.Need-put-turn-requires Inv-loop μ-loop
 put-turn-requires c κs =
     let d = found-at (c .before .before .before) in
-    let l = d .before .before .before .loop in
+    let l = head d .loop in
     (some (d .before), (l .inv .1 .lines-fit, l .inv .1 .counts-fit))
 
 loop-less : tie.Need-loop-less Inv-loop μ-loop
@@ -240,18 +279,21 @@ loop-again : tie.Need-loop-again Inv-loop μ-loop
 loop-again c =
     let m = c .before .before .before .before .before in
     let d = found-at (m .before) in
-    let l = d .before .before .before .loop in
+    let l = head d .loop in
     let o = openedAt (l .place) true (l .t) in
     let r = d .record-at .result in
     let h = here-at d in
     let table = m .match2 .t in
     let answer = c .before .before .before .before .answer-of-called in
-    let p = play-turn (l .t) (valid (d .before)) (r .asks) (body-at d) (called-at (m .before)) (judged (m .before .before)) (answer .result) (answer .ensures) table (made-as m) in
+    let p = play-turn (l .t) (valid (d .before)) (r .asks) (body-at d) (called-at (m .before)) (judged (m .before .before))
+    (answer .result) (answer .ensures) table (made-as m) in
     let keeps : true ≡ false → (true ≡ false) × (table ≡ l .t) = λ k. absurd (false≢true (sym k)) in
     let q = c .before .before .put-turn .result in (
       goes-then (l .inv .0)
-          (goes-turn (input-at d) (last-at d) o (l .out) (l .inv .1) (some (d .before)) r h (answer .result) true table (p .0) keeps (table .revision) (p .1 .1) q _ (c .before .before .put-turn .ensures)),
-      safe-turn (input-at d) (last-at d) o (l .out) (l .inv .1) (some (d .before)) r h (answer .result) true table (p .0) keeps (table .revision) (p .1 .1) q _ (c .before .before .put-turn .ensures) (p .1 .0),
+          (goes-turn (input-at d) (last-at d) o (l .out) (l .inv .1) (some (d .before)) r h (answer .result) true table (p .0) keeps
+          (table .revision) (p .1 .1) q _ (c .before .before .put-turn .ensures)),
+      safe-turn (input-at d) (last-at d) o (l .out) (l .inv .1) (some (d .before)) r h (answer .result) true table (p .0) keeps
+          (table .revision) (p .1 .1) q _ (c .before .before .put-turn .ensures) (p .1 .0),
     )
 
 with-table-requires : tie.Need-with-table-requires Inv-loop μ-loop
@@ -262,7 +304,7 @@ same-length c = c .before .before .before .loop .inv .0 .long
 
 returns : tie.Need-returns Inv-loop μ-loop
 returns c =
-    let s = c .before .before .before .before .before .before .before .before .before .before in
+    let s = start (c .before .before .before) in
     let a = s .args in
     let l = c .before .before .before .loop in
     let e = c .with-table .ensures in

@@ -2,7 +2,7 @@
 use Prim.Native.Nat.{ℕ}
 use native.Mathlib.Omega.{arith}
 use mathlib.Core.Path.{_≡_, ap, _∙_}
-use mathlib.Core.Bool.{true}
+use mathlib.Core.Bool.{Bool, true}
 use mathlib.Core.List.{List}
 use lib.ListN.{drop}
 use Rattle.format.specs.Combinators.{rest}
@@ -18,22 +18,46 @@ use borrow.Author.Needs.{needs}
 use Rattle.journal.proofs.record.record_at.Statement.{statement}
 use Rattle.journal.proofs.record.record_at.Tie as tie
 
--- the bytes from the place on
-abbrev bytes : tie.Start → List ℕ
-bytes c = part (c .args .input .now) (c .args .at) (c .args .last)
+-- the start and the test of the mark, from after the mark; where the mark was read and the size, from after the size
+abbrev start : tie.After-mark-of → tie.Start
+start c = c .before .before .before .before .before .before
+
+abbrev found-mark : tie.Else2 → tie.After-mark-of
+found-mark c = c .before .before
+
+abbrev known-mark : tie.After-read-u16 → tie.Else2
+known-mark c = c .before .before
+
+abbrev called-size : tie.After-size-read → tie.After-read-u16
+called-size c = c .before .before
+
+-- the arguments, and the bytes from the place on, from where the mark was read
+abbrev input-of : tie.After-mark-of → List ℕ
+input-of c = start c .args .input .now
+
+abbrev at-of : tie.After-mark-of → ℕ
+at-of c = start c .args .at
+
+abbrev last-of : tie.After-mark-of → Bool
+last-of c = start c .args .last
+
+abbrev bytes : tie.After-mark-of → List ℕ
+bytes c = part (input-of c) (at-of c) (last-of c)
 
 -- the mark that was read, and that it is known
-marked : (c : tie.After-mark-of) → c .mark-of .result ≡ headMark (bytes (c .before .before .before .before .before .before))
-marked c = c .mark-of .ensures ∙ mark-at (bytes (c .before .before .before .before .before .before)) (omega arith)
+marked : (c : tie.After-mark-of) → c .mark-of .result ≡ headMark (bytes c)
+marked c = c .mark-of .ensures ∙ mark-at (bytes c) (omega arith)
 
-known : (c : tie.Else2) → isKnownMark (c .before .before .mark-of .result) ≡ true
+known : (c : tie.Else2) → isKnownMark (found-mark c .mark-of .result) ≡ true
 known c = held (c .before .is-known .ensures) (c .if2 .left)
 
--- the size that was read
-sized : (c : tie.After-size-read) → uint 2 .dec (drop 2 (bytes (c .before .before .before .before .before .before .before .before .before .before .before .before))) ≡ ok (c .size-read .given .0 .0) (c .size-read .given .0 .1 .0)
-sized c =
-    let size = c .before .before .read-u16 .ensures ∙ ap (uint 2 .dec) (rest (bytes (c .before .before .before .before .before .before .before .before .before .before .before .before)) 2) in
-    got u16Read size (c .size-read .given .1)
+-- what the call for the size returned, and the size that was read
+size-read : (c : tie.After-read-u16) → u16Read (c .read-u16 .result) ≡ uint 2 .dec (drop 2 (bytes (found-mark (known-mark c))))
+size-read c = c .read-u16 .ensures ∙ ap (uint 2 .dec) (rest (bytes (found-mark (known-mark c))) 2)
+
+sized : (c : tie.After-size-read)
+    → uint 2 .dec (drop 2 (bytes (found-mark (known-mark (called-size c))))) ≡ ok (c .size-read .given .0 .0) (c .size-read .given .0 .1 .0)
+sized c = got u16Read (size-read (called-size c)) (c .size-read .given .1)
 
 sub-bytes : tie.Need-sub-bytes
 sub-bytes c = search needs
@@ -69,9 +93,9 @@ cut-short-requires-2 c κs = search needs
 
 returns-2 : tie.Need-returns-2
 returns-2 c =
-    let s = c .before .before .before .before .before .before .before .before .before .args in
+    let m = c .before .before .before in
     c .cut-short2 .ensures
-    ∙ record-unknown (s .input .now) (s .at) (s .last) (omega arith) (marked (c .before .before .before)) (failed (c .before .before .is-known .ensures) (c .before .if2 .taken))
+    ∙ record-unknown (input-of m) (at-of m) (last-of m) (omega arith) (marked m) (failed (c .before .before .is-known .ensures) (c .before .if2 .taken))
 
 sub-read-u16 : tie.Need-sub-read-u16
 sub-read-u16 c = search needs
@@ -96,26 +120,29 @@ cut-short-requires-3 c κs = search needs
 
 returns-3 : tie.Need-returns-3
 returns-3 c =
-    let s = c .before .before .before .before .before .before .before .before .before .before .before .before .before .args in
-    let size = c .before .before .before .read-u16 .ensures ∙ ap (uint 2 .dec) (rest (bytes (c .before .before .before .before .before .before .before .before .before .before .before .before .before)) 2) in
+    let s = c .before .before .before in
+    let k = known-mark s in
+    let m = found-mark k in
     c .cut-short3 .ensures
-    ∙ record-sizeless (s .input .now) (s .at) (s .last) (omega arith) (marked (c .before .before .before .before .before .before .before)) (known (c .before .before .before .before .before)) (got u16Read size (c .before .enum-told .given .1))
+    ∙ record-sizeless (input-of m) (at-of m) (last-of m) (omega arith) (marked m) (known k) (got u16Read (size-read s) (c .before .enum-told .given .1))
 
 cast-size : tie.Need-cast-size
 cast-size c = search needs
 
 sub-if3 : tie.Need-sub-if3
 sub-if3 c =
-    let s = c .before .before .before .before .before .before .before .before .before .before .before .before .before .args in
-    size-there (s .input .now) (s .at) (s .last) (sized (c .before))
+    let m = found-mark (known-mark (called-size (c .before))) in
+    size-there (input-of m) (at-of m) (last-of m) (sized (c .before))
 
 cut-short-requires-4 : tie.Need-cut-short-requires-4
 cut-short-requires-4 c κs = search needs
 
 returns-4 : tie.Need-returns-4
 returns-4 c =
-    let s = c .before .before .before .before .before .before .before .before .before .before .before .before .before .before .before .args in
-    c .cut-short4 .ensures ∙ record-cut (s .input .now) (s .at) (s .last) (marked (c .before .before .before .before .before .before .before .before .before)) (known (c .before .before .before .before .before .before .before)) (sized (c .before .before .before)) (c .before .if3 .taken)
+    let s = c .before .before .before in
+    let k = known-mark (called-size s) in
+    let m = found-mark k in
+    c .cut-short4 .ensures ∙ record-cut (input-of m) (at-of m) (last-of m) (marked m) (known k) (sized s) (c .before .if3 .taken)
 
 add-t11 : tie.Need-add-t11
 add-t11 c = search needs
@@ -128,8 +155,10 @@ add-t30 c = search needs
 
 returns-5 : tie.Need-returns-5
 returns-5 c =
-    let s = c .before .before .before .before .before .before .before .before .before .before .before .before .before .before .args in
-    record-whole (s .input .now) (s .at) (s .last) (marked (c .before .before .before .before .before .before .before .before)) (known (c .before .before .before .before .before .before)) (sized (c .before .before)) (c .if3 .left)
+    let s = c .before .before in
+    let k = known-mark (called-size s) in
+    let m = found-mark k in
+    record-whole (input-of m) (at-of m) (last-of m) (marked m) (known k) (sized s) (c .if3 .left)
 
 pub record-at-spec : {M : Type 1} → statement M
 record-at-spec =

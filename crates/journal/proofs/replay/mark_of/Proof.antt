@@ -14,13 +14,30 @@ returns-3 : tie.Need-returns-3
 returns-3 c = sym (mark-two (c .before .before .before .args .first) (c .before .before .before .args .second) ∙ rw (c .before .before .if1 .left, c .before .if2 .left, c .if3 .taken))
 
 returns-4 : tie.Need-returns-4
-returns-4 c = sym (mark-two (c .before .before .before .before .args .first) (c .before .before .before .before .args .second) ∙ rw (c .before .before .before .if1 .left, c .before .before .if2 .left, c .before .if3 .left, c .if4 .taken))
+returns-4 c =
+    let third = c .before in
+    let second = third .before in
+    let first = second .before in
+    let a = first .before .args in
+    sym (mark-two (a .first) (a .second) ∙ rw (first .if1 .left, second .if2 .left, third .if3 .left, c .if4 .taken))
 
 returns-5 : tie.Need-returns-5
-returns-5 c = sym (mark-two (c .before .before .before .before .before .args .first) (c .before .before .before .before .before .args .second) ∙ rw (c .before .before .before .before .if1 .left, c .before .before .before .if2 .left, c .before .before .if3 .left, c .before .if4 .left, c .if5 .taken))
+returns-5 c =
+    let fourth = c .before in
+    let third = fourth .before in
+    let second = third .before in
+    let first = second .before in
+    let a = first .before .args in
+    sym (mark-two (a .first) (a .second) ∙ rw (first .if1 .left, second .if2 .left, third .if3 .left, fourth .if4 .left, c .if5 .taken))
 
 returns-6 : tie.Need-returns-6
-returns-6 c = sym (mark-two (c .before .before .before .before .before .args .first) (c .before .before .before .before .before .args .second) ∙ rw (c .before .before .before .before .if1 .left, c .before .before .before .if2 .left, c .before .before .if3 .left, c .before .if4 .left, c .if5 .left))
+returns-6 c =
+    let fourth = c .before in
+    let third = fourth .before in
+    let second = third .before in
+    let first = second .before in
+    let a = first .before .args in
+    sym (mark-two (a .first) (a .second) ∙ rw (first .if1 .left, second .if2 .left, third .if3 .left, fourth .if4 .left, c .if5 .left))
 
 pub mark-of-spec : {M : Type 1} → statement M
 mark-of-spec = tie.close (tie.spec returns returns-2 returns-3 returns-4 returns-5 returns-6)

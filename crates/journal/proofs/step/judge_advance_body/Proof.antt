@@ -27,13 +27,17 @@ refuse-if-requires c κs = search needs
 
 returns : tie.Need-returns
 returns c =
-    let s = c .before .before .before .before .before .before .before .before .before .before in
-    let r = c .before .before .before .before .before .before .before .before .read-advance in
+    let checked = c .before .before in
+    let judged = checked .before .before in
+    let called = judged .before .before .before .before in
+    let s = called .before .before in
+    let r = called .read-advance in
     let a = r .result .value in
     ap numbered
     (c .refuse-if .ensures
     ∙ ap (λ (w : Verdict Move). cond (not (r .result .formed)) (refused BadRecord) w)
-    (c .before .before .check-call .ensures ∙ ap₂ (λ (f : Bool) (w : Verdict Move). checkedCall f (a .cut) w) (c .before .before .before .is-representable-step .ensures) (c .before .before .before .before .judge-advance .ensures)))
+    (checked .check-call .ensures
+    ∙ ap₂ (λ (f : Bool) (w : Verdict Move). checkedCall f (a .cut) w) (checked .before .is-representable-step .ensures) (judged .judge-advance .ensures)))
     ∙ advance-verdict (s .args .table) (s .pre) (r .result) (s .args .body .now) (r .ensures)
 
 pub judge-advance-body-spec : {M : Type 1} → statement M

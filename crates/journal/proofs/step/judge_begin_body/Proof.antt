@@ -47,11 +47,14 @@ returns-2 c =
 
 returns-3 : tie.Need-returns-3
 returns-3 c =
-    let s = c .before .before .before .before .before .before .before .before .before .before in
-    let r = c .before .before .before .before .before .before .before .before .read-begin in
+    let asked = c .before .before .before .before .before in
+    let called = asked .before .before .before in
+    let s = called .before .before in
+    let r = called .read-begin in
     ap numbered
-    (c .check-call .ensures ∙ ap₂ (λ (f : Bool) (w : Verdict Move). checkedCall f (r .result .value .cut) w) (c .before .is-representable-request .ensures) (c .before .before .judge-begin .ensures))
-    ∙ ap (λ (x : Asks). numbered (beginVerdict (s .args .table) x (r .result .value))) (sym (c .before .before .before .before .before .enum-told2 .given .1))
+    (c .check-call .ensures
+    ∙ ap₂ (λ (f : Bool) (w : Verdict Move). checkedCall f (r .result .value .cut) w) (c .before .is-representable-request .ensures) (c .before .before .judge-begin .ensures))
+    ∙ ap (λ (x : Asks). numbered (beginVerdict (s .args .table) x (r .result .value))) (sym (asked .enum-told2 .given .1))
     ∙ begin-verdict (s .args .table) (s .pre) (r .result) (s .args .body .now) (r .ensures)
 
 pub judge-begin-body-spec : {M : Type 1} → statement M

@@ -24,13 +24,15 @@ refuse-if-requires c κs = search needs
 
 returns : tie.Need-returns
 returns c =
-    let s = c .before .before .before .before .before .before .before .before .before in
-    let r = c .before .before .before .before .before .before .before .read-marker in
+    let judged = c .before .before .before in
+    let called = judged .before .before .before .before in
+    let s = called .before .before in
+    let r = called .read-marker in
     let a = r .result .value in
     ap numbered
     (c .refuse-if .ensures
     ∙ ap (λ (w : Verdict Move). cond (not (r .result .formed)) (refused BadRecord) w)
-    (c .before .before .check-call .ensures ∙ ap (λ (w : Verdict Move). checkedCall true (a .cut) w) (c .before .before .before .judge-marker .ensures)))
+    (c .before .before .check-call .ensures ∙ ap (λ (w : Verdict Move). checkedCall true (a .cut) w) (judged .judge-marker .ensures)))
     ∙ marker-verdict (s .args .table) (s .pre) (r .result) (s .args .body .now) (r .ensures)
 
 pub judge-marker-body-spec : {M : Type 1} → statement M
