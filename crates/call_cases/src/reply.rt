@@ -24,6 +24,15 @@ use raw_calls::record::*;
 use records::records::VoterSlotLogId;
 use records::records::VoterSlotTable;
 
+// Bytes of a record before its body: the mark and the size.
+const HEAD: usize = 2 + 2;
+
+// Room for the ids of any record: one of 65,535 bytes has fewer.
+const MOST_IDS: usize = 8192;
+
+// Room for the counts of its sets: their number has 8 bits.
+const MOST_SETS: usize = 256;
+
 pub fn reply_to(question: Question, body: &[u8]) -> Reply {
     match question {
         Question::Retired => retired(body),
@@ -52,7 +61,7 @@ fn retired(body: &[u8]) -> Reply {
 
 // The body is a record and one raw table.
 fn called(body: &[u8], is_observation: bool) -> Reply {
-    let end = 4 + be16(body, 2) as usize;
+    let end = HEAD + be16(body, 2) as usize;
     let mut raw = [0u8; TABLE_SIZE];
     let place = lay_pieces(&mut raw, body, end);
     if !(place.whole & (place.at == body.len())) {
@@ -89,15 +98,15 @@ fn when(is: bool, record: Record) -> Record {
     if is { record } else { Record::Unknown }
 }
 
-// A record's body lies between its mark with its size, 4 bytes, and end.
+// A record's body lies between its head and end.
 fn play_part(record: Record, body: &[u8], end: usize, table: VoterSlotTable) -> Reply {
     if body.len() < end {
         return Reply::Malformed;
     }
-    if end < 4 {
+    if end < HEAD {
         return Reply::Malformed;
     }
-    play(record, &body[4..end], table)
+    play(record, &body[HEAD..end], table)
 }
 
 fn play(record: Record, body: &[u8], table: VoterSlotTable) -> Reply {
@@ -155,11 +164,10 @@ fn apply(table: VoterSlotTable, command: VoterSlotControl, cut: VoterSlotLogId) 
     given_back(answer, after)
 }
 
-// A record of 65,535 bytes has fewer than 8,192 ids.
 fn observe(body: &[u8], table: VoterSlotTable) -> Reply {
-    let mut sets = [0u64; 8192];
-    let mut counts = [0usize; 256];
-    let mut nodes = [0u64; 8192];
+    let mut sets = [0u64; MOST_IDS];
+    let mut counts = [0usize; MOST_SETS];
+    let mut nodes = [0u64; MOST_IDS];
     let laid = lay_sets(&mut sets, &mut counts, body);
     if !laid.whole {
         return Reply::Malformed;
