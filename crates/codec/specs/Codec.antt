@@ -8,6 +8,7 @@ use mathlib.Core.List.{List, _++_}
 use lib.ListN.{length, take, drop}
 use lib.Dec.{leb}
 use Rattle.identity.specs.Answer.{numberOf}
+use Rattle.identity.specs.declared.answer.Answer.the-variants.{BufferTooShort}
 use Rattle.format.specs.Res.{Res, andThen, tooLarge}
 use Rattle.format.specs.Res.Res.{ok, no}
 use Rattle.format.specs.Combinators.{gate}
@@ -48,7 +49,7 @@ tableBytes t = table .enc t
 unfoldable pub encodeVoterSlotTable : VoterSlotTable → List ℕ → Res (List ℕ)
 encodeVoterSlotTable t buffer =
     andThen (gate (numberOf (validate t)) (tableBytes t) (length (tableBytes t)))
-    (λ bs n. pick (leb n (length buffer)) (ok (bs ++ drop n buffer) n) (no 32))
+    (λ bs n. pick (leb n (length buffer)) (ok (bs ++ drop n buffer) n) (no (numberOf BufferTooShort)))
 
 -- document 01's number of a reading, and the value, or the blank with a refusal
 unfoldable pub decoded : {A : Type 0} → A → Res A → ℕ × A

@@ -26,21 +26,21 @@ use Rattle.records.specs.declared.records.VoterReplacementRecord.{VoterReplacem
 use Rattle.records.specs.declared.records.VoterSlotTable.{VoterSlotTable}
 
 -- The member of a slot in an incarnation; its digests are told by the slot.
-abbrev pub memberOf : ℕ → ℕ → VoterSlotMember
-memberOf own slot =
+abbrev pub memberOfSlot : ℕ → ℕ → VoterSlotMember
+memberOfSlot own slot =
     record { identity = identityOf slot own; «key_digest» = replicate 32 slot; «descriptor_digest» = replicate 32 slot; «admission_generation» = own }
 
 -- a cut of term 1
-abbrev pub cut : ℕ → VoterSlotLogId
-cut index = record { term = 1; index = index }
+abbrev pub cutOfTermOne : ℕ → VoterSlotLogId
+cutOfTermOne index = record { term = 1; index = index }
 
 -- ---- the smallest
 
 -- its only slot, in the first incarnation
-abbrev pub idleSlot : VoterSlotRecord
-idleSlot =
+abbrev pub onlySlot : VoterSlotRecord
+onlySlot =
     record {
-      member = memberOf 1 1;
+      member = memberOfSlot 1 1;
       «retired_through» = 0;
       phase = voting;
       «has_last_result» = false;
@@ -55,7 +55,7 @@ smallest =
       «manifest_digest» = replicate 32 0;
       revision = 1;
       «configuration_epoch» = 1;
-      slots = idleSlot ∷ replicate 8 blankVoterSlotRecord;
+      slots = onlySlot ∷ replicate 8 blankVoterSlotRecord;
       count = 1;
       «has_replacement» = false;
       replacement = blankVoterReplacementRecord;
@@ -78,17 +78,17 @@ receiptIn slot =
       revision = 1;
       «configuration_epoch» = 1;
       kind = completed;
-      terminal = cut 1;
+      terminal = cutOfTermOne 1;
     }
 
 -- a slot in that incarnation, with its receipt
-abbrev pub slotOf : ℕ → ℕ → VoterSlotRecord
-slotOf own slot =
-    record { member = memberOf own slot; «retired_through» = own - 1; phase = voting; «has_last_result» = true; «last_result» = receiptIn slot }
+abbrev pub slotWithReceipt : ℕ → ℕ → VoterSlotRecord
+slotWithReceipt own slot =
+    record { member = memberOfSlot own slot; «retired_through» = own - 1; phase = voting; «has_last_result» = true; «last_result» = receiptIn slot }
 
 -- nine members: slot 1 in that incarnation, the others in their second
-abbrev pub configurationOf : ℕ → ℕ → VoterConfiguration
-configurationOf epoch own = record { epoch = epoch; members = memberOf own 1 ∷ others (memberOf 2); count = 9 }
+abbrev pub nineMembers : ℕ → ℕ → VoterConfiguration
+nineMembers epoch own = record { epoch = epoch; members = memberOfSlot own 1 ∷ others (memberOfSlot 2); count = 9 }
 
 -- a name of 2,048 bytes, a snapshot id of 256: `a` fills them up
 abbrev pub longName : SpiffeId
@@ -123,15 +123,15 @@ longAttestation =
 
 -- the evidence has every cut, and the snapshot
 abbrev pub longSnapshot : VoterSnapshotEvidence
-longSnapshot = record { cut = cut 2; «snapshot_id» = longSnapshotId; digest = replicate 32 0 }
+longSnapshot = record { cut = cutOfTermOne 2; «snapshot_id» = longSnapshotId; digest = replicate 32 0 }
 
 abbrev pub presentIndex : ℕ → OptionalLogId
-presentIndex index = record { «is_some» = true; cut = cut index }
+presentIndex index = record { «is_some» = true; cut = cutOfTermOne index }
 
 abbrev pub longEvidence : VoterReplacementEvidence
 longEvidence =
     record {
-      prepare = cut 1;
+      prepare = cutOfTermOne 1;
       «has_snapshot» = true;
       snapshot = longSnapshot;
       learner = presentIndex 3;
@@ -148,8 +148,8 @@ longReplacement =
     record {
       «expected_revision» = 1;
       attestation = longAttestation;
-      predecessor = configurationOf 1 2;
-      successor = configurationOf 2 3;
+      predecessor = nineMembers 1 2;
+      successor = nineMembers 2 3;
       phase = uniform;
       evidence = longEvidence;
     }
@@ -162,7 +162,7 @@ largest =
       «manifest_digest» = replicate 32 0;
       revision = 2;
       «configuration_epoch» = 2;
-      slots = slotOf 3 1 ∷ others (slotOf 2);
+      slots = slotWithReceipt 3 1 ∷ others (slotWithReceipt 2);
       count = 9;
       «has_replacement» = true;
       replacement = longReplacement;

@@ -24,7 +24,7 @@ use Rattle.codec.specs.Codec.{tableBytes}
 use Rattle.writer.specs.Size.{slotsSize, evidenceSize, replacementSize, tableSize}
 use Rattle.codec.specs.FitsLaws.{table-fits}
 use Rattle.writer.specs.SizeLaws.{table-long}
-use Rattle.ends.specs.Ends.{memberOf, cut, smallest, others, receiptIn, slotOf, configurationOf, longName, longAttestation, presentIndex, longEvidence, largest}
+use Rattle.ends.specs.Ends.{memberOfSlot, smallest, others, receiptIn, slotWithReceipt, nineMembers, longName, longAttestation, presentIndex, longEvidence, largest}
 use Rattle.records.specs.declared.records.VoterSlotTable.{VoterSlotTable}
 
 pub smallest-valid : validate smallest ≡ Accepted
@@ -42,7 +42,7 @@ held-bytes : (n b : ℕ) → b < 256 → HeldBytes n (replicate n b)
 held-bytes n b h = held-replicate Byte n b h
 
 module _ (own slot : ℕ) (o : own < 10) (s : slot < 10) where
-  member-held : HeldVoterSlotMember (memberOf own slot)
+  member-held : HeldVoterSlotMember (memberOfSlot own slot)
   member-held =
       record {
         identity = record { slot = omega arith; incarnation = omega arith };
@@ -63,7 +63,7 @@ module _ (own slot : ℕ) (o : own < 10) (s : slot < 10) where
         terminal = record { term = lit< tt; index = lit< tt };
       }
 
-  slot-held : HeldVoterSlotRecord (slotOf own slot)
+  slot-held : HeldVoterSlotRecord (slotWithReceipt own slot)
   slot-held = record { member = member-held; «retired_through» = omega arith; phase = lit< tt; «last_result» = receipt-held }
 
 -- of slot 1 and of the others
@@ -75,8 +75,8 @@ nine-held P f own o h =
       each = (h own 1 o (lit< tt), (k 2 (lit< tt), (k 3 (lit< tt), (k 4 (lit< tt), (k 5 (lit< tt), (k 6 (lit< tt), (k 7 (lit< tt), (k 8 (lit< tt), (k 9 (lit< tt), tt)))))))));
     }
 
-configuration-held : (epoch own : ℕ) → epoch < 10 → own < 10 → HeldVoterConfiguration (configurationOf epoch own)
-configuration-held epoch own e o = record { epoch = omega arith; members = nine-held HeldVoterSlotMember memberOf own o member-held; count = lit< tt }
+configuration-held : (epoch own : ℕ) → epoch < 10 → own < 10 → HeldVoterConfiguration (nineMembers epoch own)
+configuration-held epoch own e o = record { epoch = omega arith; members = nine-held HeldVoterSlotMember memberOfSlot own o member-held; count = lit< tt }
 
 scheme-held : AllOf Byte scheme
 scheme-held = (lit< tt, (lit< tt, (lit< tt, (lit< tt, (lit< tt, (lit< tt, (lit< tt, (lit< tt, (lit< tt, tt)))))))))
@@ -154,7 +154,7 @@ largest-held =
       «manifest_digest» = zeros-held 32;
       revision = lit< tt;
       «configuration_epoch» = lit< tt;
-      slots = nine-held HeldVoterSlotRecord slotOf 3 (lit< tt) slot-held;
+      slots = nine-held HeldVoterSlotRecord slotWithReceipt 3 (lit< tt) slot-held;
       count = lit< tt;
       replacement =
           record {

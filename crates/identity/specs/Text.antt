@@ -65,7 +65,10 @@ startsWith s [] = true
 startsWith [] (p ∷ ps) = false
 startsWith (b ∷ s) (p ∷ ps) = eqb b p && startsWith s ps
 
--- `MAX_VOTER_SPIFFE_ID_BYTES`
+-- the shortest and the longest name, in bytes; the second is `MAX_VOTER_SPIFFE_ID_BYTES`
+abbrev pub minSpiffeIdBytes : ℕ
+minSpiffeIdBytes = 10
+
 abbrev pub maxSpiffeIdBytes : ℕ
 maxSpiffeIdBytes = 2048
 
@@ -77,7 +80,7 @@ maxSnapshotIdBytes = 256
 -- control character .. and none of Unicode's 25 White_Space code points"
 unfoldable pub isName : List ℕ → Bool
 isName s =
-    (leb 10 (length s) && leb (length s) maxSpiffeIdBytes)
+    (leb minSpiffeIdBytes (length s) && leb (length s) maxSpiffeIdBytes)
     and startsWith s scheme
     and allChars (allows NoControlNoWhitespace) s
 

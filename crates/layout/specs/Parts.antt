@@ -103,12 +103,12 @@ blankTableFront = (((tt, blankTableHead), 0), blankVoterSlotRecords)
 
 -- a member
 abbrev pub memberOf : VoterSlotIdentity → Binding → VoterSlotMember
-memberOf i b =
+memberOf identity binding =
     record {
-      identity = i;
-      «key_digest» = b .«key_digest»;
-      «descriptor_digest» = b .«descriptor_digest»;
-      «admission_generation» = b .«admission_generation»;
+      identity = identity;
+      «key_digest» = binding .«key_digest»;
+      «descriptor_digest» = binding .«descriptor_digest»;
+      «admission_generation» = binding .«admission_generation»;
     }
 
 abbrev pub bindingOf : VoterSlotMember → Binding
@@ -121,15 +121,15 @@ bindingOf m =
 
 -- a receipt
 abbrev pub resultOf : ResultHead → ℕ → ℕ → VoterSlotLogId → VoterReplacementResult
-resultOf h e k t =
+resultOf head epoch kind terminal =
     record {
-      «request_id» = h .«request_id»;
-      «request_digest» = h .«request_digest»;
-      incarnation = h .incarnation;
-      revision = h .revision;
-      «configuration_epoch» = e;
-      kind = k;
-      terminal = t;
+      «request_id» = head .«request_id»;
+      «request_digest» = head .«request_digest»;
+      incarnation = head .incarnation;
+      revision = head .revision;
+      «configuration_epoch» = epoch;
+      kind = kind;
+      terminal = terminal;
     }
 
 abbrev pub resultHeadOf : VoterReplacementResult → ResultHead
@@ -141,26 +141,26 @@ slotMemberOf s = record { member = s .member; «retired_through» = s .«retired
 
 -- an attestation
 abbrev pub attestationOf : ClaimsRequest → ClaimsSlot → ClaimsNames → ClaimsEnd → LostVoterAttestationV1
-attestationOf r s n e =
+attestationOf request slot names ending =
     record {
-      «request_id» = r .«request_id»;
-      «request_digest» = r .«request_digest»;
-      «cluster_instance» = s .«cluster_instance»;
-      slot = s .identity .slot;
-      «expected_incarnation» = s .identity .incarnation;
-      «old_descriptor_digest» = s .«old_descriptor_digest»;
-      «candidate_key_digest» = s .«candidate_key_digest»;
-      «admission_generation» = n .«admission_generation»;
-      «candidate_spiffe_id» = n .«candidate_spiffe_id»;
-      «controller_spiffe_id» = n .«controller_spiffe_id»;
-      «signing_key_digest» = n .«signing_key_digest»;
-      reason = e .reason;
-      «policy_digest» = e .«policy_digest»;
-      «observation_start_ms» = e .times .«observation_start_ms»;
-      «decision_ms» = e .times .«decision_ms»;
-      «issued_ms» = e .times .«issued_ms»;
-      «expires_ms» = e .times .«expires_ms»;
-      signature = e .signature;
+      «request_id» = request .«request_id»;
+      «request_digest» = request .«request_digest»;
+      «cluster_instance» = slot .«cluster_instance»;
+      slot = slot .identity .slot;
+      «expected_incarnation» = slot .identity .incarnation;
+      «old_descriptor_digest» = slot .«old_descriptor_digest»;
+      «candidate_key_digest» = slot .«candidate_key_digest»;
+      «admission_generation» = names .«admission_generation»;
+      «candidate_spiffe_id» = names .«candidate_spiffe_id»;
+      «controller_spiffe_id» = names .«controller_spiffe_id»;
+      «signing_key_digest» = names .«signing_key_digest»;
+      reason = ending .reason;
+      «policy_digest» = ending .«policy_digest»;
+      «observation_start_ms» = ending .times .«observation_start_ms»;
+      «decision_ms» = ending .times .«decision_ms»;
+      «issued_ms» = ending .times .«issued_ms»;
+      «expires_ms» = ending .times .«expires_ms»;
+      signature = ending .signature;
     }
 
 abbrev pub claimsRequestOf : LostVoterAttestationV1 → ClaimsRequest
@@ -199,17 +199,17 @@ claimsEndOf a = record { reason = a .reason; «policy_digest» = a .«policy_dig
 
 -- the evidence
 abbrev pub evidenceOf : VoterSlotLogId → Bool → VoterSnapshotEvidence → ThreeCuts → ThreeCuts → VoterReplacementEvidence
-evidenceOf p b s c d =
+evidenceOf prepare hasSnapshot snapshot early late =
     record {
-      prepare = p;
-      «has_snapshot» = b;
-      snapshot = s;
-      learner = c .first;
-      «caught_up» = c .second;
-      continuation = c .third;
-      fence = d .first;
-      joint = d .second;
-      uniform = d .third;
+      prepare = prepare;
+      «has_snapshot» = hasSnapshot;
+      snapshot = snapshot;
+      learner = early .first;
+      «caught_up» = early .second;
+      continuation = early .third;
+      fence = late .first;
+      joint = late .second;
+      uniform = late .third;
     }
 
 -- the six cuts of the evidence, in two threes
@@ -221,14 +221,14 @@ lateCuts e = record { first = e .fence; second = e .joint; third = e .uniform }
 
 -- an open request
 abbrev pub replacementOf : ℕ → LostVoterAttestationV1 → Change → VoterReplacementEvidence → VoterReplacementRecord
-replacementOf r a c e =
+replacementOf expected attestation change evidence =
     record {
-      «expected_revision» = r;
-      attestation = a;
-      predecessor = c .predecessor;
-      successor = c .successor;
-      phase = c .phase;
-      evidence = e;
+      «expected_revision» = expected;
+      attestation = attestation;
+      predecessor = change .predecessor;
+      successor = change .successor;
+      phase = change .phase;
+      evidence = evidence;
     }
 
 abbrev pub changeOf : VoterReplacementRecord → Change
@@ -236,16 +236,16 @@ changeOf r = record { predecessor = r .predecessor; successor = r .successor; ph
 
 -- a table
 abbrev pub tableOf : TableHead → ℕ → List VoterSlotRecord → Bool → VoterReplacementRecord → VoterSlotTable
-tableOf h n s b r =
+tableOf head count slots isOpen replacement =
     record {
-      «cluster_instance» = h .«cluster_instance»;
-      «manifest_digest» = h .«manifest_digest»;
-      revision = h .revision;
-      «configuration_epoch» = h .«configuration_epoch»;
-      slots = s;
-      count = n;
-      «has_replacement» = b;
-      replacement = r;
+      «cluster_instance» = head .«cluster_instance»;
+      «manifest_digest» = head .«manifest_digest»;
+      revision = head .revision;
+      «configuration_epoch» = head .«configuration_epoch»;
+      slots = slots;
+      count = count;
+      «has_replacement» = isOpen;
+      replacement = replacement;
     }
 
 abbrev pub tableHeadOf : VoterSlotTable → TableHead

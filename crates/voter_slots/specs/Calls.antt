@@ -23,9 +23,19 @@ use Rattle.voter_slots.specs.Export.{leaves, withTable, written}
 abbrev pub mostBody : ℕ
 mostBody = 65535
 
--- a mark as the number that its two bytes are: `MK`, `AD`, `BG`; any other is no command's
+-- a mark as the number that its two bytes are: `MK`, `AD`, `BG`
+abbrev pub markerMark : ℕ
+markerMark = 0x4D4B
+
+abbrev pub advanceMark : ℕ
+advanceMark = 0x4144
+
+abbrev pub beginMark : ℕ
+beginMark = 0x4247
+
+-- any other number is no command's
 unfoldable pub markedCommand : ℕ → Mark
-markedCommand n = cond (eqb n 19787) Mk (cond (eqb n 16708) Ad (cond (eqb n 16967) Bg Unknown))
+markedCommand n = cond (eqb n markerMark) Mk (cond (eqb n advanceMark) Ad (cond (eqb n beginMark) Bg Unknown))
 
 -- a body that no record has room for asks nothing
 unfoldable pub commandOf : ℕ → ℕ → Mark
