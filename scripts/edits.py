@@ -1,6 +1,8 @@
-"""Reads the near misses: crates/CRATE/must-fail/*.edit and near-misses/CRATE/*.edit (docs/NEAR-MISSES.md).
+"""Reads the near misses: crates/CRATE/must-fail/*.edit and near-misses/CRATE/*.edit
+(docs/NEAR-MISSES.md).
 
-An edit file has one line of text, which says what the edit shows, and then `file:`, `old:` and `new:` lines, as `rt must-fail` takes them.
+An edit file has one line of text, which says what the edit shows, and then `file:`, `old:` and
+`new:` lines, as `rt must-fail` takes them.
 """
 import glob
 import os
@@ -14,7 +16,8 @@ class BadEdit(Exception):
 
 
 class Edit:
-    """An edit: where it runs, what it shows, its replacements, and whether it changes the code, a contract or a definition."""
+    """An edit: where it runs, what it shows, its replacements, and whether it changes the code, a
+    contract or a definition."""
 
     def __init__(self, path):
         parts = path.split('/')
@@ -56,7 +59,8 @@ class Edit:
             if path.startswith(f'crates/{self.crate}/specs/'):
                 kinds.add('definition')
             else:
-                # A contract that is repeated in the new text, with code after it, is an edit of the code.
+                # A contract that is repeated in the new text, with code after it, is an edit of the
+                # code.
                 kinds.add('contract' if 'ensures {' in old and not new.startswith(old) else 'code')
         if len(kinds) != 1:
             raise BadEdit(f'{self.path}: it changes {" and ".join(sorted(kinds)) or "nothing but imports"}, and not one kind of thing')
@@ -76,7 +80,8 @@ def sources(edits):
 
 
 def replaced(edits, texts):
-    """The texts with the edits applied, as `rt must-fail` applies them: one replacement after the other, each of a text that stands once."""
+    """The texts with the edits applied, as `rt must-fail` applies them: one replacement after the
+    other, each of a text that stands once."""
     texts = dict(texts)
     for edit in edits:
         for path, old, new in edit.pairs:

@@ -1,11 +1,12 @@
 #!/usr/bin/env python3
-"""Lets things go wrong around the replay program and the example service, and fails where one of them does not stand it: bin/faults
-runs it, from the root of the repository.
+"""Lets things go wrong around the replay program and the example service, and fails where one of
+them does not stand it: bin/faults runs it, from the root of the repository.
 
     python3 scripts/faults.py REPLAY SERVICE SHIM FOLDER
 
-REPLAY is the replay program, SERVICE the example journal_service, SHIM the library of scripts/faults.c, FOLDER one for the service's
-files. The expected lines are the stored ones, samples/NAME.lines.
+REPLAY is the replay program, SERVICE the example journal_service, SHIM the library of
+scripts/faults.c, FOLDER one for the service's files. The expected lines are the stored ones,
+samples/NAME.lines.
 """
 import errno
 import itertools
@@ -28,7 +29,8 @@ LIMITED = ('worked-example', 'whole-replacement', 'every-answer')
 SERVED = ('whole-replacement', 'supersession')
 ENDING = (signal.SIGTERM, signal.SIGINT, signal.SIGHUP, signal.SIGPIPE, signal.SIGKILL)
 
-# A shell has a command in the background ignore SIGINT, and nohup SIGHUP; other starters block signals. The programs below would inherit that.
+# A shell has a command in the background ignore SIGINT, and nohup SIGHUP; other starters block
+# signals. The programs below would inherit that.
 for _number in ENDING[:3]:
     if signal.getsignal(_number) is signal.SIG_IGN:
         signal.signal(_number, signal.SIG_DFL)
@@ -54,7 +56,8 @@ def marks(log):
 # ---- the replay program
 
 def waiting(program, log, count, lines):
-    """The program with so many bytes of a log given, all lines read that are due, and no more input yet."""
+    """The program with so many bytes of a log given, all lines read that are due, and no more input
+    yet."""
     run = subprocess.Popen([program], stdin=subprocess.PIPE, stdout=subprocess.PIPE, stderr=subprocess.PIPE, bufsize=0)
     run.stdin.write(log[:count])
     for line in lines:
@@ -63,8 +66,9 @@ def waiting(program, log, count, lines):
 
 
 def signals(program, logs):
-    """A signal that ends the program, after each record, in the head of the next one and in its body: every line that was due is there,
-    and nothing more. One that stops it for a while changes nothing."""
+    """A signal that ends the program, after each record, in the head of the next one and in its
+    body: every line that was due is there, and nothing more. One that stops it for a while changes
+    nothing."""
     cases = 0
     for name in SIGNALLED:
         log, lines = logs[name]
@@ -88,7 +92,8 @@ def signals(program, logs):
 
 
 def blocked(program, logs):
-    """A signal while the program waits for room in a pipe that nobody reads: what is in the pipe are the first bytes of the right lines."""
+    """A signal while the program waits for room in a pipe that nobody reads: what is in the pipe
+    are the first bytes of the right lines."""
     table = logs['worked-example'][0][:184]
     log = table + b'MK\0\0' * 60000
     lines = HEAD + b'1 TB 0 1\n' + b''.join(b'%d MK 33 1\n' % number for number in range(2, 60002))
@@ -124,7 +129,8 @@ def asleep(pid):
 
 
 def limited(program, logs):
-    """An output that takes so many bytes and no more, for every number of bytes: a file that may not grow further, as on a full disk."""
+    """An output that takes so many bytes and no more, for every number of bytes: a file that may
+    not grow further, as on a full disk."""
     cases = 0
     out = os.path.join(FOLDER, 'out')
     for name in LIMITED:
@@ -215,7 +221,8 @@ def faulty(words, number, kind, path=None):
 
 
 def traced(words, path=None):
-    """The calls of a program that nothing disturbs: name, path or descriptor, and the bytes that are written."""
+    """The calls of a program that nothing disturbs: name, path or descriptor, and the bytes that
+    are written."""
     trace = os.path.join(FOLDER, 'trace')
     remove(trace)
     environment = dict(os.environ, LD_PRELOAD=SHIM, FAULT_TRACE=trace)
@@ -235,7 +242,8 @@ def remove(path):
 # ---- the service
 
 class Service:
-    """The service on one log: the lines that it is to print, and the file that it is to keep after each record."""
+    """The service on one log: the lines that it is to print, and the file that it is to keep after
+    each record."""
 
     def __init__(self, program, name, log, lines):
         self.program, self.name = program, name
@@ -254,7 +262,8 @@ class Service:
         self.check_kept(ends)
 
     def check_kept(self, ends):
-        """The file has the place of a record that changed the table, and the revision that was printed for it."""
+        """The file has the place of a record that changed the table, and the revision that was
+        printed for it."""
         for number, kept in enumerate(self.kept[1:], 1):
             place, revision = int.from_bytes(kept[:8], 'big'), int.from_bytes(kept[78:86], 'big')
             held(f'{self.name}, the revision after record {number}', int(self.lines[number - 1].split()[2]), revision)
@@ -293,8 +302,8 @@ class Service:
         return next(number for number, line in enumerate(self.lines) if int(line.split()[0]) == place)
 
     def confirmed(self, asked, found, said):
-        """How many records are confirmed after a run that found this file and has said this. What it said are the right lines, and
-        the last one may be cut short."""
+        """How many records are confirmed after a run that found this file and has said this. What
+        it said are the right lines, and the last one may be cut short."""
         first = self.first_line(found)
         right = b''.join(self.lines[first:])
         held(asked + ', its lines', right[:len(said)], said)
@@ -308,7 +317,8 @@ class Service:
             raise Difference(f'{asked}: {confirmed} records are confirmed, and the file is another one (place {place})')
 
     def check_end(self, asked, confirmed):
-        """Started again, it leaves out no record that was not confirmed, and comes to the same end."""
+        """Started again, it leaves out no record that was not confirmed, and comes to the same
+        end."""
         found = self.stored()
         first = self.first_line(found)
         if first > confirmed:
@@ -366,7 +376,8 @@ def killed_again(services):
 
 
 def errors_at_every_call(services):
-    """Each call fails once, is interrupted or is short. An error ends the service with a message, and the others change nothing."""
+    """Each call fails once, is interrupted or is short. An error ends the service with a message,
+    and the others change nothing."""
     cases = 0
     for service in services:
         service.restart()
@@ -394,8 +405,9 @@ def errors_at_every_call(services):
 # ---- the power fails
 
 class Disk:
-    """What a disk may hold after the power fails: a file's bytes are sure once it is synced, and a name once its folder is synced.
-    A name that is not sure may be the old or the new one; bytes that are not sure may be there, in part or not at all."""
+    """What a disk may hold after the power fails: a file's bytes are sure once it is synced, and a
+    name once its folder is synced. A name that is not sure may be the old or the new one; bytes
+    that are not sure may be there, in part or not at all."""
 
     def __init__(self):
         self.files = {}     # path: [all bytes, bytes that are sure]
@@ -432,7 +444,8 @@ class Disk:
 
 
 def power_cuts(services):
-    """After each call the power fails: whatever the disk may hold then, nothing that was confirmed is lost."""
+    """After each call the power fails: whatever the disk may hold then, nothing that was confirmed
+    is lost."""
     cases = 0
     for service in services:
         service.restart()

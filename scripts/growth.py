@@ -27,12 +27,11 @@ import sys
 import tempfile
 
 import plot
+from count import COPIES
 
 ORACLE = 'oracle/target/release/oracle'
 OUT = 'target/growth'
 PAGE = 'docs/GROWTH.md'
-# As in scripts/count.py: callgrind counts a repeated instruction once for each byte.
-COPIES = 'glibc.cpu.x86_rep_movsb_threshold=1000000000:glibc.cpu.x86_rep_stosb_threshold=1000000000'
 
 # Title, call and state of the oracle's lines.
 CALLS = (('read, idle', 'read', 'idle'), ('read, open request', 'read', 'open'),

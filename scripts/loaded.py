@@ -1,9 +1,12 @@
 #!/usr/bin/env python3
-"""Says what a check of a crate loads, and what that is made of: scripts/loaded.py [-n COUNT] CRATE..
+"""Says what a check of a crate loads, and what that is made of: scripts/loaded.py [-n COUNT]
+CRATE..
 
-A check loads the theorem of each function that it calls, with all that its proof imports. The memory of a check goes by the size of these stored modules
-(docs/PROVING.md, "Times"), so this tells where it goes. It reads the import lines of the modules in target/rlib, which `rt check` has written, and follows them:
-of a library from its own modules, of a program, which has none stored, from the functions that its sources name. It proves nothing and takes seconds.
+A check loads the theorem of each function that it calls, with all that its proof imports. The
+memory of a check goes by the size of these stored modules (docs/PROVING.md, "Times"), so this tells
+where it goes. It reads the import lines of the modules in target/rlib, which `rt check` has
+written, and follows them: of a library from its own modules, of a program, which has none stored,
+from the functions that its sources name. It proves nothing and takes seconds.
 """
 import collections
 import glob
@@ -16,7 +19,8 @@ import sys
 ROOT = os.path.dirname(os.path.dirname(os.path.abspath(__file__)))
 RLIBS = os.path.join(ROOT, "target", "rlib")
 
-# What Rattle makes of a function, by the module's last name; `Proof` is its author's, but for those that Rattle finds by itself.
+# What Rattle makes of a function, by the module's last name; `Proof` is its author's, but for those
+# that Rattle finds by itself.
 MADE = {
     "Lts": "derivation of the code (Lts)", "Tie": "Tie", "Reads": "Reads", "Mir": "Mir", "Code": "Code", "Layout": "Layout", "Kinds": "Kinds",
     "Proof": "Proof", "Statement": "Statement", "Met": "Met",

@@ -1,27 +1,35 @@
 #!/usr/bin/env python3
-"""Changes the code in one place at a time and has the prover judge each change: a mutant that is still proved is let through.
+"""Changes the code in one place at a time and has the prover judge each change: a mutant that is
+still proved is let through.
 
 Run it from the root of the repository, by bin/mutate:
 
-    bin/mutate [COUNT] [SEED] [CRATE..]     COUNT mutants that compile (240), drawn by SEED (1), in the crates named or in all that have code
-    bin/mutate --list [COUNT] [SEED] ..     what would be tried first, and how many there are to draw from; nothing is checked
+    bin/mutate [COUNT] [SEED] [CRATE..]     COUNT mutants that compile (240), drawn by SEED (1),
+                                            in the crates named or in all that have code
+    bin/mutate --list [COUNT] [SEED] ..     what would be tried first, and how many there are to
+                                            draw from; nothing is checked
     bin/mutate --tables                     the tables of the last run once more
 
 What is changed: the bodies of functions in crates/*/src; no contract, constant, import or comment.
   operators   < <= > >= == !=, + -, += -=, * / %, && ||, & |, << >>; a ! is dropped
   numbers     n + 1, n - 1, 0 and 1; a byte; a byte of a byte string; true and false
-  names       a variable for another of its type in scope, a constant for one of its type and another value, a field for one of its type
-              in its struct, a variant of an enum for one that holds the same, a called function for one with the same signature
+  names       a variable for another of its type in scope, a constant for one of its type and
+              another value, a field for one of its type in its struct, a variant of an enum for one
+              that holds the same, a called function for one with the same signature
 
-How it is judged: a function's body matters to the proof of that function alone, since callers use its contract. So mutants of several
-functions of a crate are checked together, by `rt dev`, over what a first check of the unchanged crate kept. Each function then has its
-own line in the verdict. A mutant counts as refused where its function's own proof has an error of its own; one that is not proved only
-because it calls another changed function is checked again without that one. A mutant that the compiler refuses is counted, and another
-one of that function takes its place. All is done on a copy in target/mutate; the crates must be proved before (`rt check`).
+How it is judged: a function's body matters to the proof of that function alone, since callers use
+its contract. So mutants of several functions of a crate are checked together, by `rt dev`, over
+what a first check of the unchanged crate kept. Each function then has its own line in the verdict.
+A mutant counts as refused where its function's own proof has an error of its own; one that is not
+proved only because it calls another changed function is checked again without that one. A mutant
+that the compiler refuses is counted, and another one of that function takes its place. All is done
+on a copy in target/mutate; the crates must be proved before (`rt check`).
 
-Mutants that are let through are checked once more, those of a crate together and from nothing, by `rt check`. Then each is built into the
-programs replay, cases and call_cases, and what they write is held to what the gate holds it to (their files 'stdout', and scripts/replays.py).
-The results are target/mutate/CRATE.tsv, one line a mutant, and the tables that are printed at the end; target/mutate/log has what the prover said.
+Mutants that are let through are checked once more, those of a crate together and from nothing, by
+`rt check`. Then each is built into the programs replay, cases and call_cases, and what they write
+is held to what the gate holds it to (their files 'stdout', and scripts/replays.py). The results are
+target/mutate/CRATE.tsv, one line a mutant, and the tables that are printed at the end;
+target/mutate/log has what the prover said.
 """
 import os
 import random
@@ -55,7 +63,8 @@ class Body:
         self.walk()
 
     def masks(self):
-        """Which tokens stand in patterns and types; and which braces are those of a struct's literal."""
+        """Which tokens stand in patterns and types; and which braces are those of a struct's
+        literal."""
         t, self.pattern, self.typed, self.literal, self.arm = self.t, set(), set(), set(), {}
         for i in range(self.first, self.end):
             word = t[i].text
@@ -129,7 +138,8 @@ class Body:
         return self.kind_of_name(start, end, variables) if first.kind == 'name' else None
 
     def kind_of_name(self, start, end, variables):
-        """The type of an expression that starts with a name: a call, a variant, a struct, a variable or a constant, and what follows it."""
+        """The type of an expression that starts with a name: a call, a variant, a struct, a
+        variable or a constant, and what follows it."""
         t, first, kind, i = self.t, self.t[start].text, None, start
         if t[i + 1].text == '(':
             called = self.source.signatures.get(self.scope.get(first, first))
@@ -191,7 +201,8 @@ class Body:
                 self.change(i, variables)
 
     def bound_by_let(self, i, variables):
-        """Where the variables that a `let` binds begin to be in scope, and these with their types."""
+        """Where the variables that a `let` binds begin to be in scope, and these with their
+        types."""
         t = self.t
         end = max(k for k in range(i, self.end) if set(range(i, k + 1)) <= self.pattern) + 1
         k, depth = end, 0
@@ -338,7 +349,8 @@ class Mutant:
 
 
 def drawn(source, function, seed):
-    """All mutants of a function in the order in which they are tried: first a kind, then a place, then what stands there instead."""
+    """All mutants of a function in the order in which they are tried: first a kind, then a place,
+    then what stands there instead."""
     pick = random.Random(f'{seed}:{function.full}')
     groups = {}
     for kind, i, new in Body(source, function).changes:
@@ -357,7 +369,8 @@ def drawn(source, function, seed):
 
 
 def quotas(source, count, seed):
-    """The functions of each crate that are changed, and how often: by the number of functions of the crate that have a place to change."""
+    """The functions of each crate that are changed, and how often: by the number of functions of
+    the crate that have a place to change."""
     able = {}
     for f in source.functions:
         if f.crate in CRATES:
@@ -430,8 +443,9 @@ def refused_by_compiler(source, said, mutants):
 
 
 def try_batch(room, source, crate, row, label, report):
-    """Checks the mutants of a batch: how many checks it took, and how long. One that the compiler refuses makes room for the next of its
-    function; one that is not proved only because it calls another changed function is checked again without that one."""
+    """Checks the mutants of a batch: how many checks it took, and how long. One that the compiler
+    refuses makes room for the next of its function; one that is not proved only because it calls
+    another changed function is checked again without that one."""
     rest = {f.full: order for f, order in row}
     current, waiting = [order.pop(0) for _, order in row if order], []
     turn, checks, spent = 0, 0, 0
@@ -495,7 +509,8 @@ def run_crate(room, source, crate, plan):
 
 
 def rename(room, source, crate, mutants):
-    """Where another function is called and the proof only lacks its name: the same again, with that name in the proof."""
+    """Where another function is called and the proof only lacks its name: the same again, with that
+    name in the proof."""
     while mutants:
         row = list({m.f.full: m for m in reversed(mutants)}.values())
         mutants = [m for m in mutants if m not in row]
@@ -518,7 +533,8 @@ def rename(room, source, crate, mutants):
 
 
 def confirm(room, source, crate, through):
-    """Those that were let through, together and from nothing: one mutant of each function at a time. Then the crate is as it was."""
+    """Those that were let through, together and from nothing: one mutant of each function at a
+    time. Then the crate is as it was."""
     while through:
         row = list({m.f.full: m for m in reversed(through)}.values())
         through = [m for m in through if m not in row]
@@ -532,7 +548,8 @@ def confirm(room, source, crate, through):
 
 
 def caught(room, source, m):
-    """Which run of the gate shows that a program is wrong that was let through: the programs' stored output, or the stored logs."""
+    """Which run of the gate shows that a program is wrong that was let through: the programs'
+    stored output, or the stored logs."""
     room.write(applied(source, [m]))
     try:
         for name in ('replay', 'cases', 'call_cases'):

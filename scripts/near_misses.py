@@ -1,14 +1,17 @@
 #!/usr/bin/env python3
-"""Writes the tables of docs/NEAR-MISSES.md from the edits: crates/CRATE/must-fail/*.edit and near-misses/CRATE/*.edit.
+"""Writes the tables of docs/NEAR-MISSES.md from the edits: crates/CRATE/must-fail/*.edit and
+near-misses/CRATE/*.edit.
 
-Run it from the root of the repository, after an edit was added, changed or moved. It takes less than a second:
+Run it from the root of the repository, after an edit was added, changed or moved. It takes less
+than a second:
 
     python3 scripts/near_misses.py
 
-The line of text of each edit becomes a row of the table that stands between `<!-- edits: CRATE -->` and `<!-- end -->`; what stands outside
-of these marks is written by hand. It is an error where an edit has no text or more than one line of it, where its `old:` text does not
-stand exactly once in the file that it names (such an edit would try nothing), where two edits of a crate have one name, where an edit has
-no table, and where a table has no edits.
+The line of text of each edit becomes a row of the table that stands between `<!-- edits: CRATE -->`
+and `<!-- end -->`; what stands outside of these marks is written by hand. It is an error where an
+edit has no text or more than one line of it, where its `old:` text does not stand exactly once in
+the file that it names (such an edit would try nothing), where two edits of a crate have one name,
+where an edit has no table, and where a table has no edits.
 """
 import re
 import sys
@@ -23,7 +26,8 @@ def fail(message):
 
 
 def collect():
-    """The rows of each table, those of the gate first, each by name; and how many edits there are of which kind."""
+    """The rows of each table, those of the gate first, each by name; and how many edits there are
+    of which kind."""
     tables, names, counts = {}, set(), {'gate': 0, 'near-misses': 0, 'near-rows': 0}
     for edit in edits.all_edits():
         if (edit.folder, edit.label) in names:

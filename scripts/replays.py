@@ -31,9 +31,14 @@ class Difference(Exception):
     """What was asked, what was expected, and what came."""
 
 
+def end_of(value):
+    """The last part of a long text, and anything else as it is."""
+    return value[-400:] if isinstance(value, (bytes, str)) else value
+
+
 def held(asked, expected, given):
     if expected != given:
-        raise Difference(f'{asked}\n  expected: {expected[-400:]!r}\n  given:    {given[-400:]!r}')
+        raise Difference(f'{asked}\n  expected: {end_of(expected)!r}\n  given:    {end_of(given)!r}')
 
 
 def stored():
@@ -63,7 +68,7 @@ def after_cut(log, lines, size):
     """The text of the first so many bytes of a log: the lines of the whole records, then 33 for a
     record that is cut."""
     count, at = 0, 0
-    for mark, body, _ in explain.records(log):
+    for _, body, _ in explain.records(log):
         end = at + 4 + len(body) if body is not None else len(log)
         if size < end or body is None:
             break
@@ -180,8 +185,8 @@ def closed_output(program, ignored):
 def full_output(program, log):
     with open('/dev/full', 'wb') as full:
         run = subprocess.run([program], input=log, stdout=full, stderr=subprocess.PIPE, timeout=PATIENCE, check=False)
-    if run.returncode < 0:
-        raise Difference(f'output that cannot be written: exit {run.returncode}')
+    if run.returncode < 0 or not run.stderr.startswith(b'replay: standard output: '):
+        raise Difference(f'output that cannot be written: exit {run.returncode}, {run.stderr!r}')
 
 
 def unread_input(program, log):

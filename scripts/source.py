@@ -1,4 +1,5 @@
-"""What the crates declare, read from crates/*/src: functions with their places, structs, enums, constants and types."""
+"""What the crates declare, read from crates/*/src: functions with their places, structs, enums,
+constants and types."""
 import os
 import re
 
@@ -44,7 +45,8 @@ class Function:
 
 
 class Source:
-    """All that the crates declare: functions, structs, enums, constants and types, by their last name."""
+    """All that the crates declare: functions, structs, enums, constants and types, by their last
+    name."""
 
     def __init__(self, crates):
         self.structs, self.enums, self.aliases, self.constants, self.values = {}, {}, {}, {}, {}
@@ -106,7 +108,8 @@ class Source:
                 i += 1
 
     def imports(self, crate, tokens, i, scope):
-        """Adds the names that a `use` brings into scope. Gives the place after it, or after a `ghost use` or `mod`."""
+        """Adds the names that a `use` brings into scope. Gives the place after it, or after a
+        `ghost use` or `mod`."""
         end = i
         while tokens[end].text != ';':
             end += 1
@@ -204,7 +207,8 @@ class Source:
 
 
 def reaches(functions):
-    """For each function of a crate the functions of the crate that it calls, directly or through others; by name, so rather too many."""
+    """For each function of a crate the functions of the crate that it calls, directly or through
+    others; by name, so rather too many."""
     by_name = {}
     for f in functions:
         by_name.setdefault(f.name, []).append(f.full)

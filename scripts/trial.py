@@ -1,7 +1,9 @@
-"""Has the prover judge changed code, in a copy of the crates: what bin/mutate and bin/near-misses share.
+"""Has the prover judge changed code, in a copy of the crates: what bin/mutate and bin/near-misses
+share.
 
-A function's body matters to the proof of that function alone, since callers use its contract. So changes of several functions of a crate
-are checked together, by `rt dev`, and each function has its own line in the verdict and its own errors.
+A function's body matters to the proof of that function alone, since callers use its contract. So
+changes of several functions of a crate are checked together, by `rt dev`, and each function has its
+own line in the verdict and its own errors.
 """
 import os
 import re
@@ -58,7 +60,8 @@ class Room:
         return said, run.returncode, time.time() - began
 
     def kept(self, crate):
-        """Where what a check left is kept for others, until the crate changes; and whether it is there."""
+        """Where what a check left is kept for others, until the crate changes; and whether it is
+        there."""
         folder = f'{self.folder}/target/kept/{crate}'
         return folder, os.path.exists(f'{folder}.stamp') and read(f'{folder}.stamp') == read(f'target/stamp/{crate}')
 
@@ -81,7 +84,8 @@ class Room:
         self.keep(crate)
 
     def dev(self, crate, log):
-        """Checks the crate as it stands in the copy: over what was kept, or else over what the last check left."""
+        """Checks the crate as it stands in the copy: over what was kept, or else over what the last
+        check left."""
         folder, there = self.kept(crate)
         if there:
             shutil.rmtree(f'{self.folder}/target/inc/{crate}', ignore_errors=True)
@@ -89,12 +93,14 @@ class Room:
         return self.run(['dev', crate], log)
 
 
-# What the prover says where a proof names what the changed code does not have: refused for its shape, and not for a fact.
+# What the prover says where a proof names what the changed code does not have: refused for its
+# shape, and not for a fact.
 SHAPE = re.compile(r'has no (field )?`|this pattern needs|is not in scope')
 
 
 def errors_at(said, place):
-    """What the prover said of the proofs under a path; what only waits for another declaration is left out."""
+    """What the prover said of the proofs under a path; what only waits for another declaration is
+    left out."""
     found, mine = [], False
     for line in said.split('\n'):
         if line.startswith('  '):
@@ -134,7 +140,8 @@ def reached_prover(said):
 
 
 def judge(said, f, code=True):
-    """What a check says of a function whose code or else whose contract is changed, and its first error."""
+    """What a check says of a function whose code or else whose contract is changed, and its first
+    error."""
     line = re.search(r'^fn ' + re.escape(f.full) + r': (.*)$', said, re.M)
     if not line:
         sys.exit(f'the check says nothing of {f.full}')

@@ -1,14 +1,17 @@
 #!/usr/bin/env python3
-"""Has the prover refuse each near miss, and says what kind its first error is: bin/near-misses runs it, from the root of the repository.
+"""Has the prover refuse each near miss, and says what kind its first error is: bin/near-misses runs
+it, from the root of the repository.
 
     python3 scripts/try_edits.py [CRATE[/LABEL] ..]    all crates where none is named; all edits of a crate, or one
 
-An edit of code or of a contract is about the functions that it changes, one of a constant about those that name it. It is judged by what
-the prover says of these: a fact must fail in the proof of one of them. Edits that are about different functions are checked together
-(scripts/trial.py). An edit of a definition is checked alone, and judged by the first error of all.
+An edit of code or of a contract is about the functions that it changes, one of a constant about
+those that name it. It is judged by what the prover says of these: a fact must fail in the proof of
+one of them. Edits that are about different functions are checked together (scripts/trial.py). An
+edit of a definition is checked alone, and judged by the first error of all.
 
-The run fails where an edit is not refused, is refused for its shape alone, does not compile, or could not be judged. What the prover said
-of each edit is target/near-misses/CRATE/LABEL/.log, and what it said in each check target/near-misses/log.
+The run fails where an edit is not refused, is refused for its shape alone, does not compile, or
+could not be judged. What the prover said of each edit is target/near-misses/CRATE/LABEL/.log, and
+what it said in each check target/near-misses/log.
 """
 import os
 import re
@@ -20,7 +23,8 @@ from source import Source
 from trial import TOGETHER, Room, errors_at, judge, kind_of_errors, own_errors, reached_prover, read
 
 ROOM = 'target/near-misses'
-# What is said of a verdict, the best first: an edit that is about several functions has the best of theirs.
+# What is said of a verdict, the best first: an edit that is about several functions has the best of
+# theirs.
 VERDICTS = {
     'fact': 'refused: a fact fails',
     'shape and fact': 'refused: its shape, then a fact',
@@ -34,7 +38,8 @@ REFUSED = ('fact', 'shape and fact')
 
 
 def users(source, crate, before):
-    """The functions of a crate that name the constant that a text ends in, directly or through constants made of it."""
+    """The functions of a crate that name the constant that a text ends in, directly or through
+    constants made of it."""
     names = set(re.findall(r'\bconst (\w+)', before)[-1:])
     while True:
         more = {name for name, value in source.values.items() if names & set(re.findall(r'\w+', value))}
@@ -71,7 +76,8 @@ class Trial:
         return {f.full for f in self.functions}
 
     def judge(self, said):
-        """What a check says of this edit: of each of its functions, or, of a definition, of the crate."""
+        """What a check says of this edit: of each of its functions, or, of a definition, of the
+        crate."""
         if not self.functions:
             self.judge_definition(said)
             return
@@ -118,14 +124,15 @@ def report(trials):
 
 
 def meets(source, one, other, aside):
-    """Whether one edit matters to what the other is about: the same function, or a contract that the other's function relies on; with
-    aside, any function that the other's calls."""
+    """Whether one edit matters to what the other is about: the same function, or a contract that
+    the other's function relies on; with aside, any function that the other's calls."""
     calls = {g for f in other.functions for g in source.calls[f.full]} if aside or one.edit.kind == 'contract' else set()
     return bool(one.names() & (other.names() | calls))
 
 
 def together(source, trials, aside):
-    """Sets of trials that are checked together; with aside, functions that call each other are kept apart too."""
+    """Sets of trials that are checked together; with aside, functions that call each other are kept
+    apart too."""
     rows = []
     for trial in trials:
         for row in rows:
@@ -149,8 +156,8 @@ def applies(row):
 
 
 def strays(source, crate, row, said):
-    """The functions whose own proofs fail though no edit is about them: an edit would reach further than was assumed. A changed
-    contract may fail those that call its function."""
+    """The functions whose own proofs fail though no edit is about them: an edit would reach further
+    than was assumed. A changed contract may fail those that call its function."""
     about = {name for trial in row for name in trial.names()}
     contracts = {name for trial in row if trial.edit.kind == 'contract' for name in trial.names()}
     others = [f for f in source.functions if f.crate == crate and f.full not in about and not contracts & source.calls[f.full]]
@@ -158,7 +165,8 @@ def strays(source, crate, row, said):
 
 
 def check(room, source, crate, row, label):
-    """Checks a set of trials. Where the compiler refuses it, each half is checked, down to the edit that it refuses."""
+    """Checks a set of trials. Where the compiler refuses it, each half is checked, down to the edit
+    that it refuses."""
     edits = [trial.edit for trial in row]
     texts = sources(edits)
     room.write(replaced(edits, texts))
@@ -185,7 +193,8 @@ def check(room, source, crate, row, label):
 
 
 def run_crate(room, source, crate, trials):
-    """Tries the edits of a crate. One that was not judged because a function that it calls is changed too is tried again without that one."""
+    """Tries the edits of a crate. One that was not judged because a function that it calls is
+    changed too is tried again without that one."""
     code = [trial for trial in trials if trial.functions]
     rows = together(source, code, False)
     for n, row in enumerate(rows, 1):
@@ -194,7 +203,8 @@ def run_crate(room, source, crate, trials):
     for n, row in enumerate(together(source, [trial for trial in code if trial.verdict == 'waits'], True), 1):
         check(room, source, crate, row, f'again-{n}')
         report(row)
-    # A definition changes what many proofs need: each is checked over what the edits of code have left.
+    # A definition changes what many proofs need: each is checked over what the edits of code have
+    # left.
     if code and not room.kept(crate)[1]:
         room.keep(crate)
     for trial in trials:

@@ -179,7 +179,12 @@ fn tasks(count: u16) -> Vec<Task> {
         ("open, CaughtUp", open(count, CaughtUp)),
     ] {
         add("validity", state, table.clone(), Work::Validity);
-        add("representability check", state, table.clone(), Work::Representable);
+        add(
+            "representability check",
+            state,
+            table.clone(),
+            Work::Representable,
+        );
         add("decode", state, table.clone(), Work::Decode);
         add("encode", state, table.clone(), Work::Encode);
         add("retired test", state, table, Work::Retired(node));
