@@ -517,7 +517,7 @@ const ROUTE_JOINT: u64 = 2;
 const ROUTE_UNIFORM: u64 = 3;
 
 // Which table is to be made.
-fn route_of_observed(judged: Observed) -> u64
+pub fn route_of_observed(judged: Observed) -> u64
     ensures { λ r. ⌜ r ≡ routeOfObserved (verdictOfObserved judged) ⌝ }
 {
     match judged {

@@ -10,11 +10,11 @@ use Rattle.control.proofs.make.snapshot_table.Tie as tie
 with-snapshot-requires : tie.Need-with-snapshot-requires
 with-snapshot-requires c κs = search needs
 
-add-u : tie.Need-add-u
-add-u c = search needs
+add-next : tie.Need-add-next
+add-next c = search needs
 
 returns : tie.Need-returns
 returns c = ap (λ (e : VoterReplacementEvidence). advanced (c .before .before .before .before .before .before .before .args .table) snapshotInstalled e) (c .before .with-snapshot .ensures)
 
 pub snapshot-table-spec : {M : Type 1} → statement M
-snapshot-table-spec = tie.close (tie.spec with-snapshot-requires add-u returns)
+snapshot-table-spec = tie.close (tie.spec with-snapshot-requires add-next returns)

@@ -15,17 +15,17 @@ use Rattle.control.proofs.observe.uniform_table.Tie as tie
 slot-place-requires : tie.Need-slot-place-requires
 slot-place-requires c κs = search needs
 
-way-write-given-u : tie.Need-way-write-given-u
-way-write-given-u c = search needs
+way-write-given-next : tie.Need-way-write-given-next
+way-write-given-next c = search needs
 
-way-write-given-u-2 : tie.Need-way-write-given-u-2
-way-write-given-u-2 c = search needs
+way-write-given-next-2 : tie.Need-way-write-given-next-2
+way-write-given-next-2 c = search needs
 
-way-write-given-u-3 : tie.Need-way-write-given-u-3
-way-write-given-u-3 c = search needs
+way-write-given-next-3 : tie.Need-way-write-given-next-3
+way-write-given-next-3 c = search needs
 
-add-u : tie.Need-add-u
-add-u c = search needs
+add-next : tie.Need-add-next
+add-next c = search needs
 
 with-phase-requires : tie.Need-with-phase-requires
 with-phase-requires c κs = search needs
@@ -42,9 +42,9 @@ uniform-table-spec =
     tie.close
     (tie.spec
     slot-place-requires
-    way-write-given-u
-    way-write-given-u-2
-    way-write-given-u-3
-    add-u
+    way-write-given-next
+    way-write-given-next-2
+    way-write-given-next-3
+    add-next
     with-phase-requires
     returns)

@@ -25,11 +25,11 @@ abbrev μ-loop : tie.MeasureT-loop
 loop-holds : tie.Need-loop-holds Inv-loop μ-loop
 loop-holds c = (omega arith, (λ l. refl, λ l. absurd (omega arith)))
 
-mul-u : tie.Need-mul-u Inv-loop μ-loop
-mul-u c = omega arith
+mul-next : tie.Need-mul-next Inv-loop μ-loop
+mul-next c = omega arith
 
-way-write-given-u : tie.Need-way-write-given-u Inv-loop μ-loop
-way-write-given-u c = search needs
+way-write-given-next : tie.Need-way-write-given-next Inv-loop μ-loop
+way-write-given-next c = search needs
 
 add-i : tie.Need-add-i Inv-loop μ-loop
 add-i c = omega arith
@@ -64,8 +64,8 @@ with-phase-spec =
     Inv-loop
     μ-loop
     loop-holds
-    mul-u
-    way-write-given-u
+    mul-next
+    way-write-given-next
     add-i
     loop-less
     loop-again
