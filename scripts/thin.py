@@ -28,6 +28,8 @@ import re
 import subprocess
 import sys
 
+from gen_judged import law as judged_law
+
 ROOM = 'h .revision ≡ full → ⊥'
 TARGET = '(h .revision ≡ full → ⊥) × ((h .count ≤ 9) × (targetIndex h < h .count))'
 
@@ -701,7 +703,7 @@ LAWS = {1: (6, 1), 3: (1, 4), 5: (1, 1), 6: (1, 1)}
 
 for tables, (first, parameters) in LAWS.items():
     with open('crates/control/proofs/Judged%d.antt' % tables, 'w', encoding='utf-8') as file:
-        subprocess.run([sys.executable, 'scripts/gen_judged.py', str(tables), str(parameters), 'control', str(first)], stdout=file, check=True)
+        file.write(judged_law(tables, first, parameters))
 for name in FAMILIES:
     with open('crates/control/proofs/%s.antt' % name, 'w', encoding='utf-8') as file:
         file.write(law_written(name))
