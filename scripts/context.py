@@ -1,5 +1,6 @@
-"""What the laws of the thin calls share (scripts/gen_judged.py and scripts/lent.py): the text of
-the parameters after the table, and the places of the locals in the context of a walk.
+"""What the laws of the thin calls (scripts/gen_judged.py, scripts/lent.py) and the proofs of the
+calls (scripts/thin.py, scripts/lent.py) share: the text of the parameters after the table, the
+places of the locals in the context of a walk, and the theorem at the end.
 
 The locals of such a function are its result (0), the reference to the table (1), the parameters
 after the table (from 2), and then the temporaries. The context of a walk is a list of assertions,
@@ -16,6 +17,16 @@ ENTRIES = 2
 # was closed: what is observed, the borrow, the token, what the call returned.
 OPENED, CALLED, CLOSED = 5, 6, 4
 
+# The theorem of a call, of `thin-meets` and that its cores meet their contracts
+SPEC = '''pub {kebab}-spec : {{M : Type 1}} → stated.statement M
+unfolding code.routine tablesOf
+{kebab}-spec 𝓤 H 𝓜 𝓖 𝓡 =
+    entered 𝓤 H (tripleOf 𝓤 H (𝓖 .A) thin.signature (thin.spec 𝓤 H (𝓖 .A) (𝓜 .mem) (𝓡 .run)))
+    (tables 𝓤 H 𝓜 𝓡 code.env .C) (tables 𝓤 H 𝓜 𝓡 code.env .Λ) #thin code.function (code.unfolded 𝓤 H 𝓜 𝓡)
+    (thin-meets 𝓤 H (𝓖 .A) (givenOf 𝓤 H 𝓜 𝓖) (𝓜 .mem) (𝓡 .run) (tablesOf 𝓤 H 𝓜 (tables 𝓤 H 𝓜 𝓡 code.env))
+{cites})
+'''
+
 
 def sub(number):
     """A number as a subscript."""
@@ -25,6 +36,12 @@ def sub(number):
 def each(template, numbers, between=' '):
     """The template for each of the numbers: {i} is the number, {s} its subscript."""
     return between.join(template.format(i=i, s=sub(i)) for i in numbers)
+
+
+def closed(text):
+    """The text, with the brackets closed that are open at its end. Comments do not count."""
+    code = '\n'.join(line.split('--')[0] for line in text.split('\n'))
+    return text + ')' * (code.count('(') - code.count(')'))
 
 
 class Locals:

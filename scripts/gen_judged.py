@@ -14,7 +14,7 @@ variables, so the size of the table plays no part, and the proof of a call is an
 follows the code: the borrow is opened and stays open through all calls; each arm of the match ends
 with a call of `answer_of`, closes the borrow and frees the locals.
 """
-from context import CALLED, CLOSED, OPENED, REFERENCE, RESULT, Locals, each, sub
+from context import CALLED, CLOSED, OPENED, REFERENCE, RESULT, Locals, closed, each, sub
 
 TABLE = 'place 1 (deref τT ∷ [])'
 
@@ -163,6 +163,14 @@ ANSWERS = '''exec ! C Λ {env} (last z) (atRet {env} Post) $
       land ! (from ! (stop !)) (init ! {result-at} refl (b-typed w u″ is-w)) $ drop ! $'''
 
 
+def none_of(numbers):
+    """That y is none of the numbers."""
+    none = 'Unit {0}'
+    for number in numbers:
+        none = '(%s) × (y ≡ %d → ⊥)' % (none, number)
+    return none
+
+
 class Maker:
     """A maker: its number in the match, and its locals, the table that it makes and the copy of the
     table that it is given."""
@@ -196,13 +204,6 @@ class Law:
             arms = ARM.format(key=maker.number, s=maker.s, copy=maker.copy, made=maker.made, last=self.last, others=arms, **{'table-place': TABLE})
         return arms
 
-    def none_of(self):
-        """That the number y is that of no maker."""
-        none = 'Unit {0}'
-        for maker in self.makers:
-            none = '(%s) × (y ≡ %d → ⊥)' % (none, maker.number)
-        return none
-
     def of_makers(self, template):
         return each(template, range(1, len(self.makers) + 1))
 
@@ -230,7 +231,7 @@ class Law:
             'pres': self.of_makers('Pre{s}'),
             'posts': self.of_makers('Q{s}'),
             'premise-names': self.of_makers('met{s} goes{s} comes{s} exits{s}'),
-            'none-of': self.none_of(),
+            'none-of': none_of([maker.number for maker in self.makers]),
         }
 
     def places(self):
@@ -286,12 +287,6 @@ class Law:
         text = (HEAD + FUNCTION + MODULE).format(**words) + ''.join(self.premises(maker) for maker in self.makers)
         text += (STATEMENT + WALK).format(**words) + ''.join('      (%s,\n' % self.makes(maker) for maker in self.makers)
         return closed(text + '      ' + self.stays()) + '\n'
-
-
-def closed(text):
-    """The text, with the brackets closed that are open at its end. Comments do not count."""
-    code = '\n'.join(line.split('--')[0] for line in text.split('\n'))
-    return text + ')' * (code.count('(') - code.count(')'))
 
 
 def law(tables, first, parameters):

@@ -28,7 +28,8 @@ import re
 import subprocess
 import sys
 
-from gen_judged import law as judged_law
+from context import SPEC
+from gen_judged import law as judged_law, none_of
 
 ROOM = 'h .revision ≡ full → ⊥'
 TARGET = '(h .revision ≡ full → ⊥) × ((h .count ≤ 9) × (targetIndex h < h .count))'
@@ -508,13 +509,6 @@ thin-meets : {{M : Type 1}} (𝓤 : URA M) (H : Heap 𝓤) (A : Atoms 𝓤) (W :
 thin-meets 𝓤 H A W at-mem run 𝓣 met-j {met-names} = walk-meets 𝓤 H A thin.ended stayed W (goes 𝓤 H A W at-mem run) (thin.clauses 𝓤 H A at-mem run) (WpFn 𝓤 H (𝓣 .C) (𝓣 .Λ) code.function) (WpFn-mono 𝓤 H (W .laws) 𝓣 code.function)
     (thin-walks 𝓤 H A W at-mem run (𝓣 .C) (𝓣 .Λ) (fmOf 𝓤 H (W .laws) 𝓣) met-j {met-names})
 
-pub {kebab}-spec : {{M : Type 1}} → stated.statement M
-unfolding code.routine tablesOf
-{kebab}-spec 𝓤 H 𝓜 𝓖 𝓡 =
-    entered 𝓤 H (tripleOf 𝓤 H (𝓖 .A) thin.signature (thin.spec 𝓤 H (𝓖 .A) (𝓜 .mem) (𝓡 .run)))
-    (tables 𝓤 H 𝓜 𝓡 code.env .C) (tables 𝓤 H 𝓜 𝓡 code.env .Λ) #thin code.function (code.unfolded 𝓤 H 𝓜 𝓡)
-    (thin-meets 𝓤 H (𝓖 .A) (givenOf 𝓤 H 𝓜 𝓖) (𝓜 .mem) (𝓡 .run) (tablesOf 𝓤 H 𝓜 (tables 𝓤 H 𝓜 𝓡 code.env))
-{cites})
 '''
 
 
@@ -609,13 +603,10 @@ def values_of(call):
     is_law, family = 'of-what' in call, call.get('family')
     pub = 'pub ' if is_law else ''
     makers = [dict(zip(('tag', 'path', 'ctor', 'table', 'requires', 'shows'), m), Tag=m[0].capitalize(), param=call['param'], pub=pub) for m in call['makers']]
-    n = len(makers)
+    n, first = len(makers), call.get('first', 1)
     # the cores but for the judge: their contracts, their tags, their modules
     cores = [('Test', 'test', route), ('Answers', 'answer', answers)] + [(m['Tag'], m['tag'], m['path']) for m in makers]
     met = ['cores .%d' % i for i in range(n + 2)] if is_law else ['met-t', 'met-a'] + ['met-' + m['tag'] for m in makers]
-    none = 'Unit {0}'
-    for j in range(1, n + 1):
-        none = '(%s) × (y ≡ %d → ⊥)' % (none, j + call.get('first', 1) - 1)
     offs = ' '.join('(λ k. off%s .1 (c ∙ k))' % (' .0' * (n - j)) for j in range(1, n + 1))
     arms = []
     for m, meets in zip(makers, met[2:]):
@@ -627,7 +618,7 @@ def values_of(call):
     asks = 'Cores 𝓤 H A at-mem run C' if family else ' → '.join(triples)
     cites = [cite(contract, tag, tag, path) for contract, tag, path in cores]
     values = dict(
-        call, n=n, pub=pub, law='Judged%d' % n, none='(%s)' % none, offs=offs, arms='\n'.join(arms), uses='\n'.join(call['uses']), ctors=', '.join(m['ctor'] for m in makers),
+        call, n=n, pub=pub, law='Judged%d' % n, none='(%s)' % none_of(range(first, first + n)), offs=offs, arms='\n'.join(arms), uses='\n'.join(call['uses']), ctors=', '.join(m['ctor'] for m in makers),
         psis=' '.join('(λ n. n ≡ %s)' % m['table'] for m in makers), pres=' '.join('({Tag} 𝓤 H A at-mem run .pre to-{tag})'.format(**m) for m in makers),
         posts=' '.join('({Tag} 𝓤 H A at-mem run .post to-{tag})'.format(**m) for m in makers), names=' '.join('#' + m['tag'] for m in makers),
         judgement=call['Move'] + (', Verdict' if is_law else '') + ', carried')
@@ -690,10 +681,10 @@ def written(name):
     if 'family' in call:
         shared = {part: FAMILIES[call['family']][part] for part in FAMILIES[call['family']] if part not in ('of-what', 'verdict', 'outcome', 'end')}
         values, makers = values_of(dict(shared, **call))
-        body = (STAYED + CONTRACTS + JUDGE + MIDDLE + RIGHT + JUDGED + WALK + MEETS).format(**values)
+        body = (STAYED + CONTRACTS + JUDGE + MIDDLE + RIGHT + JUDGED + WALK + MEETS + SPEC).format(**values)
         return CALL_HEAD.format(**values) + used((USES + OWN_USES).format(**values), body) + body
     values, makers = values_of(call)
-    body = (STAYED + VALUES + CONTRACTS + JUDGE + '\n' + CORES).format(**values) + made(makers, OF) + (MIDDLE + RIGHT + JUDGED).format(**values) + made(makers, MAKER) + (TOLD + WALK + MEETS).format(**values)
+    body = (STAYED + VALUES + CONTRACTS + JUDGE + '\n' + CORES).format(**values) + made(makers, OF) + (MIDDLE + RIGHT + JUDGED).format(**values) + made(makers, MAKER) + (TOLD + WALK + MEETS + SPEC).format(**values)
     return (HEAD + USES + OWN_USES).format(**values) + body
 
 
