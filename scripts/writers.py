@@ -31,6 +31,10 @@ def q(text):
     return re.sub(r'\b[a-z]\w*_\w*\b', lambda m: '«' + m.group(0) + '»', text)
 
 
+def kebab(name):
+    return name.replace('_', '-')
+
+
 def back(steps):
     return ' '.join(['c'] + ['.before'] * steps)
 
@@ -201,7 +205,7 @@ def written(name, says, record, body, needs):
         out.append(f'use {TYPES.get(record, "Rattle.records.specs.declared.records." + record)}.{{{record}}}')
     own = f'use Rattle.writer.proofs.encode.{name}'
     out += [own + '.Statement.{statement}', own + '.Tie as tie', '']
-    spec = name.replace('_', '-') + '-spec'
+    spec = kebab(name) + '-spec'
     end = f'pub {spec} : {{M : Type 1}} → statement M\n{spec} =\n    tie.close\n    (tie.spec\n' + '\n'.join(f'    {n}' for n in needs) + ')\n'
     path = f'{PROOFS}/encode/{name}'
     os.makedirs(path, exist_ok=True)
@@ -211,79 +215,120 @@ def written(name, says, record, body, needs):
 
 # ---- a chain
 
-def chain(f):
-    n = len(f.puts)
-    body, needs, seen, marks, reached, at = '', [], {}, [], [], 2
-    for put in f.puts:
-        hyphened = put.call.replace('_', '-')
-        seen[hyphened] = seen.get(hyphened, 0) + 1
-        many = seen[hyphened]
-        marks.append((hyphened + ('' if many == 1 else str(many)), hyphened + '-requires' + ('' if many == 1 else f'-{many}')))
-        reached.append(at + put.steps)
-        at = reached[-1] + 4
-    x = ' x' if f.record else ''
-    to = f'{f.record} → ' if f.record else ''
+class ChainProof:
+    """The proof of a chain, put by put. Its lemmas are numbered by the puts, from 1. marks: how the
+    checker names each put's call, and the need of its premise; reached: how many steps the function
+    takes to each put."""
 
-    def whole(k, place):
-        return f'(e{k} ({place} .args .{f.arg}))' if f.record else f'e{k}'
+    def __init__(self, chain):
+        self.chain, self.puts, self.n = chain, chain.puts, len(chain.puts)
+        self.marks, self.reached, seen, at = [], [], {}, 2
+        for put in self.puts:
+            call = kebab(put.call)
+            many = seen[call] = seen.get(call, 0) + 1
+            self.marks.append((call, call + '-requires') if many == 1 else (f'{call}{many}', f'{call}-requires-{many}'))
+            self.reached.append(at + put.steps)
+            at = self.reached[-1] + 4
 
-    def said(put, place):
-        if not f.record:
+    def numbered(self):
+        return zip(range(1, self.n + 1), self.puts, self.marks)
+
+    def whole(self, k, place):
+        """What is written up to put k, by the arguments at a place where the function began."""
+        return f'(e{k} ({place} .args .{self.chain.arg}))' if self.chain.record else f'e{k}'
+
+    def said(self, put, place):
+        """What a put writes, by those arguments."""
+        if not self.chain.record:
             return put.written
-        arg = f'{place} .args .{f.arg}'
+        arg = f'{place} .args .{self.chain.arg}'
         return re.sub(r'\bx\b( \.)?', lambda m: arg + m.group(1) if m.group(1) else f'({arg})', put.written)
 
-    def rest(put):
-        return '_' if f.record else f'({put.written})'
+    def own(self, put):
+        """What a put writes, where the checker finds it for a record."""
+        return '_' if self.chain.record else f'({put.written})'
 
-    body += f.front + '-- what is written, put by put\n'
-    for k, put in enumerate(f.puts, 1):
-        body += f'abbrev e{k} : {to}List ℕ\ne{k}{x} = ' + (f'e{k - 1}{x} ++ ' if k > 1 else '') + put.written + '\n\n'
-    body += '-- there is room for all of it, and so for each part\n'
-    for k in range(n, 0, -1):
-        body += f'room{k} : (c : tie.Start) → c .args .at + length {whole(k, "c")} ≤ length (c .args .buffer .now)\n'
-        if k == n:
-            start = f'c {f.pre}'
-            if f.same:
-                start = f'room-is _ _ ({f.same} (c .args .{f.arg})) ({start})'
-            body += f'unfolding {f.shut}\nroom{k} c = {start}\n\n'
-        else:
-            body += f'room{k} c = room-left {whole(k, "c")} ({said(f.puts[k], "c")}) _ _ (room{k + 1} c)\n\n'
-    body += '-- where the function began, from after each put\n'
-    for k, (mark, _) in enumerate(marks, 1):
-        to_last = back(reached[k - 1] - reached[k - 2]) if k > 1 else back(reached[0] + 1)
-        body += f'abbrev start{k} : tie.After-{mark} → tie.Start\nstart{k} c = ' + (f'start{k - 1} ({to_last})' if k > 1 else to_last) + '\n\n'
-    body += '-- what was written after each put\n'
-    for k, (put, (mark, _)) in enumerate(zip(f.puts, marks), 1):
-        s = f'start{k} c'
-        body += f'wrote{k} : (c : tie.After-{mark}) → Put {whole(k, s)} ({s} .args .at) ({s} .args .buffer .now) (c .{mark} .last .0) (c .{mark} .result)\n'
-        ensured = f'c .{mark} .ensures'
-        if put.answer:
-            ensured = f'put-is (ap ({put.answer[1]}) ({back(put_step(put) + 1)} .{put.answer[0]} .ensures)) ({ensured})'
-        if k == 1:
-            body += f'wrote1 c = {ensured}\n\n'
-        else:
-            body += f'wrote{k} c = then {rest(put)} (wrote{k - 1} ({back(reached[k - 1] - reached[k - 2])})) (room{k} ({s})) ({ensured})\n\n'
-    for k, (put, (mark, need)) in enumerate(zip(f.puts, marks), 1):
-        last = back(reached[k - 1] - reached[k - 2] - 1) if k > 1 else ''
-        start = f'(start{k - 1} ({last}))' if k > 1 else f'({back(reached[0])})'
-        for asked in put.needs:
-            asked, by = asked if isinstance(asked, tuple) else (asked, 'search needs')
-            body += f'{asked} : tie.Need-{asked}\n{asked} c{" κs" if asked.endswith("requires") else ""} = {by.replace("START", start)}\n\n'
-            needs.append(asked)
-        has = f'room {rest(put)} (wrote{k - 1} ({last})) (room{k} {start})' if k > 1 else f'room1 {start}'
+    def since(self, k):
+        """The steps from the put before put k to put k."""
+        return self.reached[k - 1] - self.reached[k - 2]
+
+    def parts(self):
+        out = '-- what is written, put by put\n'
+        x, to = (' x', f'{self.chain.record} → ') if self.chain.record else ('', '')
+        for k, put, _ in self.numbered():
+            before = f'e{k - 1}{x} ++ ' if k > 1 else ''
+            out += f'abbrev e{k} : {to}List ℕ\ne{k}{x} = {before}{put.written}\n\n'
+        return out
+
+    def rooms(self):
+        out = '-- there is room for all of it, and so for each part\n'
+        for k in range(self.n, 0, -1):
+            out += f'room{k} : (c : tie.Start) → c .args .at + length {self.whole(k, "c")} ≤ length (c .args .buffer .now)\n'
+            if k == self.n:
+                out += f'unfolding {self.chain.shut}\nroom{k} c = {self.room_for_all()}\n\n'
+            else:
+                out += f'room{k} c = room-left {self.whole(k, "c")} ({self.said(self.puts[k], "c")}) _ _ (room{k + 1} c)\n\n'
+        return out
+
+    def room_for_all(self):
+        """The contract's premise, as the chain says the bytes."""
+        given = f'c {self.chain.pre}'
+        return f'room-is _ _ ({self.chain.same} (c .args .{self.chain.arg})) ({given})' if self.chain.same else given
+
+    def starts(self):
+        out = '-- where the function began, from after each put\n'
+        for k, _, (mark, _) in self.numbered():
+            began = f'start{k - 1} ({back(self.since(k))})' if k > 1 else back(self.reached[0] + 1)
+            out += f'abbrev start{k} : tie.After-{mark} → tie.Start\nstart{k} c = {began}\n\n'
+        return out
+
+    def wrotes(self):
+        out = '-- what was written after each put\n'
+        for k, put, (mark, _) in self.numbered():
+            start, wrote = f'start{k} c', f'c .{mark} .ensures'
+            if put.answer:
+                wrote = f'put-is (ap ({put.answer[1]}) ({back(put_step(put) + 1)} .{put.answer[0]} .ensures)) ({wrote})'
+            if k > 1:
+                wrote = f'then {self.own(put)} (wrote{k - 1} ({back(self.since(k))})) (room{k} ({start})) ({wrote})'
+            out += (f'wrote{k} : (c : tie.After-{mark}) → Put {self.whole(k, start)} ({start} .args .at) ({start} .args .buffer .now) '
+                    f'(c .{mark} .last .0) (c .{mark} .result)\nwrote{k} c = {wrote}\n\n')
+        return out
+
+    def premise(self, k, put, start):
+        """What put k requires: room, and what else its contract has; start is where the function
+        began, from its need."""
+        has = f'room{k} {start}'
+        if k > 1:
+            has = f'room {self.own(put)} (wrote{k - 1} ({back(self.since(k) - 1)})) ({has})'
         if put.answer:
             has = f'room-is _ _ (ap ({put.answer[1]}) (sym ({back(put_step(put))} .{put.answer[0]} .ensures))) ({has})'
         if put.also:
             has = f'({has}, {re.sub(r"(?<![^( ])s (?=[.])", start[1:-1] + " ", put.also)})'
-        body += f'{need} : tie.Need-{need}\n{need} c κs = {has}\n\n'
-        needs.append(need)
-    body += f'same-length : tie.Need-same-length\nsame-length c = ap length (wrote{n} (c .before .before) .bytes) ∙ length-put _ _ _ (room{n} (start{n} (c .before .before)))\n\n'
-    done = f'wrote{n} (c .before .before)'
-    if f.same:
-        done = f'put-is (sym ({f.same} (start{n} (c .before .before) .args .{f.arg}))) ({done})'
-    body += f'returns : tie.Need-returns\nunfolding {f.shut}\nreturns c = {done}\n\n'
-    written(f.name, 'one put after the other', f.record, body, needs + ['same-length', 'returns'])
+        return has
+
+    def requires(self):
+        """The needs up to the last put, each a name and its proof."""
+        for k, put, (_, need) in self.numbered():
+            start = f'(start{k - 1} ({back(self.since(k) - 1)}))' if k > 1 else f'({back(self.reached[0])})'
+            for asked in put.needs:
+                asked, by = asked if isinstance(asked, tuple) else (asked, 'search needs')
+                given = ' κs' if asked.endswith('requires') else ''
+                yield asked, f'{asked} : tie.Need-{asked}\n{asked} c{given} = {by.replace("START", start)}\n\n'
+            yield need, f'{need} : tie.Need-{need}\n{need} c κs = {self.premise(k, put, start)}\n\n'
+
+    def ends(self):
+        last = back(2)
+        done, start = f'wrote{self.n} ({last})', f'start{self.n} ({last})'
+        same_length = f'ap length ({done} .bytes) ∙ length-put _ _ _ (room{self.n} ({start}))'
+        if self.chain.same:
+            done = f'put-is (sym ({self.chain.same} ({start} .args .{self.chain.arg}))) ({done})'
+        return (f'same-length : tie.Need-same-length\nsame-length c = {same_length}\n\n'
+                f'returns : tie.Need-returns\nunfolding {self.chain.shut}\nreturns c = {done}\n\n')
+
+    def write(self):
+        names, proofs = zip(*self.requires())
+        body = self.chain.front + self.parts() + self.rooms() + self.starts() + self.wrotes() + ''.join(proofs) + self.ends()
+        written(self.chain.name, 'one put after the other', self.chain.record, body, [*names, 'same-length', 'returns'])
 
 
 def put_step(put):
@@ -471,7 +516,7 @@ def main():
             sys.exit(f'writers.py: {name} is not among the functions that it writes')
     for f in CHAINS:
         if not only or f.name in only:
-            chain(f)
+            ChainProof(f).write()
     for f in OPTIONALS:
         if not only or f.name in only:
             optional(f)
