@@ -17,7 +17,7 @@ import re
 import subprocess
 import sys
 
-from fields import FIELDS, format_of
+from fields import FIELDS, back, format_of, kebab
 
 ROOT = os.path.dirname(os.path.dirname(os.path.abspath(__file__)))
 
@@ -211,14 +211,6 @@ PARTS_BLANKS = {"blankBinding", "blankResultHead", "blankSlotMember", "blankClai
                 "blankClaimsEnd", "blankChange", "blankTableHead", "blankTableFront", "blankVoterSlotMembers", "blankVoterSlotRecords", "absentResult", "absentSnapshot"}
 # Blanks of a crate that is neither records nor layout
 BLANK_HOMES = {"blankConsensusIdentity": "control.specs.Blank", "blankMarkerBody": "journal·specs.specs.Bodies", "blankBeginHead": "journal·specs.specs.Bodies"}
-
-
-def back(k, c="c"):
-    return " ".join([c] + [".before"] * k)
-
-
-def kebab(name):
-    return name.replace("_", "-")
 
 
 def par(text):

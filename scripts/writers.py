@@ -18,7 +18,7 @@ import re
 import subprocess
 import sys
 
-from fields import FIELDS, camel, format_of
+from fields import FIELDS, back, camel, format_of, kebab
 
 PROOFS = 'crates/writer/proofs'
 BY = 'Written by scripts/writers.py.'
@@ -29,14 +29,6 @@ LENT = 3
 def q(text):
     """Names with `_` in them, as antt writes them."""
     return re.sub(r'\b[a-z]\w*_\w*\b', lambda m: '«' + m.group(0) + '»', text)
-
-
-def kebab(name):
-    return name.replace('_', '-')
-
-
-def back(steps):
-    return ' '.join(['c'] + ['.before'] * steps)
 
 
 class Put:
@@ -332,7 +324,7 @@ class ChainProof:
 
 
 def put_step(put):
-    """How far back of a put's need the call stands whose answer it writes."""
+    """How many steps a put's need is after the call whose answer the put writes."""
     return 0 if put.call == 'put_be' else 1
 
 
@@ -355,67 +347,93 @@ OPTIONALS = [
 ]
 
 
-def optional(f):
-    mark = f.call.replace('_', '-')
-    unfolding = f'unfolding {f.shut}\n' if f.shut else ''
-
-    def args(place):
-        return f'({place} .args .{f.flag})', f'({place} .args .{f.value})'
-
-    def law(name, place, told=None):
-        b, x = args(place)
-        return f'{name} {f.codec} {f.blank} {x} {b}' + (f' ({told})' if told else '')
-
-    def some(place):
-        b, x = args(place)
-        return f'flag .enc {b} ++ {f.codec} .enc {x}'
-
-    s, t, e, w = 'c', 'start1 c', 'start0 c', 'start2 c'
-    b, x = args(s)
-    has = f'room _ ({back(4 + f.steps)} .put-flag .ensures) (room2 ({back(1 + f.steps)}))'
-    if f.also:
-        has = f'({has}, start1 ({back(1 + f.steps)}) {f.also})'
-    body = f"""-- where the function began, from after a yes, a no and the value
+OPTIONAL = '''-- where the function began, from after a yes, a no and the value
 abbrev start1 : tie.Then1 → tie.Start
-start1 c = {back(6)}
+start1 c = {branched}
 
 abbrev start0 : tie.Else1 → tie.Start
-start0 c = {back(6)}
+start0 c = {branched}
 
 abbrev start2 : tie.After-{mark} → tie.Start
-start2 c = start1 ({back(2 + f.steps)})
+start2 c = start1 ({yes})
 
 -- there is room for the flag, and after a yes for the value
-room1 : (c : tie.Start) → c .args .at + length (flag .enc {b}) ≤ length (c .args .buffer .now)
-{unfolding}room1 c = room-left (flag .enc {b}) (either {b} {f.codec} (always {f.blank}) .enc {x}) _ _ (room-is _ _ ({law('opt-flag', s)}) (c {f.pre}))
+room1 : (c : tie.Start) → c .args .at + length (flag .enc {flag}) ≤ length (c .args .buffer .now)
+{unfolding}room1 c = room-left (flag .enc {flag}) (either {flag} {codec} (always {blank}) .enc {value}) _ _ (room-is _ _ ({flag-law}) (c {pre}))
 
-room2 : (c : tie.Then1) → {t} .args .at + length ({some(t)}) ≤ length ({t} .args .buffer .now)
-{unfolding}room2 c = room-is _ _ ({law('opt-some', t, 'c .if1 .taken')}) ({t} {f.pre})
+room2 : (c : tie.Then1) → start1 c .args .at + length ({some}) ≤ length (start1 c .args .buffer .now)
+{unfolding}room2 c = room-is _ _ ({some-law}) (start1 c {pre})
 
-wrote2 : (c : tie.After-{mark}) → Put ({some(w)}) ({w} .args .at) ({w} .args .buffer .now) (c .{mark} .last .0) (c .{mark} .result)
-wrote2 c = then _ ({back(5 + f.steps)} .put-flag .ensures) (room2 ({back(2 + f.steps)})) (c .{mark} .ensures)
+wrote2 : (c : tie.After-{mark}) → Put ({some-wrote}) (start2 c .args .at) (start2 c .args .buffer .now) (c .{mark} .last .0) (c .{mark} .result)
+wrote2 c = then _ ({flagged} .put-flag .ensures) (room2 ({yes})) (c .{mark} .ensures)
 
 put-flag-requires : tie.Need-put-flag-requires
 put-flag-requires c κs = room1 (c .before .before)
 
 {mark}-requires : tie.Need-{mark}-requires
-{mark}-requires c κs = {has}
+{mark}-requires c κs = {premise}
 
 same-length : tie.Need-same-length
-same-length c = ap length (wrote2 (c .before .before) .bytes) ∙ length-put _ _ _ (room2 ({back(4 + f.steps)}))
+same-length c = ap length (wrote2 (c .before .before) .bytes) ∙ length-put _ _ _ (room2 ({yes-returned}))
 
 returns : tie.Need-returns
-{unfolding}returns c = put-is (sym ({law('opt-some', 'start2 (c .before .before)', back(4 + f.steps) + ' .if1 .taken')})) (wrote2 (c .before .before))
+{unfolding}returns c = put-is (sym ({some-law-returned})) (wrote2 (c .before .before))
 
 same-length-2 : tie.Need-same-length-2
-same-length-2 c = ap length (c .before .before .before .put-flag .ensures .bytes) ∙ length-put _ _ _ (room1 ({e}))
+same-length-2 c = ap length (c .before .before .before .put-flag .ensures .bytes) ∙ length-put _ _ _ (room1 (start0 c))
 
 returns-2 : tie.Need-returns-2
-{unfolding}returns-2 c = put-is (sym ({law('opt-none', e, 'c .if1 .left')})) (c .before .before .before .put-flag .ensures)
+{unfolding}returns-2 c = put-is (sym ({none-law})) (c .before .before .before .put-flag .ensures)
 
-"""
-    written(f.name, 'the flag, and after a yes the value', None, body,
-            ['put-flag-requires', f'{mark}-requires', 'same-length', 'returns', 'same-length-2', 'returns-2'])
+'''
+
+
+class OptionalProof:
+    """The proof of an optional part. `start1` is where the function began, from after a yes,
+    `start0` from after a no, and `start2` from after the put of the value."""
+
+    def __init__(self, optional):
+        self.optional = optional
+        self.mark = kebab(optional.call)
+
+    def args(self, place):
+        """The flag and the value, at a place where the function began."""
+        return f'({place} .args .{self.optional.flag})', f'({place} .args .{self.optional.value})'
+
+    def law(self, name, place, told=None):
+        """A law of `opt` at the arguments; told is what the branch says of the flag."""
+        flag, value = self.args(place)
+        return f'{name} {self.optional.codec} {self.optional.blank} {value} {flag}' + (f' ({told})' if told else '')
+
+    def some(self, place):
+        """What is written after a yes."""
+        flag, value = self.args(place)
+        return f'flag .enc {flag} ++ {self.optional.codec} .enc {value}'
+
+    def premise(self):
+        """What the put of the value requires."""
+        steps, also = self.optional.steps, self.optional.also
+        has = f'room _ ({back(4 + steps)} .put-flag .ensures) (room2 ({back(1 + steps)}))'
+        return f'({has}, start1 ({back(1 + steps)}) {also})' if also else has
+
+    def write(self):
+        f, steps = self.optional, self.optional.steps
+        flag, value = self.args('c')
+        body = OPTIONAL.format(mark=self.mark, flag=flag, value=value, codec=f.codec, blank=f.blank, pre=f.pre, premise=self.premise(), **{
+            'unfolding': f'unfolding {f.shut}\n' if f.shut else '',
+            'branched': back(6),
+            'yes': back(2 + steps),
+            'flagged': back(5 + steps),
+            'yes-returned': back(4 + steps),
+            'some': self.some('start1 c'),
+            'some-wrote': self.some('start2 c'),
+            'flag-law': self.law('opt-flag', 'c'),
+            'some-law': self.law('opt-some', 'start1 c', 'c .if1 .taken'),
+            'some-law-returned': self.law('opt-some', f'start2 ({back(2)})', back(4 + steps) + ' .if1 .taken'),
+            'none-law': self.law('opt-none', 'start0 c', 'c .if1 .left'),
+        })
+        written(f.name, 'the flag, and after a yes the value', None, body,
+                ['put-flag-requires', f'{self.mark}-requires', 'same-length', 'returns', 'same-length-2', 'returns-2'])
 
 
 # ---- the places in use, one after the other
@@ -426,11 +444,7 @@ LOOPS = [
 ]
 
 
-def loop(name, call, record, codec, blank, none, law):
-    mark = call.replace('_', '-')
-    firsts = f'firsts {codec} {blank}'
-    a, again = 'start c', back(5)
-    body = f"""abbrev Inv-loop : tie.InvT-loop
+LOOP = '''abbrev Inv-loop : tie.InvT-loop
 Inv-loop buffer₀ at count places to₀ i₀ buffer to i = (i ≤ count) × Put ({firsts} i places) at buffer₀ buffer to × (length buffer ≡ length buffer₀)
 
 abbrev μ-loop : tie.MeasureT-loop
@@ -441,57 +455,57 @@ abbrev start : tie.In-loop Inv-loop μ-loop → tie.Start Inv-loop μ-loop
 start c = c .before .before .before
 
 -- a place as the code takes it
-taken-is : (c : tie.In-loop Inv-loop μ-loop) → getD ({a} .args .t3) (c .before .loop .i) {blank} ≡ getD ({a} .args .t3) (c .before .loop .i) {none}
+taken-is : (c : tie.In-loop Inv-loop μ-loop) → getD (start c .args .t3) (c .before .loop .i) {blank} ≡ getD (start c .args .t3) (c .before .loop .i) {none}
 taken-is c =
-    let l : length ({a} .args .t3) ≡ 9 = search needs in
-    getD-any ({a} .args .t3) (c .before .loop .i) {blank} {none} (omega (arith, l, {a} .pre .1))
+    let l : length (start c .args .t3) ≡ 9 = search needs in
+    getD-any (start c .args .t3) (c .before .loop .i) {blank} {none} (omega (arith, l, start c .pre .1))
 
 -- what is written with one more
-one-more : (c : tie.In-loop Inv-loop μ-loop) → {firsts} (c .before .loop .i + 1) ({a} .args .t3)
-    ≡ {firsts} (c .before .loop .i) ({a} .args .t3) ++ {codec} .enc (getD ({a} .args .t3) (c .before .loop .i) {none})
+one-more : (c : tie.In-loop Inv-loop μ-loop) → {firsts} (c .before .loop .i + 1) (start c .args .t3)
+    ≡ {firsts} (c .before .loop .i) (start c .args .t3) ++ {codec} .enc (getD (start c .args .t3) (c .before .loop .i) {none})
 one-more c =
-    firsts-more {codec} {blank} (c .before .loop .i) ({a} .args .t3)
-    ∙ ap (λ m. {firsts} (c .before .loop .i) ({a} .args .t3) ++ {codec} .enc m) (taken-is c)
+    firsts-more {codec} {blank} (c .before .loop .i) (start c .args .t3)
+    ∙ ap (λ m. {firsts} (c .before .loop .i) (start c .args .t3) ++ {codec} .enc m) (taken-is c)
 
 -- there is room for it
-more : (c : tie.In-loop Inv-loop μ-loop) → {a} .args .at + length ({firsts} (c .before .loop .i) ({a} .args .t3) ++ {codec} .enc (getD ({a} .args .t3) (c .before .loop .i) {none})) ≤ length ({a} .args .buffer .now)
+more : (c : tie.In-loop Inv-loop μ-loop) → start c .args .at + length ({firsts} (c .before .loop .i) (start c .args .t3) ++ {codec} .enc (getD (start c .args .t3) (c .before .loop .i) {none})) ≤ length (start c .args .buffer .now)
 more c =
-    let a = {a} .args in
+    let a = start c .args in
     let i = c .before .loop .i in
     omega (
       arith,
       firsts-within {codec} {blank} (i + 1) (a .count) (a .t3) (omega arith),
       ap length (one-more c),
       ap length ({law} (a .count) (a .t3)),
-      {a} .pre .0,
+      start c .pre .0,
     )
 
 loop-holds : tie.Need-loop-holds Inv-loop μ-loop
 loop-holds c = (omega arith, put-is (sym (firsts-none {codec} {blank} (c .before .args .t3))) (put-nothing _ _), refl)
 
 mul-place : tie.Need-mul-place Inv-loop μ-loop
-mul-place c = omega (arith, {a} .pre .1)
+mul-place c = omega (arith, start c .pre .1)
 
 array-copy-out-place : tie.Need-array-copy-out-place Inv-loop μ-loop
-array-copy-out-place c = omega (arith, {a} .pre .1)
+array-copy-out-place c = omega (arith, start c .pre .1)
 
 {mark}-requires : tie.Need-{mark}-requires Inv-loop μ-loop
 {mark}-requires c κs = room _ (c .before .before .before .loop .inv .1) (more (c .before .before))
 
 add-i : tie.Need-add-i Inv-loop μ-loop
-add-i c = omega (arith, {back(8)} .pre .1)
+add-i c = omega (arith, {began} .pre .1)
 
 loop-less : tie.Need-loop-less Inv-loop μ-loop
 loop-less c = omega arith
 
 loop-again : tie.Need-loop-again Inv-loop μ-loop
 loop-again c =
-    let l = {back(6)} .loop in
+    let l = {looped} .loop in
     let p = c .before .before .{mark} in
-    let w = then _ (l .inv .1) (more ({again})) (p .ensures) in (
+    let w = then _ (l .inv .1) (more ({turned})) (p .ensures) in (
       omega arith,
-      put-is (sym (one-more ({again}))) w,
-      ap length (w .bytes) ∙ length-put _ _ _ (more ({again})),
+      put-is (sym (one-more ({turned}))) w,
+      ap length (w .bytes) ∙ length-put _ _ _ (more ({turned})),
     )
 
 same-length : tie.Need-same-length Inv-loop μ-loop
@@ -504,9 +518,15 @@ returns c =
     let e : l .i ≡ a .count = omega arith in
     put-is (ap (λ n. {firsts} n (a .t3)) e ∙ sym ({law} (a .count) (a .t3))) (l .inv .1)
 
-"""
-    written(name, 'what is written so far are the places passed', record, body, ['Inv-loop', 'μ-loop', 'loop-holds', 'mul-place', 'array-copy-out-place', f'{mark}-requires', 'add-i', 'loop-less',
-                                 'loop-again', 'same-length', 'returns'])
+'''
+
+
+def loop(name, call, record, codec, blank, none, law):
+    mark = kebab(call)
+    # from the end of a turn, back to its start, to the loop and to where the function began
+    body = LOOP.format(mark=mark, firsts=f'firsts {codec} {blank}', codec=codec, blank=blank, none=none, law=law, turned=back(5), looped=back(6), began=back(8))
+    needs = ['loop-holds', 'mul-place', 'array-copy-out-place', f'{mark}-requires', 'add-i', 'loop-less', 'loop-again', 'same-length', 'returns']
+    written(name, 'what is written so far are the places passed', record, body, ['Inv-loop', 'μ-loop'] + needs)
 
 
 def main():
@@ -519,7 +539,7 @@ def main():
             ChainProof(f).write()
     for f in OPTIONALS:
         if not only or f.name in only:
-            optional(f)
+            OptionalProof(f).write()
     for f in LOOPS:
         if not only or f[0] in only:
             loop(*f)
