@@ -390,61 +390,96 @@ class Reader:
         return w, self.why(k)[1], w if self.enum else kebab(REFUSED.get(self.name, "refused_" + self.name[5:])) + nth(k)
 
 
-def write(r):
-    s = Skeleton(r.module, r.name)
-    n = r.n
-    defs = "-- the format up to each field\n"
-    for k in range(n):
-        c = r.codec_of(0, "") if k == 0 else f"dep to-{r.field(k - 1)} (λ a. {r.codec_of(k, 'a .1')})"
-        defs += abbrev(f"to-{r.field(k)}", f"Codec {par(r.types(k + 1))}", c)
-    defs += r.places() + r.gave()
-    defs += "-- after each field: what was read so far, and up to where\n"
-    for k in range(n):
+def formats(r):
+    """The format up to each field."""
+    out = "-- the format up to each field\n"
+    for k in range(r.n):
+        codec = f"dep to-{r.field(k - 1)} (λ a. {r.codec_of(k, 'a .1')})" if k else r.codec_of(0, "")
+        out += abbrev(f"to-{r.field(k)}", f"Codec {par(r.types(k + 1))}", codec)
+    return out
+
+
+def counts(r, k):
+    """Whether field k is the count of the places that are read next."""
+    return k + 1 < r.n and r.kind(k + 1) in COUNTED
+
+
+def counted(r, k):
+    """The lemma of a count by itself."""
+    f = r.field(k)
+    is_read = f"slotCount .dec (drop ({r.sizes(k - 1, r.last(k))}) ({r.start(k)} .args .bytes .now)) ≡ ok ({f}-value c) ({f}-size c)"
+    return f"-- the count by itself: so many places are read\ncounted : (c : {r.place(k)})\n    → {is_read}\ncounted c =\n    {r.field_got(k)}\n\n"
+
+
+def lemmas(r):
+    """After each field a lemma of what was read so far."""
+    out = "-- after each field: what was read so far, and up to where\n"
+    for k in range(r.n):
         f, got = r.field(k), r.field_got(k)
-        # so many places are asked for as were counted
-        if k + 1 < n and r.kind(k + 1) in COUNTED:
-            counted = f"slotCount .dec (drop ({r.sizes(k - 1, r.last(k))}) ({r.start(k)} .args .bytes .now)) ≡ ok ({f}-value c) ({f}-size c)"
-            defs += f"-- the count by itself: so many places are read\ncounted : (c : {r.place(k)})\n    → {counted}\ncounted c =\n    {got}\n\n"
-            s.fill(kebab(r.call(k + 1)) + "-requires", "count-read _ (counted (c .before))")
-            got = "counted c"
-        defs += f"got-{f} : (c : {r.place(k)})\n    → to-{f} .dec ({r.start(k)} .args .bytes .now) ≡ ok ({r.values(k)}) ({r.sizes(k)})\n"
+        if counts(r, k):
+            out, got = out + counted(r, k), "counted c"
+        out += f"got-{f} : (c : {r.place(k)})\n    → to-{f} .dec ({r.start(k)} .args .bytes .now) ≡ ok ({r.values(k)}) ({r.sizes(k)})\n"
         if k == 0:
-            defs += f"got-{f} c = {got}\n\n"
+            out += f"got-{f} c = {got}\n\n"
         else:
-            defs += f"got-{f} c =\n    dep-ok _ _ _ (got-{r.field(k - 1)} ({r.last(k)}))\n    ({got})\n\n"
-    for k in range(n):
+            out += f"got-{f} c =\n    dep-ok _ _ _ (got-{r.field(k - 1)} ({r.last(k)}))\n    ({got})\n\n"
+    return out
+
+
+def refused(r, k):
+    """The answer to the need of the return where field k was refused."""
+    why, defined, passed_on_by = r.refusal(k)
+    # for an enum's refusal the `else` is one step back, with `refused_x` around it two
+    told = f"{back(1 if r.enum else 2)} .enum-told{nth(k)} .given .1"
+    fields = r.field_not(k, told)
+    if k > 0:
+        fields = f"dep-no-2 _ _ _ (got-{r.field(k - 1)} (after-{r.field(k - 1)} (refused-{r.field(k)} c)))\n    ({fields})"
+    for _ in range(r.n - 1 - k):
+        fields = f"dep-no-1 _ _ _ ({fields})"
+    if r.enum:
+        return f"\n    ap (λ a. no (numberOf a)) (c .{why} .ensures ∙ ap {defined} ({told}))\n    ∙ sym (via-no _ _ _ _ _ ({fields}))"
+    answer = f"ap (λ a. outcome {r.blank} (no (numberOf a))) (c .before .{why} .ensures ∙ ap {defined} ({told}))"
+    return f"\n    outcome-no _ (c .{passed_on_by} .ensures ∙ {answer})\n    ({r.whole('no', fields)})"
+
+
+def fill_fields(r, s):
+    """Answers the needs of each field: its refusal, and what the read of the next field asks."""
+    for k in range(r.n):
         f = r.field(k)
-        w, wd, passed = r.refusal(k)
-        # for an enum's refusal the `else` is one step back, with `refused_x` around it two
-        told = f"{back(1 if r.enum else 2)} .enum-told{nth(k)} .given .1"
-        t = r.field_not(k, told)
-        if k > 0:
-            t = f"dep-no-2 _ _ _ (got-{r.field(k - 1)} (after-{r.field(k - 1)} (refused-{f} c)))\n    ({t})"
-        for _ in range(n - 1 - k):
-            t = f"dep-no-1 _ _ _ ({t})"
-        if r.enum:
-            body = f"\n    ap (λ a. no (numberOf a)) (c .{w} .ensures ∙ ap {wd} ({told}))\n    ∙ sym (via-no _ _ _ _ _ ({t}))"
-        else:
-            body = (f"\n    outcome-no _ (c .{passed} .ensures ∙ ap (λ a. outcome {r.blank} (no (numberOf a))) (c .before .{w} .ensures ∙ ap {wd} ({told})))"
-                    f"\n    ({r.whole('no', t)})")
-        s.fill("returns" if k == 0 else f"returns-{k + 1}", body, r.unfolded())
-        if k + 1 < n:
-            call = r.calls[k + 1][1]
-            base = re.sub(r"-\d+$", "", call) if r.calls[k + 1][0] != r.calls[k + 1][1] else call
-            for need in part_names(base, r, k + 1):
+        s.fill(returns(k), refused(r, k), r.unfolded())
+        if counts(r, k):
+            s.fill(kebab(r.call(k + 1)) + "-requires", "count-read _ (counted (c .before))")
+        if k + 1 < r.n:
+            for need in part_names(r, k + 1):
                 s.fill(need, f"to-{f} .within _ (got-{f} c)")
-        if 0 < k < n - 1:
+        if 0 < k < r.n - 1:
             s.fill("add-at" if k == 1 else f"add-at-{k}", fits(r, k, "c"))
-    end, m = n - 1, 1 if r.made else 0
+
+
+def fill_end(r, s):
+    """Answers the needs after the last field: the sum of the sizes, and the return."""
+    end, made = r.n - 1, 1 if r.made else 0
     last = s.last_sum()
     if last:
         s.fill(last, fits(r, end, back(lasts(s, last, r))))
-    whole = r.whole("ok", f"got-{r.field(end)} {par(back(m + extra(r)))}")
+    whole = r.whole("ok", f"got-{r.field(end)} {par(back(made + extra(r)))}")
     if r.made:
-        whole += f"\n    ∙ ap (λ v. ok {made_value(r)} ({r.sizes(end, back(m))})) (sym (c .{kebab(r.made)} .ensures))"
+        whole += f"\n    ∙ ap (λ v. ok {made_value(r)} ({r.sizes(end, back(made))})) (sym (c .{kebab(r.made)} .ensures))"
     body = f"sym ({whole})" if r.enum else f"outcome-ok _ ({whole})"
-    s.fill(f"returns-{n + 1}", "\n    " + body if r.made else body, r.unfolded())
+    s.fill(returns(r.n), "\n    " + body if r.made else body, r.unfolded())
+
+
+def write(r):
+    s = Skeleton(r.module, r.name)
+    fill_fields(r, s)
+    fill_end(r, s)
+    defs = formats(r) + r.places() + r.gave() + lemmas(r)
     s.write(header(r, defs + s.text(), s.own()), defs)
+
+
+def returns(k):
+    """The need of return k, counted from 0."""
+    return f"returns-{k + 1}" if k else "returns"
 
 
 def fits(r, k, c):
@@ -453,8 +488,9 @@ def fits(r, k, c):
     return f"record {{ fits = lt-of-le-of-lt (to-{f} .within _ (got-{f} {par(c)})) ({r.start(k, c)} .good .0 .0) }}"
 
 
-def part_names(base, r, k):
+def part_names(r, k):
     """The needs of the slice that call k takes: they are numbered by the parts of that name."""
+    base = kebab(r.call(k))
     earlier = sum(1 for i in range(1, k) if r.call(i) == r.call(k))
     x = "" if earlier == 0 else f"-{earlier + 1}"
     return f"sub-{base}{x}", f"part-{base}-start{x}"
