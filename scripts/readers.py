@@ -438,8 +438,7 @@ def refused(r, k):
         fields = f"dep-no-1 _ _ _ ({fields})"
     if r.enum:
         return f"\n    ap (λ a. no (numberOf a)) (c .{why} .ensures ∙ ap {defined} ({told}))\n    ∙ sym (via-no _ _ _ _ _ ({fields}))"
-    answer = f"ap (λ a. outcome {r.blank} (no (numberOf a))) (c .before .{why} .ensures ∙ ap {defined} ({told}))"
-    return f"\n    outcome-no _ (c .{passed_on_by} .ensures ∙ {answer})\n    ({r.whole('no', fields)})"
+    return f"\n    {passed(passed_on_by, r.blank, why, defined, told)}\n    ({r.whole('no', fields)})"
 
 
 def fill_fields(r, s):
@@ -566,25 +565,14 @@ LAWS = "use Rattle.layout.specs.ReadingLaws.{got, told, told-not, outcome-ok, o
 ARITH = "use native.Mathlib.Omega.{arith}"
 FITS = "use native.Mathlib.Nat.{lt-of-le-of-lt}"
 LAST_SUM = "the last sum"
+# What the answer was that a call was refused with, at a return after it
+TOLD = f"{back(2)} .enum-told .given .1"
 
 
-def optional(name, codec, absent, blank, call, make):
-    """A flag, and after a yes the part."""
-    whole, part, refused = f"opt {codec} {blank}", f"tie.After-{call}", f"refused-optional-{name}"
-
-    def source(place):
-        return f"({place} .{call} .ensures ∙ ap (λ l. outcome {blank} ({codec} .dec l)) (rest (start (at-flag (at-yes ({place}))) .args .bytes .now) _))"
-
-    defs = "-- the start and the flag's place, from after them; the part's call, from after the part and from after its refusal\n"
-    for place in [("start", "tie.After-flag → tie.Start", 4), ("at-flag", "tie.Else1 → tie.After-flag", 2), ("at-yes", f"{part} → tie.Else1", 2),
-                  ("called", f"tie.After-value → {part}", 4), ("refused", f"tie.After-{refused}2 → {part}", 4)]:
-        defs += abbrev(place[0], place[1], back(place[2]))
-    defs += "-- how many bytes the flag has, and the whole\n"
-    defs += abbrev("flag-size", "tie.After-flag → ℕ", "c .flag .given .0 .1 .0")
-    defs += abbrev("size", "tie.After-value → ℕ", f"flag-size (at-flag (at-yes (called c))) + {back(2)} .to .given .0 .0")
-    defs += f"""-- the flag, what it says in the branch of a yes, and the whole
+# What is said of the flag of an optional part, and of the whole
+OPTIONAL = '''-- the flag, what it says in the branch of a yes, and the whole
 flagged : (c : tie.After-flag) → flag .dec (start c .args .bytes .now) ≡ ok (c .flag .given .0 .0) (flag-size c)
-flagged c = got boolRead ({back(2)} .read-flag .ensures) (c .flag .given .1)
+flagged c = got boolRead ({before2} .read-flag .ensures) (c .flag .given .1)
 
 yes-is : (c : tie.Else1) → at-flag c .flag .given .0 .0 ≡ true
 yes-is c = not-false _ (c .if1 .left)
@@ -596,52 +584,13 @@ both : (c : tie.After-value) → {whole} .dec (start (at-flag (at-yes (called c)
 both c =
     opt-some _ _ _ (flagged-yes (at-yes (called c)))
     (told {blank} _
-    {source("called c")}
-    ({back(2)} .to .given .1))
+    {part-source}
+    ({before2} .to .given .1))
 
-"""
-    told, told2 = f"{back(2)} .enum-told .given .1", f"{back(2)} .enum-told2 .given .1"
+'''
 
-    def passed(n, why, said):
-        return f"outcome-no {absent} (c .{refused}{n} .ensures ∙ ap (λ a. outcome {absent} (no (numberOf a))) ({back(1)} .{why[0]} .ensures ∙ ap {why[1]} ({said})))"
-
-    refill("decode", f"read_optional_{name}", [
-        "use Prim.Native.Nat.{ℕ, _+_}", PATH, "use mathlib.Core.Bool.{true, false}", FITS, "use borrow.Author.Tests.{not-true, not-false}", RESULTS,
-        "use Rattle.format.specs.Combinators.{rest}", "use Rattle.format.specs.List.{flag, opt, opt-no, opt-none, opt-some, opt-bad}", NUMBER,
-        f"use Rattle.records.specs.Blank.{{{blank}}}", f"use Rattle.layout.specs.Layout.{{{codec}}}",
-        f"use Rattle.layout.specs.Parts.{{{absent}}}", "use Rattle.layout.specs.Reading.{outcome, boolRead, whyOf, whyBool}", LAWS,
-    ], defs, {
-        "returns": f"\n    {passed('', ('why-bool', 'whyBool'), told)}\n    (opt-no _ _ _ (got boolRead ({back(4)} .read-flag .ensures) ({told})))",
-        "returns-2": f"""
-    let f = {back(3)} in
-    let n = flag-size f in
-    let t = not-true _ (c .before .if1 .taken) in
-    let p : {whole} .dec (start f .args .bytes .now) ≡ ok (false, {blank}) n = opt-none _ _ _ (flagged f ∙ ap (λ b. ok b n) t) in
-    outcome-ok {absent} (p ∙ (λ i. ok (sym t i, sym (c .{make} .ensures) i) n))""",
-        f"sub-{call}": "flag .within _ (flagged (at-flag c))",
-        f"part-{call}-start": "flag .within _ (flagged (at-flag c))",
-        "returns-3": f"""
-    {passed('2', ('why', 'whyOf'), told2)}
-    (opt-bad _ _ _ (flagged-yes (at-yes (refused c)))
-    (told-not {blank} _
-    {source("refused c")}
-    ({told2})))""",
-        LAST_SUM: f"record {{ fits = lt-of-le-of-lt (({whole}) .within _ (both c)) (start (at-flag (at-yes (called c))) .good .0 .0) }}",
-        "returns-4": f"""
-    outcome-ok {absent}
-    (both c ∙ ap (λ b. ok (b, called c .{call} .result .value) (size c)) (sym (yes-is (at-yes (called c)))))""",
-    })
-
-
-def places(name, element, blanks, blank, make):
-    """The first so many of nine places."""
-    call, vec, of = f"read-{element}", f"vec {element} {blank}", "Inv-loop μ-loop"
-    part, told = f"tie.After-{call} {of}", f"{back(2)} .enum-told .given .1"
-
-    def source(place, at):
-        return f"({place} .{call} .ensures ∙ ap (λ l. outcome {blank} ({element} .dec l)) (rest (start (turn ({place})) .args .bytes .now) ({at})))"
-
-    defs = f"""abbrev Inv-loop : tie.InvT-loop
+# The loop that reads places, and what a turn of it reads
+PLACES_LOOP = '''abbrev Inv-loop : tie.InvT-loop
 Inv-loop bytes count value₀ at₀ i₀ value at i =
     (i ≤ count) × ({vec} i .dec bytes ≡ ok (take i value) at) × (drop i value ≡ drop i value₀) × (length value ≡ 9)
 
@@ -649,127 +598,263 @@ abbrev μ-loop : tie.MeasureT-loop
 μ-loop bytes count value₀ at₀ i₀ value at i = count - i
 
 -- the start, from within the loop; the turn of the loop, from the call in it; that call, from after its answer and from after its refusal
-"""
-    for place in [("start", f"tie.In-loop {of} → tie.Start {of}", 4), ("turn", f"{part} → tie.In-loop {of}", 2),
-                  ("called", f"tie.After-to {of} → {part}", 2), ("refused", f"tie.After-refused-{name} {of} → {part}", 4)]:
-        defs += abbrev(place[0], place[1], back(place[2]))
-    defs += f"""-- one more was read, after those before it
+'''
+ONE_MORE = '''-- one more was read, after those before it
 one-more : (c : tie.After-to {of})
     → {element} .dec (drop (turn (called c) .before .loop .at) (start (turn (called c)) .args .bytes .now)) ≡ ok (called c .{call} .result .value) (c .to .given .0 .0)
-one-more c = told {blank} _ {source("called c", "turn (called c) .before .loop .at")} (c .to .given .1)
+one-more c = told {blank} _ {more-source} (c .to .given .1)
 
 -- after those that were read there are blanks
 blanks-after : (i : ℕ) → drop i {blanks} ≡ replicate (9 - i) {blank}
 unfolding {blanks}
 blanks-after i = drop-replicate i 9 {blank}
 
-"""
-    refill("decode", f"read_{name}", [
-        "use Prim.Native.Nat.{ℕ, _+_, _-_, _≤_}", PATH, "use mathlib.Core.List.{_++_}", FITS, ARITH,
-        "use lib.ListN.{length, take, drop, set, replicate, length-set, take-append-drop}", RESULTS, "use Rattle.format.specs.Combinators.{rest}",
-        "use Rattle.format.specs.Copy.{filled-more, unfilled-more, drop-replicate}",
-        "use Rattle.format.specs.List.{vec, vec-start, vec-next, vec-refused, padded-ok, padded-no}", NUMBER,
-        f"use Rattle.records.specs.Blank.{{{blank}}}", f"use Rattle.layout.specs.Layout.{{{element}, {name}}}",
-        f"use Rattle.layout.specs.Parts.{{{blanks}}}", "use Rattle.layout.specs.Reading.{outcome, whyOf}", LAWS,
-    ], defs, {
-        **{need: "search needs" for need in [f"{make}-requires", f"part-{call}-end", f"{call}-requires", "enum-known-to", "enum-told", "why-requires",
-                                             f"refused-{name}-requires", "mul-value", "array-set-from-value", "add-i"]},
-        "loop-holds": (f"(search needs, vec-start {element} {blank} _, refl, ap length (c .{make} .ensures))", blanks),
-        f"sub-{call}": f"{vec} _ .within _ (c .before .loop .inv .1)",
-        f"part-{call}-start": f"{vec} _ .within _ (c .before .loop .inv .1)",
-        "returns": (f"""
-    let l = turn (refused c) .before .loop in
-    outcome-no {blanks} (c .refused-{name} .ensures ∙ ap (λ a. outcome {blanks} (no (numberOf a))) ({back(1)} .why .ensures ∙ ap whyOf ({told})))
-    (padded-no _ _ _ _ _ _ (vec-refused _ _ _ _ _ (turn (refused c) .loop-test .taken) (l .inv .1)
-    (told-not {blank} _ {source("refused c", "l .at")} ({told}))))""", name),
-        "add-at": f"""
-    let t = turn (called ({back(2)})) in
-    record {{ fits = lt-of-le-of-lt ({vec} _ .within _ (vec-next {element} {blank} _ _ (t .before .loop .inv .1) (one-more ({back(2)})))) (start t .good .0 .0) }}""",
-        "loop-less": "omega arith",
-        "loop-again": f"""
-    let l = turn (called ({back(2)})) .before .loop in
-    let m = called ({back(2)}) .{call} .result .value in (
-      omega arith,
-      vec-next {element} {blank} _ _ (l .inv .1) (one-more ({back(2)}))
-        ∙ ap (λ v. ok v (l .at + {back(2)} .to .given .0 .0)) (sym (filled-more (l .value) (l .i) m (omega (arith, l .inv .3)))),
-      unfilled-more (l .value) _ (l .i) m (l .inv .2),
-      length-set (l .value) (l .i) m ∙ l .inv .3,
-    )""",
-        "returns-2": (f"""
-    let l = c .before .loop in
-    let a = {back(4)} .args in
-    let e : l .i ≡ a .count = omega arith in
-    let v : l .value ≡ take (l .i) (l .value) ++ replicate (9 - a .count) {blank}
-        = sym (take-append-drop (l .i) (l .value))
-            ∙ ap (λ t. take (l .i) (l .value) ++ t) (l .inv .2 ∙ ap (drop (l .i)) ({back(2)} .{make} .ensures) ∙ blanks-after (l .i))
-            ∙ ap (λ n. take (l .i) (l .value) ++ replicate (9 - n) {blank}) e in
-    outcome-ok {blanks}
-    (padded-ok _ _ _ _ _ _ (subst (λ n. {vec} n .dec (a .bytes .now) ≡ ok (take (l .i) (l .value)) (l .at)) e (l .inv .1)) ∙ ap (λ x. ok x (l .at)) (sym v))""", name),
-    })
+'''
 
-
-def text(name, codec, blank, size):
-    """Sized bytes that are UTF-8, in a place of so many."""
-    call, zeros, refused = f"read_{name}", f"zeros{size}", "refused-" + kebab(name)
-    told, after = f"{back(2)} .enum-told .given .1", "tie.After-known-told"
-
-    def names(place):
-        return f"let n = text-size ({place}) in\n    let at = text-at ({place}) in\n    let s = input ({place}) in"
-
-    defs = "-- the start, from after the size was read; that place, from after the text was refused and from after its place was made\n"
-    defs += abbrev("start", f"{after} → tie.Start", back(5))
-    defs += abbrev("sized-refused", f"tie.After-{refused}2 → {after}", back(4))
-    defs += abbrev("sized-held", f"tie.After-place → {after}", back(5))
-    defs += "-- how many bytes the text has, where it begins, and in which bytes\n"
-    defs += abbrev("text-size", f"{after} → ℕ", "c .before .size .given .0 .0")
-    defs += abbrev("text-at", f"{after} → ℕ", "c .before .size .given .0 .1 .0")
-    defs += abbrev("input", f"{after} → List ℕ", "start c .args .bytes .now")
-    defs += f"""-- what was read
+# What was read of a text
+TEXT_READ = '''-- what was read
 is : (c : {after}) → sized {size} .dec (input c) ≡ ok (text-size c, take (text-size c) (drop (text-at c) (input c))) (text-at c + text-size c)
-is c = got (λ r. sizedRead r (input c)) ({back(3)} .read-sized .ensures) (c .before .size .given .1)
+is c = got (λ r. sizedRead r (input c)) ({before3} .read-sized .ensures) (c .before .size .given .1)
 
 fits : (c : {after}) → text-at c + text-size c ≤ length (input c)
 fits c = sized {size} .within _ (is c)
 
-"""
-    opened = f"{codec} string"
-    refill("reader", call, [
-        "use Prim.Native.Nat.{ℕ, _+_, _-_, _≤_}", PATH, "use mathlib.Core.List.{List, _++_}", FITS, ARITH,
-        "use lib.ListN.{length, take, drop, replicate, length-take, length-drop}", "use lib.Seq.{length-take-le}", RESULTS,
-        "use Rattle.format.specs.Combinators.{checked-ok, checked-no, checked-bad, via-ok, via-no}", "use Rattle.format.specs.Copy.{length-zeros}",
-        "use Rattle.format.specs.Fill.{put-zeros}", "use Rattle.format.specs.Num.{pick}", "use Rattle.format.specs.Put.{put}", NUMBER,
-        "use Rattle.identity.specs.Text.{isUtf8}", f"use Rattle.records.specs.Blank.{{{blank}}}", "use Rattle.records.specs.ValidationLaws.{failed, held}",
-        f"use Rattle.layout.specs.Layout.{{require, sized, string, {codec}}}", "use Rattle.layout.specs.LayoutLaws.{sized-small, part-is}",
-        "use Rattle.layout.specs.Reading.{outcome, sizedRead, whySized}", LAWS,
-    ], defs, {
-        "returns": (f"""
+'''
+
+
+def passed(refused, blank, why, definition, told, value="_"):
+    """That a refusal was passed on: the call `why`, of this definition, took it out of the answer,
+    which is told, and the call `refused` made the result of it."""
+    answer = f"ap (λ a. outcome {blank} (no (numberOf a))) ({back(1)} .{why} .ensures ∙ ap {definition} ({told}))"
+    return f"outcome-no {value} (c .{refused} .ensures ∙ {answer})"
+
+
+def places_back(*places):
+    """Names of places: the name, its type, and the steps back."""
+    return "".join(abbrev(name, kind, back(steps)) for name, kind, steps in places)
+
+
+class Optional:
+    """A flag, and after a yes the part."""
+
+    def __init__(self, name, codec, absent, blank, call, make):
+        self.name, self.codec, self.absent, self.blank, self.call, self.make = name, codec, absent, blank, call, make
+        self.whole, self.refused = f"opt {codec} {blank}", f"refused-optional-{name}"
+
+    def source(self, place):
+        """What the part's call ensures, of the bytes as the format has them."""
+        read = f"rest (start (at-flag (at-yes ({place}))) .args .bytes .now) _"
+        return f"({place} .{self.call} .ensures ∙ ap (λ l. outcome {self.blank} ({self.codec} .dec l)) ({read}))"
+
+    def defs(self):
+        part = f"tie.After-{self.call}"
+        out = "-- the start and the flag's place, from after them; the part's call, from after the part and from after its refusal\n"
+        out += places_back(
+            ("start", "tie.After-flag → tie.Start", 4), ("at-flag", "tie.Else1 → tie.After-flag", 2), ("at-yes", f"{part} → tie.Else1", 2),
+            ("called", f"tie.After-value → {part}", 4), ("refused", f"tie.After-{self.refused}2 → {part}", 4))
+        out += "-- how many bytes the flag has, and the whole\n"
+        out += abbrev("flag-size", "tie.After-flag → ℕ", "c .flag .given .0 .1 .0")
+        out += abbrev("size", "tie.After-value → ℕ", f"flag-size (at-flag (at-yes (called c))) + {back(2)} .to .given .0 .0")
+        words = {"before2": back(2), "part-source": self.source("called c")}
+        return out + OPTIONAL.format(whole=self.whole, call=self.call, blank=self.blank, **words)
+
+    def uses(self):
+        return [
+            "use Prim.Native.Nat.{ℕ, _+_}", PATH, "use mathlib.Core.Bool.{true, false}", FITS, "use borrow.Author.Tests.{not-true, not-false}", RESULTS,
+            "use Rattle.format.specs.Combinators.{rest}", "use Rattle.format.specs.List.{flag, opt, opt-no, opt-none, opt-some, opt-bad}", NUMBER,
+            f"use Rattle.records.specs.Blank.{{{self.blank}}}", f"use Rattle.layout.specs.Layout.{{{self.codec}}}",
+            f"use Rattle.layout.specs.Parts.{{{self.absent}}}", "use Rattle.layout.specs.Reading.{outcome, boolRead, whyOf, whyBool}", LAWS,
+        ]
+
+    def refusals(self):
+        """The returns where the flag or the part was refused."""
+        told = f"{back(2)} .enum-told2 .given .1"
+        return {
+            "returns": f"""
+    {passed(self.refused, self.absent, "why-bool", "whyBool", TOLD, self.absent)}
+    (opt-no _ _ _ (got boolRead ({back(4)} .read-flag .ensures) ({TOLD})))""",
+            "returns-3": f"""
+    {passed(self.refused + "2", self.absent, "why", "whyOf", told, self.absent)}
+    (opt-bad _ _ _ (flagged-yes (at-yes (refused c)))
+    (told-not {self.blank} _
+    {self.source("refused c")}
+    ({told})))""",
+        }
+
+    def write(self):
+        refill("decode", f"read_optional_{self.name}", self.uses(), self.defs(), {
+            **self.refusals(),
+            "returns-2": f"""
+    let f = {back(3)} in
+    let n = flag-size f in
+    let t = not-true _ (c .before .if1 .taken) in
+    let p : {self.whole} .dec (start f .args .bytes .now) ≡ ok (false, {self.blank}) n = opt-none _ _ _ (flagged f ∙ ap (λ b. ok b n) t) in
+    outcome-ok {self.absent} (p ∙ (λ i. ok (sym t i, sym (c .{self.make} .ensures) i) n))""",
+            f"sub-{self.call}": "flag .within _ (flagged (at-flag c))",
+            f"part-{self.call}-start": "flag .within _ (flagged (at-flag c))",
+            LAST_SUM: f"record {{ fits = lt-of-le-of-lt (({self.whole}) .within _ (both c)) (start (at-flag (at-yes (called c))) .good .0 .0) }}",
+            "returns-4": f"""
+    outcome-ok {self.absent}
+    (both c ∙ ap (λ b. ok (b, called c .{self.call} .result .value) (size c)) (sym (yes-is (at-yes (called c)))))""",
+        })
+
+
+class Places:
+    """The first so many of nine places."""
+
+    def __init__(self, name, element, blanks, blank, make):
+        self.name, self.element, self.blanks, self.blank, self.make = name, element, blanks, blank, make
+        self.call, self.vec = f"read-{element}", f"vec {element} {blank}"
+
+    def source(self, place, at):
+        """What the call in the loop ensures, of the bytes as the format has them."""
+        read = f"rest (start (turn ({place})) .args .bytes .now) ({at})"
+        return f"({place} .{self.call} .ensures ∙ ap (λ l. outcome {self.blank} ({self.element} .dec l)) ({read}))"
+
+    def defs(self):
+        of = "Inv-loop μ-loop"
+        part, to = f"tie.After-{self.call} {of}", f"tie.After-to {of}"
+        words = {"vec": self.vec, "element": self.element, "blank": self.blank, "blanks": self.blanks, "call": self.call, "of": of,
+                 "more-source": self.source("called c", "turn (called c) .before .loop .at")}
+        named = places_back(
+            ("start", f"tie.In-loop {of} → tie.Start {of}", 4), ("turn", f"{part} → tie.In-loop {of}", 2),
+            ("called", f"{to} → {part}", 2), ("refused", f"tie.After-refused-{self.name} {of} → {part}", 4))
+        return PLACES_LOOP.format(**words) + named + ONE_MORE.format(**words)
+
+    def uses(self):
+        return [
+            "use Prim.Native.Nat.{ℕ, _+_, _-_, _≤_}", PATH, "use mathlib.Core.List.{_++_}", FITS, ARITH,
+            "use lib.ListN.{length, take, drop, set, replicate, length-set, take-append-drop}", RESULTS, "use Rattle.format.specs.Combinators.{rest}",
+            "use Rattle.format.specs.Copy.{filled-more, unfilled-more, drop-replicate}",
+            "use Rattle.format.specs.List.{vec, vec-start, vec-next, vec-refused, padded-ok, padded-no}", NUMBER,
+            f"use Rattle.records.specs.Blank.{{{self.blank}}}", f"use Rattle.layout.specs.Layout.{{{self.element}, {self.name}}}",
+            f"use Rattle.layout.specs.Parts.{{{self.blanks}}}", "use Rattle.layout.specs.Reading.{outcome, whyOf}", LAWS,
+        ]
+
+    def turns(self):
+        """The needs of the loop."""
+        holds = f"(search needs, vec-start {self.element} {self.blank} _, refl, ap length (c .{self.make} .ensures))"
+        return {
+            "loop-holds": (holds, self.blanks),
+            f"sub-{self.call}": f"{self.vec} _ .within _ (c .before .loop .inv .1)",
+            f"part-{self.call}-start": f"{self.vec} _ .within _ (c .before .loop .inv .1)",
+            "add-at": f"""
+    let t = turn (called ({back(2)})) in
+    record {{ fits = lt-of-le-of-lt ({self.vec} _ .within _ (vec-next {self.element} {self.blank} _ _ (t .before .loop .inv .1) (one-more ({back(2)})))) (start t .good .0 .0) }}""",
+            "loop-less": "omega arith",
+            "loop-again": f"""
+    let l = turn (called ({back(2)})) .before .loop in
+    let m = called ({back(2)}) .{self.call} .result .value in (
+      omega arith,
+      vec-next {self.element} {self.blank} _ _ (l .inv .1) (one-more ({back(2)}))
+        ∙ ap (λ v. ok v (l .at + {back(2)} .to .given .0 .0)) (sym (filled-more (l .value) (l .i) m (omega (arith, l .inv .3)))),
+      unfilled-more (l .value) _ (l .i) m (l .inv .2),
+      length-set (l .value) (l .i) m ∙ l .inv .3,
+    )""",
+        }
+
+    def returns(self):
+        """The returns: where a place was refused, and at the end."""
+        return {
+            "returns": (f"""
+    let l = turn (refused c) .before .loop in
+    {passed("refused-" + self.name, self.blanks, "why", "whyOf", TOLD, self.blanks)}
+    (padded-no _ _ _ _ _ _ (vec-refused _ _ _ _ _ (turn (refused c) .loop-test .taken) (l .inv .1)
+    (told-not {self.blank} _ {self.source("refused c", "l .at")} ({TOLD}))))""", self.name),
+            "returns-2": (f"""
+    let l = c .before .loop in
+    let a = {back(4)} .args in
+    let e : l .i ≡ a .count = omega arith in
+    let v : l .value ≡ take (l .i) (l .value) ++ replicate (9 - a .count) {self.blank}
+        = sym (take-append-drop (l .i) (l .value))
+            ∙ ap (λ t. take (l .i) (l .value) ++ t) (l .inv .2 ∙ ap (drop (l .i)) ({back(2)} .{self.make} .ensures) ∙ blanks-after (l .i))
+            ∙ ap (λ n. take (l .i) (l .value) ++ replicate (9 - n) {self.blank}) e in
+    outcome-ok {self.blanks}
+    (padded-ok _ _ _ _ _ _ (subst (λ n. {self.vec} n .dec (a .bytes .now) ≡ ok (take (l .i) (l .value)) (l .at)) e (l .inv .1)) ∙ ap (λ x. ok x (l .at)) (sym v))""", self.name),
+        }
+
+    def write(self):
+        searched = [f"{self.make}-requires", f"part-{self.call}-end", f"{self.call}-requires", "enum-known-to", "enum-told", "why-requires",
+                    f"refused-{self.name}-requires", "mul-value", "array-set-from-value", "add-i"]
+        needs = {**dict.fromkeys(searched, "search needs"), **self.turns(), **self.returns()}
+        refill("decode", f"read_{self.name}", self.uses(), self.defs(), needs)
+
+
+class Text:
+    """Sized bytes that are UTF-8, in a place of so many."""
+
+    def __init__(self, name, codec, blank, size):
+        self.name, self.codec, self.blank, self.size = name, codec, blank, size
+        self.zeros, self.refused, self.opened = f"zeros{size}", "refused-" + kebab(name), f"{codec} string"
+
+    def names(self, place):
+        """Names for the text's size, its place and the bytes, for the lines that follow."""
+        return f"let n = text-size ({place}) in\n    let at = text-at ({place}) in\n    let s = input ({place}) in"
+
+    def defs(self):
+        after = "tie.After-known-told"
+        out = "-- the start, from after the size was read; that place, from after the text was refused and from after its place was made\n"
+        out += places_back(("start", f"{after} → tie.Start", 5), ("sized-refused", f"tie.After-{self.refused}2 → {after}", 4),
+                           ("sized-held", f"tie.After-place → {after}", 5))
+        out += "-- how many bytes the text has, where it begins, and in which bytes\n"
+        out += abbrev("text-size", f"{after} → ℕ", "c .before .size .given .0 .0")
+        out += abbrev("text-at", f"{after} → ℕ", "c .before .size .given .0 .1 .0")
+        out += abbrev("input", f"{after} → List ℕ", "start c .args .bytes .now")
+        return out + TEXT_READ.format(after=after, size=self.size, before3=back(3))
+
+    def uses(self):
+        return [
+            "use Prim.Native.Nat.{ℕ, _+_, _-_, _≤_}", PATH, "use mathlib.Core.List.{List, _++_}", FITS, ARITH,
+            "use lib.ListN.{length, take, drop, replicate, length-take, length-drop}", "use lib.Seq.{length-take-le}", RESULTS,
+            "use Rattle.format.specs.Combinators.{checked-ok, checked-no, checked-bad, via-ok, via-no}", "use Rattle.format.specs.Copy.{length-zeros}",
+            "use Rattle.format.specs.Fill.{put-zeros}", "use Rattle.format.specs.Num.{pick}", "use Rattle.format.specs.Put.{put}", NUMBER,
+            "use Rattle.identity.specs.Text.{isUtf8}", f"use Rattle.records.specs.Blank.{{{self.blank}}}",
+            "use Rattle.records.specs.ValidationLaws.{failed, held}", f"use Rattle.layout.specs.Layout.{{require, sized, string, {self.codec}}}",
+            "use Rattle.layout.specs.LayoutLaws.{sized-small, part-is}", "use Rattle.layout.specs.Reading.{outcome, sizedRead, whySized}", LAWS,
+        ]
+
+    def refusals(self):
+        """The returns where the size or the text was refused."""
+        return {
+            "returns": (f"""
     let s = {back(6)} .args .bytes .now in
-    outcome-no _ (c .{refused} .ensures ∙ ap (λ a. outcome {blank} (no (numberOf a))) ({back(1)} .why-sized .ensures ∙ ap whySized ({told})))
-    (via-no _ _ _ _ _ (checked-no _ _ _ (got (λ r. sizedRead r s) ({back(4)} .read-sized .ensures) ({told}))))""", opened),
-        "add-end": "record { fits = lt-of-le-of-lt (fits c) (start c .good .0 .0) }",
-        "sub-text": "omega arith",
-        "part-text-start": "omega arith",
-        "part-text-end": "fits c",
-        "returns-2": (f"""
-    {names("sized-refused c")}
-    outcome-no _ (c .{refused}2 .ensures)
+    {passed(self.refused, self.blank, "why-sized", "whySized", TOLD)}
+    (via-no _ _ _ _ _ (checked-no _ _ _ (got (λ r. sizedRead r s) ({back(4)} .read-sized .ensures) ({TOLD}))))""", self.opened),
+            "returns-2": (f"""
+    {self.names("sized-refused c")}
+    outcome-no _ (c .{self.refused}2 .ensures)
     (via-no _ _ _ _ _ (checked-bad _ _ _ (is (sized-refused c))
-    (ap require (ap isUtf8 (sym (part-is n at s)) ∙ failed ({back(2)} .is-utf8 .ensures) ({back(1)} .if1 .taken)))))""", opened + " pick"),
-        "put-bytes-requires": f"""
-    {names("sized-held c")}
-    let z : length ({back(1)} .{zeros} .result) ≡ {size} = ap length ({back(1)} .{zeros} .ensures) ∙ length-zeros {size} in
-    omega (arith, length-take (at + n - at) (drop at s), z, sized-small {size} s (is (sized-held c)))""",
-        "returns-3": (f"""
+    (ap require (ap isUtf8 (sym (part-is n at s)) ∙ failed ({back(2)} .is-utf8 .ensures) ({back(1)} .if1 .taken)))))""", self.opened + " pick"),
+        }
+
+    def held(self):
+        """The text in its place: that it has room there, and the return with it."""
+        return {
+            "put-bytes-requires": f"""
+    {self.names("sized-held c")}
+    let z : length ({back(1)} .{self.zeros} .result) ≡ {self.size} = ap length ({back(1)} .{self.zeros} .ensures) ∙ length-zeros {self.size} in
+    omega (arith, length-take (at + n - at) (drop at s), z, sized-small {self.size} s (is (sized-held c)))""",
+            "returns-3": (f"""
     let k = sized-held ({back(2)}) in
-    {names("k")}
+    {self.names("k")}
     let l = take n (drop at s) in
     let h : length l ≡ n = length-take-le n (drop at s) (omega (arith, length-drop at s, fits k)) in
-    let p = {back(1)} .put-bytes .ensures .bytes ∙ (λ i. put (part-is n at s i) 0 ({back(3)} .{zeros} .ensures i)) ∙ put-zeros l {size} ∙ ap (λ m. l ++ replicate ({size} - m) 0) h in
-    outcome-ok {blank}
+    let p = {back(1)} .put-bytes .ensures .bytes ∙ (λ i. put (part-is n at s i) 0 ({back(3)} .{self.zeros} .ensures i)) ∙ put-zeros l {self.size} ∙ ap (λ m. l ++ replicate ({self.size} - m) 0) h in
+    outcome-ok {self.blank}
     (via-ok _ _ _ _ _ (checked-ok _ _ _ (is k)
     (ap require (ap isUtf8 (sym (part-is n at s)) ∙ held ({back(5)} .is-utf8 .ensures) ({back(4)} .if1 .left))))
-        ∙ ap (λ b. ok (record {{ len = n; bytes = b }}) (at + n)) (sym p))""", opened + " pick"),
-    })
+        ∙ ap (λ b. ok (record {{ len = n; bytes = b }}) (at + n)) (sym p))""", self.opened + " pick"),
+        }
+
+    def write(self):
+        refill("reader", f"read_{self.name}", self.uses(), self.defs(), {
+            "add-end": "record { fits = lt-of-le-of-lt (fits c) (start c .good .0 .0) }",
+            "sub-text": "omega arith",
+            "part-text-start": "omega arith",
+            "part-text-end": "fits c",
+            **self.refusals(),
+            **self.held(),
+        })
 
 
 def array(size):
@@ -824,12 +909,12 @@ def passed_on(module, name):
 
 
 TEMPLATES = {
-    "read_optional_result": lambda: optional("result", "result", "absentResult", "blankVoterReplacementResult", "read-result", "blank-voter-replacement-result"),
-    "read_optional_snapshot": lambda: optional("snapshot", "snapshot", "absentSnapshot", "blankVoterSnapshotEvidence", "read-snapshot", "blank-voter-snapshot-evidence"),
-    "read_members": lambda: places("members", "member", "blankVoterSlotMembers", "blankVoterSlotMember", "blank-voter-slot-members"),
-    "read_slots": lambda: places("slots", "slot", "blankVoterSlotRecords", "blankVoterSlotRecord", "blank-voter-slot-records"),
-    "read_spiffe_id": lambda: text("spiffe_id", "spiffeId", "blankSpiffeId", 2048),
-    "read_snapshot_id": lambda: text("snapshot_id", "snapshotId", "blankSnapshotId", 256),
+    "read_optional_result": Optional("result", "result", "absentResult", "blankVoterReplacementResult", "read-result", "blank-voter-replacement-result").write,
+    "read_optional_snapshot": Optional("snapshot", "snapshot", "absentSnapshot", "blankVoterSnapshotEvidence", "read-snapshot", "blank-voter-snapshot-evidence").write,
+    "read_members": Places("members", "member", "blankVoterSlotMembers", "blankVoterSlotMember", "blank-voter-slot-members").write,
+    "read_slots": Places("slots", "slot", "blankVoterSlotRecords", "blankVoterSlotRecord", "blank-voter-slot-records").write,
+    "read_spiffe_id": Text("spiffe_id", "spiffeId", "blankSpiffeId", 2048).write,
+    "read_snapshot_id": Text("snapshot_id", "snapshotId", "blankSnapshotId", 256).write,
     "read_array16": lambda: array(16),
     "read_array32": lambda: array(32),
     "read_array64": lambda: array(64),
