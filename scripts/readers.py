@@ -568,11 +568,10 @@ LAST_SUM = "the last sum"
 # What the answer was that a call was refused with, at a return after it
 TOLD = f"{back(2)} .enum-told .given .1"
 
-
 # What is said of the flag of an optional part, and of the whole
 OPTIONAL = '''-- the flag, what it says in the branch of a yes, and the whole
 flagged : (c : tie.After-flag) → flag .dec (start c .args .bytes .now) ≡ ok (c .flag .given .0 .0) (flag-size c)
-flagged c = got boolRead ({before2} .read-flag .ensures) (c .flag .given .1)
+flagged c = got boolRead (c .before .before .read-flag .ensures) (c .flag .given .1)
 
 yes-is : (c : tie.Else1) → at-flag c .flag .given .0 .0 ≡ true
 yes-is c = not-false _ (c .if1 .left)
@@ -584,8 +583,8 @@ both : (c : tie.After-value) → {whole} .dec (start (at-flag (at-yes (called c)
 both c =
     opt-some _ _ _ (flagged-yes (at-yes (called c)))
     (told {blank} _
-    {part-source}
-    ({before2} .to .given .1))
+    {source}
+    (c .before .before .to .given .1))
 
 '''
 
@@ -614,7 +613,7 @@ blanks-after i = drop-replicate i 9 {blank}
 # What was read of a text
 TEXT_READ = '''-- what was read
 is : (c : {after}) → sized {size} .dec (input c) ≡ ok (text-size c, take (text-size c) (drop (text-at c) (input c))) (text-at c + text-size c)
-is c = got (λ r. sizedRead r (input c)) ({before3} .read-sized .ensures) (c .before .size .given .1)
+is c = got (λ r. sizedRead r (input c)) (c .before .before .before .read-sized .ensures) (c .before .size .given .1)
 
 fits : (c : {after}) → text-at c + text-size c ≤ length (input c)
 fits c = sized {size} .within _ (is c)
@@ -655,8 +654,7 @@ class Optional:
         out += "-- how many bytes the flag has, and the whole\n"
         out += abbrev("flag-size", "tie.After-flag → ℕ", "c .flag .given .0 .1 .0")
         out += abbrev("size", "tie.After-value → ℕ", f"flag-size (at-flag (at-yes (called c))) + {back(2)} .to .given .0 .0")
-        words = {"before2": back(2), "part-source": self.source("called c")}
-        return out + OPTIONAL.format(whole=self.whole, call=self.call, blank=self.blank, **words)
+        return out + OPTIONAL.format(whole=self.whole, call=self.call, blank=self.blank, source=self.source("called c"))
 
     def uses(self):
         return [
@@ -800,7 +798,7 @@ class Text:
         out += abbrev("text-size", f"{after} → ℕ", "c .before .size .given .0 .0")
         out += abbrev("text-at", f"{after} → ℕ", "c .before .size .given .0 .1 .0")
         out += abbrev("input", f"{after} → List ℕ", "start c .args .bytes .now")
-        return out + TEXT_READ.format(after=after, size=self.size, before3=back(3))
+        return out + TEXT_READ.format(after=after, size=self.size)
 
     def uses(self):
         return [
