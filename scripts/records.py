@@ -236,8 +236,7 @@ def of_itself(field):
     }[field.kind]()
 
 
-def equality_laws():
-    parts = ['''
+LAWS_HEAD = '''
 -- Laws of equality: a test that holds is a path, each value is the same as itself, and the steps of the loops over lists. %s
 -- Each name here is a step of a proof; what is right is said in Equality.
 -- Assumes nothing.
@@ -252,7 +251,9 @@ use lib.Seq.{take-all}
 use lib.Dec.{eqb}
 use borrow.Author.Tests.{eqb-true, eq-eqb}
 use Rattle.records.specs.Equality.{allTrue, eqList, eqBytes, %s}
-%s''' % (BY, all_of('same'), DECLARED), '''
+%s'''
+
+ANY_TEST_LAWS = '''
 -- ---- any test with the laws `-true` and `-refl`
 
 module _ {A : Type 0} (f : A → A → Bool) where
@@ -268,7 +269,9 @@ module _ {A : Type 0} (f : A → A → Bool) where
       not-true : (t : Bool) → (t ≡ true → ⊥) → t ≡ false
       not-true true h = absurd (h refl)
       not-true false h = refl
-''', '''
+'''
+
+TEST_LAWS = '''
 -- ---- numbers, bools and lists of tests
 
 eqb-refl : (n : ℕ) → eqb n n ≡ true
@@ -298,7 +301,9 @@ all-each (p ∷ (q ∷ ps)) h = let k = and-eq-true-iff p (allTrue (q ∷ ps)) .
 pub all-first : (p q : Bool) (ps : List Bool) → p ≡ false → allTrue (p ∷ (q ∷ ps)) ≡ false
 unfolding allTrue
 all-first p q ps h = rw h
-''', '''
+'''
+
+LIST_LAWS = '''
 -- ---- lists
 
 module _ {A : Type 0} (f : A → A → Bool) where
@@ -344,21 +349,17 @@ module _ {A : Type 0} (f : A → A → Bool) where
   pub eqList-end : (a b : List A) (i : ℕ) (same : Bool) → length a ≤ i → length b ≤ i
       → same ≡ eqList f (take i a) (take i b) → same ≡ eqList f a b
   eqList-end a b i same h k p = p ∙ (λ j. eqList f (take-all i a h j) (take-all i b k j))
-''', '''
+'''
+
+BYTES_LAWS = '''
 pub eqBytes-true : (a b : List ℕ) → eqBytes a b ≡ true → a ≡ b
 eqBytes-true a b h = eqList-true eqb eqb-true a b h
 
 pub eqBytes-refl : (a : List ℕ) → eqBytes a a ≡ true
 eqBytes-refl a = eqList-refl eqb eqb-refl a
-''', '-- ---- the records']
-    for name, fields in RECORDS.items():
-        lets, path = '', 'e'
-        for i, field in enumerate(fields):
-            lets += '    let e%d : a .%s ≡ b .%s = %s (%s .0) in\n' % (i, field.quoted(), field.quoted(), from_true(field), path)
-            path += ' .1'
-        paths = record(['%s = e%d i' % (field.quoted(), i) for i, field in enumerate(fields)], 'λ i. ')
-        selves = listed('rw', [of_itself(field) for field in fields])
-        parts.append('''
+'''
+
+RECORD_LAWS = '''
 pub same{0}-true : (a b : {0}) → same{0} a b ≡ true → a ≡ b
 unfolding same{0}
 same{0}-true a b h =
@@ -368,8 +369,24 @@ same{0}-true a b h =
 pub same{0}-refl : (a : {0}) → same{0} a a ≡ true
 unfolding allTrue same{0}
 {3}
-'''.format(name, lets, paths, clause('same%s-refl a' % name, selves)))
-    write('specs/EqualityLaws.antt', *parts)
+'''
+
+
+def record_laws(name, fields):
+    """That a test of a record that holds is a path, and that each value is the same as itself."""
+    lets, path = '', 'e'
+    for i, field in enumerate(fields):
+        lets += '    let e%d : a .%s ≡ b .%s = %s (%s .0) in\n' % (i, field.quoted(), field.quoted(), from_true(field), path)
+        path += ' .1'
+    paths = record(['%s = e%d i' % (field.quoted(), i) for i, field in enumerate(fields)], 'λ i. ')
+    selves = listed('rw', [of_itself(field) for field in fields])
+    return RECORD_LAWS.format(name, lets, paths, clause('same%s-refl a' % name, selves))
+
+
+def equality_laws():
+    head = LAWS_HEAD % (BY, all_of('same'), DECLARED)
+    records = [record_laws(name, fields) for name, fields in RECORDS.items()]
+    write('specs/EqualityLaws.antt', head, ANY_TEST_LAWS, TEST_LAWS, LIST_LAWS, BYTES_LAWS, '-- ---- the records', *records)
 
 
 # ---- equality: code
@@ -381,8 +398,7 @@ def is_apart(fields):
     return [field.kind for field in fields[:3]] == ['bytes'] * 3
 
 
-def equality_code():
-    parts = ['''
+EQUALITY_HEAD = '''
 // Whether two records are the same, field by field. %s
 //
 // Stands for the `PartialEq` that openpacketcore-sdk derives in
@@ -392,7 +408,9 @@ def equality_code():
 // byte by byte.
 ghost use mathlib.Core.Path.{_≡_};
 ghost use Rattle.records.specs.Equality.{eqBytes, eqList, %s};
-%s''' % (BY, all_of('same'), use_rattle(NAMES)), '''
+%s'''
+
+SAME_BYTES = '''
 // Whether two slices hold the same bytes.
 pub fn same_bytes(a: &[u8], b: &[u8]) -> bool
     ensures { λ r. ⌜ r ≡ eqBytes (now (a .entry)) (now (b .entry)) ⌝ }
@@ -408,43 +426,25 @@ pub fn same_bytes(a: &[u8], b: &[u8]) -> bool
     }
     same
 }
-''']
-    for size in SIZES:
-        parts.append('''
+'''
+
+SAME_SIZE = '''
 pub fn same{0}(a: [u8; {0}], b: [u8; {0}]) -> bool
     ensures {{ λ r. ⌜ r ≡ eqBytes a b ⌝ }}
 {{
     same_bytes(&a, &b)
 }}
-'''.format(size))
-    for name, fields in RECORDS.items():
-        lets, tests = '', []
-        for field in fields:
-            if field.kind in ('number', 'bool'):
-                tests.append('(a.{0} == b.{0})'.format(field.name))
-                continue
-            pair = '&a.{0}, &b.{0}'
-            if field.kind != 'bytes':
-                lets += '    let a_{0} = a.{0};\n    let b_{0} = b.{0};\n'.format(field.name)
-                pair = 'a_{0}, b_{0}'
-            call = '%s(%s)' % (same_of(field), pair.format(field.name))
-            if field is fields[0] and is_apart(fields):
-                lets += '    if !%s {\n        return false;\n    }\n' % call
-            else:
-                lets += '    let %s = %s;\n' % (field.name, call)
-                tests.append(field.name)
-        answer = tests[-1]
-        for one in reversed(tests[:-1]):
-            answer = '%s & (%s)' % (one, answer) if ' & ' in answer else '%s & %s' % (one, answer)
-        parts.append('''
+'''
+
+SAME_RECORD = '''
 pub fn same_{0}(a: {1}, b: {1}) -> bool
     ensures {{ λ r. ⌜ r ≡ same{1} a b ⌝ }}
 {{
 {2}    {3}
 }}
-'''.format(snake(name), name, lets, answer))
-        if name in NINES:
-            parts.append('''
+'''
+
+SAME_NINE = '''
 // The nine places of a table or a configuration, whatever its count.
 pub fn same_{0}s(a: [{1}; {2}], b: [{1}; {2}]) -> bool
     ensures {{ λ r. ⌜ r ≡ eqList same{1} a b ⌝ }}
@@ -459,7 +459,48 @@ pub fn same_{0}s(a: [{1}; {2}], b: [{1}; {2}]) -> bool
     }}
     same
 }}
-'''.format(snake(name), name, PLACES_NAME))
+'''
+
+
+def joined(tests, operator):
+    """The tests with the operator between them, in brackets from the right."""
+    whole = tests[-1]
+    for one in reversed(tests[:-1]):
+        whole = ('%s%s(%s)' if operator in whole else '%s%s%s') % (one, operator, whole)
+    return whole
+
+
+def returns_early(call):
+    return '    if !%s {\n        return false;\n    }\n' % call
+
+
+def same_code(name, fields):
+    """The test of two records, field by field."""
+    lets, tests = '', []
+    for field in fields:
+        if field.kind in ('number', 'bool'):
+            tests.append('(a.{0} == b.{0})'.format(field.name))
+            continue
+        pair = '&a.{0}, &b.{0}'
+        if field.kind != 'bytes':
+            lets += '    let a_{0} = a.{0};\n    let b_{0} = b.{0};\n'.format(field.name)
+            pair = 'a_{0}, b_{0}'
+        call = '%s(%s)' % (same_of(field), pair.format(field.name))
+        if field is fields[0] and is_apart(fields):
+            lets += returns_early(call)
+        else:
+            lets += '    let %s = %s;\n' % (field.name, call)
+            tests.append(field.name)
+    return SAME_RECORD.format(snake(name), name, lets, joined(tests, ' & '))
+
+
+def equality_code():
+    parts = [EQUALITY_HEAD % (BY, all_of('same'), use_rattle(NAMES)), SAME_BYTES]
+    parts += [SAME_SIZE.format(size) for size in SIZES]
+    for name, fields in RECORDS.items():
+        parts.append(same_code(name, fields))
+        if name in NINES:
+            parts.append(SAME_NINE.format(snake(name), name, PLACES_NAME))
     write('src/equality.rt', *parts)
 
 
@@ -518,60 +559,75 @@ def requires(calls):
 
 def along(tests):
     """The tests, joined as in the code, each along its path to the definition."""
-    path = tests[-1]
-    for one in reversed(tests[:-1]):
-        path = '%s && (%s)' % (one, path) if ' && ' in path else '%s && %s' % (one, path)
+    path = joined(tests, ' && ')
     if len(path) + 9 > MOST:
         return '\n    ' + path.replace(' && ', '\n    && ')
     return ' ' + path
 
 
+class Steps:
+    """How many steps of the walk a function takes: for a call with lent arrays, for one with copied
+    structs, and for a comparison where no array is lent (with one there are none)."""
+
+    def __init__(self, lent, copied, comparison):
+        self.lent, self.copied, self.comparison = lent, copied, comparison
+
+    def back(self, fields, called):
+        """From the return back to the calls, of which there is one for each field in `called`. Gives
+        the lines that name their places, the name of each place, and the steps from the first call
+        to the start."""
+        lends = any(field.kind == 'bytes' for field in fields)
+        lets, at, steps, places = '', 'c', 0 if lends else self.comparison * (len(fields) - len(called)), []
+        for i in reversed(range(len(called))):
+            if i == 0 and is_apart(fields):
+                # one step more to a test by itself
+                lets += '    let e = %s%s in\n' % (at, ' .before' * steps)
+                at, steps = 'e', 1
+            if steps:
+                lets += '    let c%d = %s%s in\n' % (i, at, ' .before' * steps)
+                at = 'c%d' % i
+            places.insert(0, at)
+            steps = self.lent if called[i].kind == 'bytes' else self.copied
+        return lets, places, ' .before' * steps
+
+
+# of a test of two records
+SAME_STEPS = Steps(7, 3, 2)
+
+
+def same_returns(fields, compared, known):
+    """The proof of the last return, from what the calls ensure."""
+    if not compared:
+        return 'returns c = search needs'
+    lets, places, start = SAME_STEPS.back(fields, compared)
+    told = ['%s .%s .ensures' % pair for pair in zip(places, known)]
+    if not is_apart(fields):
+        return 'returns c =\n%s%s' % (lets, listed('simp', told))
+    # more calls than `simp` takes: the path from the code to the definition, field by field
+    lets += ''.join('    let %s = %s%s .args .%s in\n' % (name, places[0], start, arg) for name, arg in (('a', 't1'), ('b', 't2')))
+    told[0] = 'sym (held (%s) (e .if1 .left))' % told[0]
+    paths = ['%s i' % told.pop(0) if field in compared else test(field) for field in fields]
+    return 'returns-2 c =\n%s    λ i.%s' % (lets, along(paths))
+
+
+def same_proof(name, fields):
+    compared = [field for field in fields if field.kind not in ('number', 'bool')]
+    needs, known = requires([same_of(field) for field in compared])
+    returns = 'unfolding allTrue same%s\n%s' % (name, same_returns(fields, compared, known))
+    uses = [NEEDS, 'Rattle.records.specs.Equality.{allTrue, same%s}' % name]
+    if is_apart(fields):
+        first = 'returns c = sym (all-first _ _ _ (failed (c .before .%s .ensures) (c .if1 .taken)))' % known[0]
+        needs.insert(1, need('returns', 'unfolding same%s\n%s' % (name, first)))
+        needs.append(need('returns-2', returns))
+        uses = ['mathlib.Core.Path.{sym}', 'mathlib.Core.Bool.{_&&_}', 'lib.Dec.{eqb}'] + uses + APART
+    else:
+        needs.append(need('returns', returns))
+    write_proof('equality', 'same_' + snake(name), 'field by field', uses, needs)
+
+
 def equality_proofs():
     for name, fields in RECORDS.items():
-        function = 'same_' + snake(name)
-        compared = [field for field in fields if field.kind not in ('number', 'bool')]
-        calls = [same_of(field) for field in compared]
-        needs, known = requires(calls)
-        apart = is_apart(fields)
-        answer = 'returns-2' if apart else 'returns'
-        head = 'unfolding allTrue same%s\n' % name
-        uses = ['Rattle.records.specs.Equality.{allTrue, same%s}' % name]
-        if calls:
-            # from the return back to each call: two steps for each comparison, and none where an
-            # array is lent; then seven for a call with two lent arrays and three for one with two
-            # copied structs; one more to a test by itself
-            lends = any(field.kind == 'bytes' for field in fields)
-            lets, at, steps = '', 'c', 0 if lends else 2 * (len(fields) - len(calls))
-            told = []
-            for i in range(len(calls) - 1, -1, -1):
-                if apart and i == 0:
-                    lets += '    let e = %s%s in\n' % (at, ' .before' * steps)
-                    at, steps = 'e', 1
-                if steps:
-                    lets += '    let c%d = %s%s in\n' % (i, at, ' .before' * steps)
-                    at = 'c%d' % i
-                told.insert(0, '%s .%s .ensures' % (at, known[i]))
-                steps = 7 if compared[i].kind == 'bytes' else 3
-            if apart:
-                told[0] = 'held (%s) (e .if1 .left)' % told[0]
-            returns = head + '%s c =\n%s%s' % (answer, lets, listed('simp', told))
-            if apart:
-                # more calls than `simp` takes: the path from the code to the definition, field by
-                # field
-                lets += '    let a = c0%s .args .t1 in\n    let b = c0%s .args .t2 in\n' % ((' .before' * 7,) * 2)
-                told[0] = 'sym (%s)' % told[0]
-                returns = head + '%s c =\n%s    λ i.%s' % (answer, lets, along([
-                    '%s i' % told.pop(0) if field in compared else test(field) for field in fields]))
-        else:
-            returns = head + 'returns c = search needs'
-        needs.append(need(answer, returns))
-        if apart:
-            needs.insert(1, need('returns', '''unfolding same{0}
-returns c = sym (all-first _ _ _ (failed (c .before .{1} .ensures) (c .if1 .taken)))'''.format(name, known[0])))
-            uses = ['mathlib.Core.Path.{sym}', 'mathlib.Core.Bool.{_&&_}', 'lib.Dec.{eqb}', NEEDS] + uses + APART
-        else:
-            uses = [NEEDS] + uses
-        write_proof('equality', function, 'field by field', uses, needs)
+        same_proof(name, fields)
         if name in NINES:
             nine_proof(name)
     bytes_proof()
