@@ -784,8 +784,7 @@ def zero_test(field):
     return field.name, '    let x_{0} = x.{0};\n    let {0} = {1}(x_{0});\n'.format(field.name, zero_of(field))
 
 
-def zero_code():
-    parts = ['''
+ZERO_HEAD = '''
 // Whether a record is blank, field by field, with no blank made. %s
 //
 // The forms are those of equality.rt: no loop is left early, and the first of three arrays in front
@@ -796,7 +795,9 @@ ghost use Rattle.identity.specs.Text.{every};
 ghost use Rattle.records.specs.Blank.{%s};
 ghost use Rattle.records.specs.Equality.{eqList, %s};
 ghost use Rattle.records.specs.Representable.{isZero};
-%s''' % (BY, all_of('blank', PARTS), all_of('same', PARTS), use_rattle(PARTS)), '''
+%s'''
+
+ZEROS = '''
 // Whether every byte is zero.
 pub fn zeros(bytes: &[u8]) -> bool
     ensures { λ r. ⌜ r ≡ every isZero (now (bytes .entry)) ⌝ }
@@ -809,24 +810,17 @@ pub fn zeros(bytes: &[u8]) -> bool
     }
     all
 }
-''']
-    for name in PARTS:
-        fields = RECORDS[name]
-        tests, lets = zip(*(zero_test(field) for field in fields))
-        if is_apart(fields):
-            tests, lets = tests[1:], ('    if !zeros(&x.%s) {\n        return false;\n    }\n' % fields[0].name,) + lets[1:]
-        answer = tests[-1]
-        for one in reversed(tests[:-1]):
-            answer = '%s & (%s)' % (one, answer) if ' & ' in answer else '%s & %s' % (one, answer)
-        parts.append('''
+'''
+
+IS_BLANK = '''
 pub fn is_blank_{0}(x: {1}) -> bool
     ensures {{ λ r. ⌜ r ≡ same{1} x blank{1} ⌝ }}
 {{
 {2}    {3}
 }}
-'''.format(snake(name), name, ''.join(lets), answer))
-        if name in PART_NINES:
-            parts.append('''
+'''
+
+IS_BLANK_NINE = '''
 // The nine places of a configuration, whatever its count.
 pub fn is_blank_{0}s(x: [{1}; {3}]) -> bool
     ensures {{ λ r. ⌜ r ≡ eqList same{1} x (replicate {2} blank{1}) ⌝ }}
@@ -840,7 +834,23 @@ pub fn is_blank_{0}s(x: [{1}; {3}]) -> bool
     }}
     all
 }}
-'''.format(snake(name), name, PLACES, PLACES_NAME))
+'''
+
+
+def is_blank_code(name, fields):
+    """The test of a record for its blank, field by field."""
+    tests, lets = zip(*(zero_test(field) for field in fields))
+    if is_apart(fields):
+        tests, lets = tests[1:], (returns_early('zeros(&x.%s)' % fields[0].name),) + lets[1:]
+    return IS_BLANK.format(snake(name), name, ''.join(lets), joined(tests, ' & '))
+
+
+def zero_code():
+    parts = [ZERO_HEAD % (BY, all_of('blank', PARTS), all_of('same', PARTS), use_rattle(PARTS)), ZEROS]
+    for name in PARTS:
+        parts.append(is_blank_code(name, RECORDS[name]))
+        if name in PART_NINES:
+            parts.append(IS_BLANK_NINE.format(snake(name), name, PLACES, PLACES_NAME))
     write('src/zero.rt', *parts)
 
 
@@ -876,61 +886,65 @@ returns c =
 {1}    sym (all-first _ _ _ (failed e0 (c .if1 .taken)))'''.format(name, zero_path(field, ('e0', 'c0', 'zeros'))[1]))
 
 
+def zero_uses(name, fields, asked):
+    """What the proof of a record's test for its blank uses."""
+    kinds = [field.kind for field in fields]
+    blank, same = ['blank' + name], ['allTrue', 'same' + name]
+    for field in asked:
+        if field.kind == 'bytes':
+            same.append('eqBytes')
+        else:
+            blank.append('blank' + field.struct)
+            same += ['same' + field.struct] + ['eqList'] * (field.kind == 'nine')
+    laws = ['zeros-blank'] * ('bytes' in kinds) + ['beq-false'] * ('bool' in kinds)
+    uses = ['mathlib.Core.Path.{%s}' % ('_≡_, sym' if is_apart(fields) else '_≡_' if asked else 'refl')]
+    if asked:
+        uses += ['mathlib.Core.Bool.{_&&_}']
+        uses += ['lib.ListN.{replicate}'] * ('bytes' in kinds or 'nine' in kinds)
+        uses += ['lib.Dec.{eqb}'] * ('number' in kinds) + [NEEDS]
+    uses += ['Rattle.records.specs.Blank.{%s}' % ', '.join(dict.fromkeys(blank))]
+    uses += ['Rattle.records.specs.Equality.{%s}' % ', '.join(dict.fromkeys(same))]
+    uses += APART if is_apart(fields) else []
+    return uses + ['Rattle.records.specs.ZeroLaws.{%s}' % ', '.join(laws)] * bool(laws)
+
+
+# of a test for a blank
+ZERO_STEPS = Steps(4, 2, 1)
+
+
+def zero_returns(fields, asked, known):
+    """The proof of the last return: the path from the code to the definition, field by field."""
+    if not asked:
+        return 'returns c = refl'
+    lets, places, start = ZERO_STEPS.back(fields, asked)
+    lends = any(field.kind == 'bytes' for field in fields)
+    lets += '    let x = %s%s .args .%s in\n' % (places[0], start, 't1' if lends else 'x')
+    calls = [('e%d' % i, place, call) for i, (place, call) in enumerate(zip(places, known))]
+    tests = []
+    for field in fields:
+        value, line = zero_path(field, calls.pop(0) if field in asked else None)
+        tests.append(value)
+        lets += line
+    if is_apart(fields):
+        tests[0] = 'sym (held e0 (e .if1 .left)) i'
+    return '%s c =\n%s    λ i.%s' % ('returns-2' if is_apart(fields) else 'returns', lets, along(tests))
+
+
+def is_blank_proof(name, fields):
+    asked = [field for field in fields if field.kind not in ('number', 'bool')]
+    needs, known = requires([zero_of(field) for field in asked])
+    returns = 'unfolding allTrue same{0} blank{0}\n{1}'.format(name, zero_returns(fields, asked, known))
+    if is_apart(fields):
+        needs.insert(1, first_fails(name, fields[0]))
+        needs.append(need('returns-2', returns))
+    else:
+        needs.append(need('returns', returns))
+    write_proof('zero', 'is_blank_' + snake(name), 'field by field', zero_uses(name, fields, asked), needs)
+
+
 def zero_proofs():
     for name in PARTS:
-        function = 'is_blank_' + snake(name)
-        fields = RECORDS[name]
-        asked = [field for field in fields if field.kind not in ('number', 'bool')]
-        kinds = [field.kind for field in fields]
-        needs, known = requires([zero_of(field) for field in asked])
-        apart = is_apart(fields)
-        answer = 'returns-2' if apart else 'returns'
-        head = 'unfolding allTrue same%s blank%s\n' % (name, name)
-        blank, same = ['blank' + name], ['allTrue', 'same' + name]
-        for field in asked:
-            if field.kind == 'bytes':
-                same.append('eqBytes')
-            else:
-                blank.append('blank' + field.struct)
-                same += ['same' + field.struct] + ['eqList'] * (field.kind == 'nine')
-        uses = ['mathlib.Core.Path.{%s}' % ('_≡_, sym' if apart else '_≡_' if asked else 'refl')]
-        if asked:
-            uses += ['mathlib.Core.Bool.{_&&_}']
-            uses += ['lib.ListN.{replicate}'] * ('bytes' in kinds or 'nine' in kinds)
-            uses += ['lib.Dec.{eqb}'] * ('number' in kinds) + [NEEDS]
-        uses += ['Rattle.records.specs.Blank.{%s}' % ', '.join(dict.fromkeys(blank))]
-        uses += ['Rattle.records.specs.Equality.{%s}' % ', '.join(dict.fromkeys(same))]
-        laws = ['zeros-blank'] * ('bytes' in kinds) + ['beq-false'] * ('bool' in kinds)
-        uses += APART if apart else []
-        uses += ['Rattle.records.specs.ZeroLaws.{%s}' % ', '.join(laws)] * bool(laws)
-        if asked:
-            # from the return back to each call: a step for each comparison, unless a field was
-            # lent; four for a lent field, two for a copied one; one more to a test by itself
-            lets, at, steps, calls = '', 'c', 0 if 'bytes' in kinds else len(fields) - len(asked), []
-            for i in range(len(asked) - 1, -1, -1):
-                if apart and i == 0:
-                    lets += '    let e = %s%s in\n' % (at, ' .before' * steps)
-                    at, steps = 'e', 1
-                if steps:
-                    lets += '    let c%d = %s%s in\n' % (i, at, ' .before' * steps)
-                    at = 'c%d' % i
-                calls.append(('e%d' % i, at, known[i]))
-                steps = 4 if asked[i].kind == 'bytes' else 2
-            lets += '    let x = %s%s .args .%s in\n' % (at, ' .before' * steps, 't1' if 'bytes' in kinds else 'x')
-            tests = []
-            for field in fields:
-                value, line = zero_path(field, calls.pop() if field in asked else None)
-                tests.append(value)
-                lets += line
-            if apart:
-                tests[0] = 'sym (held e0 (e .if1 .left)) i'
-            returns = head + '%s c =\n%s    λ i.%s' % (answer, lets, along(tests))
-        else:
-            returns = head + 'returns c = refl'
-        needs.append(need(answer, returns))
-        if apart:
-            needs.insert(1, first_fails(name, fields[0]))
-        write_proof('zero', function, 'field by field', uses, needs)
+        is_blank_proof(name, RECORDS[name])
         if name in PART_NINES:
             zero_nine_proof(name)
     zeros_proof()
@@ -1004,8 +1018,7 @@ def zeros_proof():
 # ---- what every value holds
 
 
-def held():
-    spec = ['''
+HELD_HEAD = '''
 -- What every value that the program holds has: each number fits its type, each array has its
 -- length. %s
 -- From the types of voter_slots/records.rs and identity.rs: for theorems over all records.
@@ -1015,7 +1028,9 @@ use mathlib.Core.Path.{_≡_}
 use mathlib.Core.List.{List, [], _∷_}
 use native.Mathlib.Omega.{arith}
 use lib.ListN.{length, getD, set, length-set}
-%s''' % (BY, DECLARED), '''
+%s'''
+
+HELD = '''
 -- P of every element
 abbrev pub AllOf : {A : Type 0} → (A → Type 0) → List A → Type 0
 AllOf P [] = Unit {0}
@@ -1045,8 +1060,9 @@ Byte x = x < 2 ^ 8
 
 abbrev pub HeldBytes : ℕ → List ℕ → Type 0
 HeldBytes n l = HeldArray Byte n l
-''']
-    proof = ['''
+'''
+
+HELD_PROOF_HEAD = '''
 -- What the program logic says of a value that a function owns, as the `Held` records of specs/Held.antt. %s
 -- Assumes nothing.
 use Prim.Native.Nat.{ℕ}
@@ -1060,7 +1076,9 @@ use denote.Array.{each, inArray}
 use denote.Plain.{UInt}
 use denote.Shadow.{shadow}
 use Rattle.records.specs.Held.{AllOf, HeldArray, Byte, HeldBytes, %s}
-%s%s''' % (BY, all_of('Held'), DECLARED, ''.join(use_generated(name) for name in NAMES)), '''
+%s%s'''
+
+HELD_PROOF = '''
 module _ {D X : Type 0} (own : D → List Val → Fml) (into : X → D) (P : X → Type 0) (h : (x : X) (vs : List Val) → shadow (own (into x) vs) → P x) where
   held-list : (xs : List X) (us : List Val) → shadow (each D own (map into xs) us) → AllOf P xs
   held-list [] us g = tt
@@ -1072,37 +1090,48 @@ module _ {D X : Type 0} (own : D → List Val → Fml) (into : X → D) (P : X �
 
 pub held-bytes : (n : ℕ) (l : List ℕ) (vs : List Val) → shadow (inArray ℕ (UInt w8 .own) n (map (λ (x : ℕ). x) l) vs) → HeldBytes n l
 held-bytes n l vs g = held-array (UInt w8 .own) (λ (x : ℕ). x) Byte (λ x us h. h .1) n l vs g
-''']
-    for name, fields in RECORDS.items():
-        holds, values, path = '', '', 'f'
-        for field in fields:
-            at, path = path + ' .0', path + ' .1'
-            r = field.of('r')
-            if field.kind == 'bool':
-                continue
-            if field.kind == 'number':
-                what, value = 'r .%s < 2 ^ %d' % (field.quoted(), field.bits), at + ' .1'
-            elif field.kind == 'bytes':
-                what, value = 'HeldBytes %d %s' % (field.size, r), 'held-bytes %d %s _ (%s)' % (field.size, r, at)
-            elif field.kind == 'nine':
-                what = 'HeldArray Held%s %d %s' % (field.struct, PLACES, r)
-                value = 'held-array (the{0}.the-field .row .own) (the{0}.the-field .into)\n          Held{0} held-{1} {2} {3} _ ({4})'.format(
-                    field.struct, kebab(field.struct), PLACES, r, at)
-            else:
-                what, value = 'Held%s %s' % (field.struct, r), 'held-%s %s _ (%s)' % (kebab(field.struct), r, at)
-            holds += '  pub %s : %s\n' % (field.quoted(), what)
-            values += '      %s = %s;\n' % (field.quoted(), value)
-        spec.append('pub record Held{0} (r : {0}) : Type 0 where\n{1}'.format(name, holds))
-        proof.append('''
+'''
+
+HELD_RECORD = '''
 pub held-{0} : (r : {1}) (vs : List Val)
     → shadow (the{1}.the-field .row .own (the{1}.the-field .into r) vs) → Held{1} r
 held-{0} r vs g =
     let f = g .1 .1 in
     record {{
 {2}    }}
-'''.format(kebab(name), name, values))
-    write('specs/Held.antt', *spec)
-    write('proofs/Held.antt', *proof)
+'''
+
+
+def held_field(field, at):
+    """What a field of r holds, and the proof of it, from what the logic says at a place."""
+    r = field.of('r')
+    if field.kind == 'number':
+        return 'r .%s < 2 ^ %d' % (field.quoted(), field.bits), at + ' .1'
+    if field.kind == 'bytes':
+        return 'HeldBytes %d %s' % (field.size, r), 'held-bytes %d %s _ (%s)' % (field.size, r, at)
+    if field.kind == 'nine':
+        proof = 'held-array (the{0}.the-field .row .own) (the{0}.the-field .into)\n          Held{0} held-{1} {2} {3} _ ({4})'
+        return 'HeldArray Held%s %d %s' % (field.struct, PLACES, r), proof.format(field.struct, kebab(field.struct), PLACES, r, at)
+    return 'Held%s %s' % (field.struct, r), 'held-%s %s _ (%s)' % (kebab(field.struct), r, at)
+
+
+def held_record(name, fields):
+    """What a record holds, as a definition, and the lemma that the logic says so."""
+    holds, values = '', ''
+    for i, field in enumerate(fields):
+        # a bool holds nothing more
+        if field.kind != 'bool':
+            what, value = held_field(field, 'f%s .0' % (' .1' * i))
+            holds += '  pub %s : %s\n' % (field.quoted(), what)
+            values += '      %s = %s;\n' % (field.quoted(), value)
+    return 'pub record Held{0} (r : {0}) : Type 0 where\n{1}'.format(name, holds), HELD_RECORD.format(kebab(name), name, values)
+
+
+def held():
+    definitions, lemmas = zip(*(held_record(name, fields) for name, fields in RECORDS.items()))
+    generated = ''.join(use_generated(name) for name in NAMES)
+    write('specs/Held.antt', HELD_HEAD % (BY, DECLARED), HELD, *definitions)
+    write('proofs/Held.antt', HELD_PROOF_HEAD % (BY, all_of('Held'), DECLARED, generated), HELD_PROOF, *lemmas)
 
 
 def use_generated(name):
