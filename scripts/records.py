@@ -545,6 +545,19 @@ def need(name, lines):
     return (name, 'Need-' + name, lines)
 
 
+def by_arith(*names):
+    """Needs that arithmetic answers."""
+    return [need(name, name + ' c = omega arith') for name in names]
+
+
+def loop_over(variables, invariant, measure):
+    """The invariant and the measure of a loop, over its variables."""
+    return [
+        ('Inv-loop', None, 'abbrev Inv-loop : tie.InvT-loop\nInv-loop %s = %s' % (variables, invariant)),
+        ('μ-loop', None, 'abbrev μ-loop : tie.MeasureT-loop\nμ-loop %s = %s' % (variables, measure)),
+    ]
+
+
 def requires(calls):
     """The need of each call, and the name under which the later code knows the call."""
     count, needs, known = {}, [], []
@@ -573,9 +586,9 @@ class Steps:
         self.lent, self.copied, self.comparison = lent, copied, comparison
 
     def back(self, fields, called):
-        """From the return back to the calls, of which there is one for each field in `called`. Gives
-        the lines that name their places, the name of each place, and the steps from the first call
-        to the start."""
+        """From the return back to the calls, of which there is one for each field in `called`.
+        Gives the lines that name their places, the name of each place, and the steps from the first
+        call to the start."""
         lends = any(field.kind == 'bytes' for field in fields)
         lets, at, steps, places = '', 'c', 0 if lends else self.comparison * (len(fields) - len(called)), []
         for i in reversed(range(len(called))):
@@ -644,16 +657,11 @@ def nine_proof(name):
         'Rattle.records.specs.Equality.{eqList, same%s}' % name,
         'Rattle.records.specs.EqualityLaws.{eqList-more, eqList-end}',
     ], [
-        ('Inv-loop', None, 'abbrev Inv-loop : tie.InvT-loop\nInv-loop a b same₀ i₀ same i = (i ≤ %d) × (same ≡ eqList same%s (take i a) (take i b))' % (PLACES, name)),
-        ('μ-loop', None, 'abbrev μ-loop : tie.MeasureT-loop\nμ-loop a b same₀ i₀ same i = %d - i' % PLACES),
+        *loop_over('a b same₀ i₀ same i', '(i ≤ %d) × (same ≡ eqList same%s (take i a) (take i b))' % (PLACES, name), '%d - i' % PLACES),
         need('loop-holds', 'unfolding eqList\nloop-holds c = (omega arith, refl)'),
-        need('mul-x', 'mul-x c = omega arith'),
-        need('array-copy-out-x', 'array-copy-out-x c = omega arith'),
-        need('mul-y', 'mul-y c = omega arith'),
-        need('array-copy-out-y', 'array-copy-out-y c = omega arith'),
+        *by_arith('mul-x', 'array-copy-out-x', 'mul-y', 'array-copy-out-y'),
         need(call + '-requires', call + '-requires c κs = search needs'),
-        need('add-i', 'add-i c = omega arith'),
-        need('loop-less', 'loop-less c = omega arith'),
+        *by_arith('add-i', 'loop-less'),
         need('loop-again', '''loop-again c =
     let l = c .before .before .before .before in
     let good = l .before .good in
@@ -679,14 +687,10 @@ def bytes_proof():
         'Rattle.records.specs.Equality.{eqList, eqBytes}',
         'Rattle.records.specs.EqualityLaws.{eqList-lengths, eqList-more, eqList-end}',
     ], [
-        ('Inv-loop', None, 'abbrev Inv-loop : tie.InvT-loop\nInv-loop a b same₀ i₀ same i = ((i ≤ length a) × (length a ≡ length b)) × (same ≡ eqBytes (take i a) (take i b))'),
-        ('μ-loop', None, 'abbrev μ-loop : tie.MeasureT-loop\nμ-loop a b same₀ i₀ same i = length a - i'),
+        *loop_over('a b same₀ i₀ same i', '((i ≤ length a) × (length a ≡ length b)) × (same ≡ eqBytes (take i a) (take i b))', 'length a - i'),
         need('returns', 'returns c = sym (eqList-lengths eqb _ _ (c .if1 .taken))'),
         need('loop-holds', 'unfolding eqList\nloop-holds c = ((omega arith, c .if1 .left), refl)'),
-        need('shared-slice-read-same', 'shared-slice-read-same c = omega arith'),
-        need('shared-slice-read-same-2', 'shared-slice-read-same-2 c = omega arith'),
-        need('add-i', 'add-i c = omega arith'),
-        need('loop-less', 'loop-less c = omega arith'),
+        *by_arith('shared-slice-read-same', 'shared-slice-read-same-2', 'add-i', 'loop-less'),
         need('loop-again', '''loop-again c =
     let l = c .before .before .before in
     (omega arith, eqList-more eqb 0 _ _ (l .loop .i) _ _ (omega arith) (omega arith) (l .loop .inv .1) refl)'''),
@@ -963,14 +967,11 @@ def zero_nine_proof(name):
         'Rattle.records.specs.EqualityLaws.{eqList-end}',
         'Rattle.records.specs.ZeroLaws.{blank-more}',
     ], [
-        ('Inv-loop', None, 'abbrev Inv-loop : tie.InvT-loop\nInv-loop x all₀ i₀ all i = (i ≤ {0}) × (all ≡ eqList same{1} (take i x) (take i (replicate {0} blank{1})))'.format(PLACES, name)),
-        ('μ-loop', None, 'abbrev μ-loop : tie.MeasureT-loop\nμ-loop x all₀ i₀ all i = %d - i' % PLACES),
+        *loop_over('x all₀ i₀ all i', '(i ≤ {0}) × (all ≡ eqList same{1} (take i x) (take i (replicate {0} blank{1})))'.format(PLACES, name), '%d - i' % PLACES),
         need('loop-holds', 'unfolding eqList\nloop-holds c = (omega arith, refl)'),
-        need('mul-place', 'mul-place c = omega arith'),
-        need('array-copy-out-place', 'array-copy-out-place c = omega arith'),
+        *by_arith('mul-place', 'array-copy-out-place'),
         need(call + '-requires', call + '-requires c κs = search needs'),
-        need('add-i', 'add-i c = omega arith'),
-        need('loop-less', 'loop-less c = omega arith'),
+        *by_arith('add-i', 'loop-less'),
         need('loop-again', '''loop-again c =
     let l = c .before .before .before in
     let good = l .before .good in
@@ -998,12 +999,9 @@ def zeros_proof():
         'Rattle.identity.specs.TextLaws.{all-more}',
         'Rattle.records.specs.Representable.{isZero}',
     ], [
-        ('Inv-loop', None, 'abbrev Inv-loop : tie.InvT-loop\nInv-loop bytes all₀ i₀ all i = (i ≤ length bytes) × (all ≡ every isZero (take i bytes))'),
-        ('μ-loop', None, 'abbrev μ-loop : tie.MeasureT-loop\nμ-loop bytes all₀ i₀ all i = length bytes - i'),
+        *loop_over('bytes all₀ i₀ all i', '(i ≤ length bytes) × (all ≡ every isZero (take i bytes))', 'length bytes - i'),
         need('loop-holds', 'unfolding every\nloop-holds c = (omega arith, refl)'),
-        need('shared-slice-read-all', 'shared-slice-read-all c = omega arith'),
-        need('add-i', 'add-i c = omega arith'),
-        need('loop-less', 'loop-less c = omega arith'),
+        *by_arith('shared-slice-read-all', 'add-i', 'loop-less'),
         need('loop-again', '''loop-again c =
     let l = c .before .before in
     let i = l .loop .i in
