@@ -9,6 +9,7 @@ or its room while it has no value, and then the right to free it. The last local
 """
 SUBSCRIPTS = '₀₁₂₃₄₅₆₇₈₉'
 RESULT, REFERENCE, FIRST_PARAMETER = 0, 1, 2
+# of a local
 ENTRIES = 2
 
 # How many entries there are before the locals. After the borrow was opened: the table's cell, what

@@ -16,7 +16,10 @@ with a call of `answer_of`, closes the borrow and frees the locals.
 """
 from context import CALLED, CLOSED, OPENED, REFERENCE, RESULT, Locals, closed, each, sub
 
+# The table, through the reference
 TABLE = 'place 1 (deref τT ∷ [])'
+# How many temporaries there are for the judge and the router together, and for each maker
+JUDGING, MAKING = 3, 2
 
 HEAD = '''-- The law of a thin call that goes by a number: `let v = judged(*t, ..); match route(v) {{ {first} => {{ *t = made1(*t, ..); }} .. _ => {{}} }} answer_of(v)`, with {tables} to be made and {parameters}. Written by scripts/gen_judged.py.
 -- It holds for any table, any answer, any parameters and any cores: the types, the machine values and the contracts are variables.
@@ -82,7 +85,9 @@ ARM = '''(arm ({key} ∷ [])
         (assign ({table-place}) (rvOpd (copy (place {made} []))))))
         {others})'''
 
-# The law's variables and its premises of the judge, the router and what answers.
+# The law's variables and its premises of the judge (f), the router (d) and what answers (z); gᵢ are
+# the makers. R, S and B are the types of the table, the verdict and the result; φ, χ, ω and ψᵢ are
+# what the contracts say of the verdict, the number, the result and the table made.
 MODULE = '''module _ {{M : Type 1}} (𝓤 : URA M) (H : Heap 𝓤) (A : Atoms 𝓤) (W : Given 𝓤 H A) (R S B : RattleType) (τB τA τN {types} τT : Ty) (N : Known 𝓤 H A R S τA τT)
     (s-makes : Makes 𝓤 H A S (Is S)) (b-typed : (w : B .Denot) (u : Val) → Is B w (u ∷ []) → Typed τB u)
     (κ : Lft) (q : Share) (b o : ℕ) (γ : GName) (h : R .Denot) ({values} : Val) {typed} (φ : S .Denot → Type 0) (χ : S .Denot → ℕ → Type 0) (ω : S .Denot → B .Denot → Type 0) ({made-is} : R .Denot → Type 0)
@@ -186,10 +191,11 @@ class Law:
     for each maker."""
 
     def __init__(self, numbers, parameters):
-        self.locals = Locals(parameters, 3 + 2 * len(numbers))
+        self.locals = Locals(parameters, JUDGING + MAKING * len(numbers))
         self.verdict = self.locals.first_temporary
         self.table, self.number = self.verdict + 1, self.verdict + 2
-        self.makers = [Maker(index, number, self.number + 2 * index - 1) for index, number in enumerate(numbers, 1)]
+        first = self.verdict + JUDGING
+        self.makers = [Maker(i + 1, number, first + MAKING * i) for i, number in enumerate(numbers)]
         self.last = self.locals.parameters[-1]
 
     def local_types(self):
@@ -205,6 +211,7 @@ class Law:
         return arms
 
     def of_makers(self, template):
+        """The template for each maker, by its subscript {s}."""
         return each(template, range(1, len(self.makers) + 1))
 
     def words(self):
@@ -251,6 +258,7 @@ class Law:
         }
 
     def premises(self, maker):
+        """What the law asks of a maker."""
         return PREMISES.format(s=maker.s, key=maker.number, **{'last-value': 'w' + sub(self.last)})
 
     def answers(self, before):
@@ -265,7 +273,8 @@ class Law:
         return self.locals.freed(CLOSED, empty)
 
     def makes(self, maker):
-        """The walk of the arm of a maker."""
+        """The walk of the arm of a maker. Its first step makes anew what the table owns, for the
+        maker; so there are as many entries before the locals as after a call."""
         at = self.locals.at
         return closed(MAKES.format(s=maker.s, freed=self.freed(maker), **{
             'last-value': 'w' + sub(self.last),
@@ -283,6 +292,7 @@ class Law:
         return STAYS.format(answered=self.answers(CALLED), freed=self.freed(), **{'result-closed': self.locals.at(RESULT, CLOSED)})
 
     def text(self):
+        """The file."""
         words = self.words()
         text = (HEAD + FUNCTION + MODULE).format(**words) + ''.join(self.premises(maker) for maker in self.makers)
         text += (STATEMENT + WALK).format(**words) + ''.join('      (%s,\n' % self.makes(maker) for maker in self.makers)

@@ -290,6 +290,7 @@ NONE = dict(dict.fromkeys(NUMBER, ''), told='(a .1 .0) (are .1 .0)')
 
 
 def proof(name, call):
+    """The proof of an export: the law, at its types and its core."""
     words = {'core': call['core'], 'core-kebab': call['core'].replace('_', '-'), 'kebab': name.replace('_', '-')}
     words.update(NUMBER if call['number'] else NONE)
     return (PROOF + SPEC).format(

@@ -29,6 +29,7 @@ def proofs_of(module):
 
 
 def crate_of(module):
+    """The crate of a module."""
     return {"get": "layout", "reading": "layout", "bodies": "journal"}.get(module, "reader")
 
 
@@ -214,6 +215,7 @@ BLANK_HOMES = {"blankConsensusIdentity": "control.specs.Blank", "blankMarkerBody
 
 
 def par(text):
+    """A term as an argument."""
     return f"({text})" if " " in text else text
 
 
@@ -265,6 +267,7 @@ class Reader:
         return (ENUM[k] if k in ENUM else STRUCT[k])[0]
 
     def types(self, k):
+        """The type of the first k fields together."""
         t = self.type_of(0)
         for i in range(1, k):
             u = self.type_of(i)
@@ -372,9 +375,11 @@ class Reader:
         return fields if self.codec in GROUPS else f"via-{way} _ _ _ _ _ ({fields})"
 
     def unfolded(self):
+        """What is unfolded to see the fields of the record."""
         return "" if self.codec in GROUPS else self.codec
 
     def why(self, k):
+        """The call that takes the refusal of field k out of an answer, and its definition."""
         kind = self.kind(k)
         if kind in ENUM and ENUM[kind][2]:
             w = ENUM[kind][2]
@@ -390,90 +395,91 @@ class Reader:
         return w, self.why(k)[1], w if self.enum else kebab(REFUSED.get(self.name, "refused_" + self.name[5:])) + nth(k)
 
 
-def formats(r):
+def formats(reader):
     """The format up to each field."""
     out = "-- the format up to each field\n"
-    for k in range(r.n):
-        codec = f"dep to-{r.field(k - 1)} (λ a. {r.codec_of(k, 'a .1')})" if k else r.codec_of(0, "")
-        out += abbrev(f"to-{r.field(k)}", f"Codec {par(r.types(k + 1))}", codec)
+    for k in range(reader.n):
+        codec = f"dep to-{reader.field(k - 1)} (λ a. {reader.codec_of(k, 'a .1')})" if k else reader.codec_of(0, "")
+        out += abbrev(f"to-{reader.field(k)}", f"Codec {par(reader.types(k + 1))}", codec)
     return out
 
 
-def counts(r, k):
+def counts(reader, k):
     """Whether field k is the count of the places that are read next."""
-    return k + 1 < r.n and r.kind(k + 1) in COUNTED
+    return k + 1 < reader.n and reader.kind(k + 1) in COUNTED
 
 
-def counted(r, k):
+def counted(reader, k):
     """The lemma of a count by itself."""
-    f = r.field(k)
-    is_read = f"slotCount .dec (drop ({r.sizes(k - 1, r.last(k))}) ({r.start(k)} .args .bytes .now)) ≡ ok ({f}-value c) ({f}-size c)"
-    return f"-- the count by itself: so many places are read\ncounted : (c : {r.place(k)})\n    → {is_read}\ncounted c =\n    {r.field_got(k)}\n\n"
+    f = reader.field(k)
+    is_read = f"slotCount .dec (drop ({reader.sizes(k - 1, reader.last(k))}) ({reader.start(k)} .args .bytes .now)) ≡ ok ({f}-value c) ({f}-size c)"
+    return f"-- the count by itself: so many places are read\ncounted : (c : {reader.place(k)})\n    → {is_read}\ncounted c =\n    {reader.field_got(k)}\n\n"
 
 
-def lemmas(r):
+def lemmas(reader):
     """After each field a lemma of what was read so far."""
     out = "-- after each field: what was read so far, and up to where\n"
-    for k in range(r.n):
-        f, got = r.field(k), r.field_got(k)
-        if counts(r, k):
-            out, got = out + counted(r, k), "counted c"
-        out += f"got-{f} : (c : {r.place(k)})\n    → to-{f} .dec ({r.start(k)} .args .bytes .now) ≡ ok ({r.values(k)}) ({r.sizes(k)})\n"
+    for k in range(reader.n):
+        f, got = reader.field(k), reader.field_got(k)
+        if counts(reader, k):
+            out, got = out + counted(reader, k), "counted c"
+        out += f"got-{f} : (c : {reader.place(k)})\n    → to-{f} .dec ({reader.start(k)} .args .bytes .now) ≡ ok ({reader.values(k)}) ({reader.sizes(k)})\n"
         if k == 0:
             out += f"got-{f} c = {got}\n\n"
         else:
-            out += f"got-{f} c =\n    dep-ok _ _ _ (got-{r.field(k - 1)} ({r.last(k)}))\n    ({got})\n\n"
+            out += f"got-{f} c =\n    dep-ok _ _ _ (got-{reader.field(k - 1)} ({reader.last(k)}))\n    ({got})\n\n"
     return out
 
 
-def refused(r, k):
+def refused(reader, k):
     """The answer to the need of the return where field k was refused."""
-    why, defined, passed_on_by = r.refusal(k)
+    why, defined, passed_on_by = reader.refusal(k)
     # for an enum's refusal the `else` is one step back, with `refused_x` around it two
-    told = f"{back(1 if r.enum else 2)} .enum-told{nth(k)} .given .1"
-    fields = r.field_not(k, told)
+    told = f"{back(1 if reader.enum else 2)} .enum-told{nth(k)} .given .1"
+    fields = reader.field_not(k, told)
     if k > 0:
-        fields = f"dep-no-2 _ _ _ (got-{r.field(k - 1)} (after-{r.field(k - 1)} (refused-{r.field(k)} c)))\n    ({fields})"
-    for _ in range(r.n - 1 - k):
+        fields = f"dep-no-2 _ _ _ (got-{reader.field(k - 1)} (after-{reader.field(k - 1)} (refused-{reader.field(k)} c)))\n    ({fields})"
+    for _ in range(reader.n - 1 - k):
         fields = f"dep-no-1 _ _ _ ({fields})"
-    if r.enum:
+    if reader.enum:
         return f"\n    ap (λ a. no (numberOf a)) (c .{why} .ensures ∙ ap {defined} ({told}))\n    ∙ sym (via-no _ _ _ _ _ ({fields}))"
-    return f"\n    {passed(passed_on_by, r.blank, why, defined, told)}\n    ({r.whole('no', fields)})"
+    return f"\n    {passed(passed_on_by, reader.blank, why, defined, told)}\n    ({reader.whole('no', fields)})"
 
 
-def fill_fields(r, s):
+def fill_fields(reader, skeleton):
     """Answers the needs of each field: its refusal, and what the read of the next field asks."""
-    for k in range(r.n):
-        f = r.field(k)
-        s.fill(returns(k), refused(r, k), r.unfolded())
-        if counts(r, k):
-            s.fill(kebab(r.call(k + 1)) + "-requires", "count-read _ (counted (c .before))")
-        if k + 1 < r.n:
-            for need in part_names(r, k + 1):
-                s.fill(need, f"to-{f} .within _ (got-{f} c)")
-        if 0 < k < r.n - 1:
-            s.fill("add-at" if k == 1 else f"add-at-{k}", fits(r, k, "c"))
+    for k in range(reader.n):
+        f = reader.field(k)
+        skeleton.fill(returns(k), refused(reader, k), reader.unfolded())
+        if counts(reader, k):
+            skeleton.fill(kebab(reader.call(k + 1)) + "-requires", "count-read _ (counted (c .before))")
+        if k + 1 < reader.n:
+            for need in part_names(reader, k + 1):
+                skeleton.fill(need, f"to-{f} .within _ (got-{f} c)")
+        if 0 < k < reader.n - 1:
+            skeleton.fill("add-at" if k == 1 else f"add-at-{k}", fits(reader, k, "c"))
 
 
-def fill_end(r, s):
+def fill_end(reader, skeleton):
     """Answers the needs after the last field: the sum of the sizes, and the return."""
-    end, made = r.n - 1, 1 if r.made else 0
-    last = s.last_sum()
+    end, made = reader.n - 1, 1 if reader.made else 0
+    last = skeleton.last_sum()
     if last:
-        s.fill(last, fits(r, end, back(lasts(s, last, r))))
-    whole = r.whole("ok", f"got-{r.field(end)} {par(back(made + extra(r)))}")
-    if r.made:
-        whole += f"\n    ∙ ap (λ v. ok {made_value(r)} ({r.sizes(end, back(made))})) (sym (c .{kebab(r.made)} .ensures))"
-    body = f"sym ({whole})" if r.enum else f"outcome-ok _ ({whole})"
-    s.fill(returns(r.n), "\n    " + body if r.made else body, r.unfolded())
+        skeleton.fill(last, fits(reader, end, back(lasts(skeleton, last, reader))))
+    whole = reader.whole("ok", f"got-{reader.field(end)} {par(back(made + extra(reader)))}")
+    if reader.made:
+        whole += f"\n    ∙ ap (λ v. ok {made_value(reader)} ({reader.sizes(end, back(made))})) (sym (c .{kebab(reader.made)} .ensures))"
+    body = f"sym ({whole})" if reader.enum else f"outcome-ok _ ({whole})"
+    skeleton.fill(returns(reader.n), "\n    " + body if reader.made else body, reader.unfolded())
 
 
-def write(r):
-    s = Skeleton(r.module, r.name)
-    fill_fields(r, s)
-    fill_end(r, s)
-    defs = formats(r) + r.places() + r.gave() + lemmas(r)
-    s.write(header(r, defs + s.text(), s.own()), defs)
+def write(reader):
+    """Writes the proof of the reader of a record."""
+    skeleton = Skeleton(reader.module, reader.name)
+    fill_fields(reader, skeleton)
+    fill_end(reader, skeleton)
+    defs = formats(reader) + reader.places() + reader.gave() + lemmas(reader)
+    skeleton.write(header(reader, defs + skeleton.text(), skeleton.own()), defs)
 
 
 def returns(k):
@@ -481,33 +487,34 @@ def returns(k):
     return f"returns-{k + 1}" if k else "returns"
 
 
-def fits(r, k, c):
+def fits(reader, k, c):
     """That the bytes up to field k are no more than a number holds; c is the place after it."""
-    f = r.field(k)
-    return f"record {{ fits = lt-of-le-of-lt (to-{f} .within _ (got-{f} {par(c)})) ({r.start(k, c)} .good .0 .0) }}"
+    f = reader.field(k)
+    return f"record {{ fits = lt-of-le-of-lt (to-{f} .within _ (got-{f} {par(c)})) ({reader.start(k, c)} .good .0 .0) }}"
 
 
-def part_names(r, k):
+def part_names(reader, k):
     """The needs of the slice that call k takes: they are numbered by the parts of that name."""
-    base = kebab(r.call(k))
-    earlier = sum(1 for i in range(1, k) if r.call(i) == r.call(k))
+    base = kebab(reader.call(k))
+    earlier = sum(1 for i in range(1, k) if reader.call(i) == reader.call(k))
     x = "" if earlier == 0 else f"-{earlier + 1}"
     return f"sub-{base}{x}", f"part-{base}-start{x}"
 
 
-def lasts(s, add, r):
-    """Whether the last sum comes after the constructor's call."""
-    return extra(r) + (1 if r.made and s.before(f"{kebab(r.made)}-requires", add) else 0)
+def lasts(skeleton, add, reader):
+    """The steps from the last field to the last sum, which may come after the constructor's call."""
+    return extra(reader) + (1 if reader.made and skeleton.before(f"{kebab(reader.made)}-requires", add) else 0)
 
 
-def extra(r):
+def extra(reader):
     """Steps after the last field: `let member = head.member;` in a slot's reader."""
-    return 1 if r.name == "read_slot" else 0
+    return 1 if reader.name == "read_slot" else 0
 
 
-def made_value(r):
-    if r.name == "read_slot_member":
-        return f"(record {{ member = v; «retired_through» = {r.value(1, r.last(2, back(1)))} }})"
+def made_value(reader):
+    """The record, of what the constructor's call made (v)."""
+    if reader.name == "read_slot_member":
+        return f"(record {{ member = v; «retired_through» = {reader.value(1, reader.last(2, back(1)))} }})"
     return "v"
 
 
@@ -522,10 +529,11 @@ def pruned(line, body):
     return line if m is None or f" {m.group(1)}." in body else None
 
 
-def header(r, body, own):
+def header(reader, body, own):
+    """The first lines of a record's proof: what it says, and the imports of what the body names."""
     # without what is projected: `.result` is no format
     words = set(re.findall(r"[\w«»·'-]+", re.sub(r" \.[\w«»-]+", "", body)))
-    lines = [f"-- `{crate_of(r.module)}::{r.module}::{r.name}` meets its contract: field by field. Written by scripts/readers.py. Assumes nothing.",
+    lines = [f"-- `{crate_of(reader.module)}::{reader.module}::{reader.name}` meets its contract: field by field. Written by scripts/readers.py. Assumes nothing.",
              "use Prim.Native.Nat.{ℕ, _+_, _≤_}", "use mathlib.Core.Bool.{Bool}", "use mathlib.Core.List.{List}", "use mathlib.Core.Path.{_≡_, refl, sym, ap, _∙_}",
              "use native.Mathlib.Nat.{lt-of-le-of-lt}", "use borrow.Author.Needs.{needs}", "use lib.ListN.{length, drop}",
              "use Rattle.format.specs.Res.Res.{ok, no}",
@@ -548,14 +556,14 @@ def header(r, body, own):
 
 def refill(module, name, uses, defs, bodies):
     """Writes a file of these imports, definitions and answers to needs."""
-    s = Skeleton(module, name)
+    skeleton = Skeleton(module, name)
     for need, answer in bodies.items():
-        s.fill(s.last_sum() if need == LAST_SUM else need, *(answer if isinstance(answer, tuple) else (answer,)))
-    body = defs + s.text()
+        skeleton.fill(skeleton.last_sum() if need == LAST_SUM else need, *(answer if isinstance(answer, tuple) else (answer,)))
+    body = defs + skeleton.text()
     if crate_of(module) == "layout":
         uses = [use.replace("Rattle.layout.specs.", "Rattle.layout.specs.") for use in uses]
-    lines = [l for l in (pruned(l, body) for l in sorted(uses) + ["use borrow.Author.Needs.{needs}"] + s.own()) if l]
-    s.write([f"-- `{crate_of(module)}::{module}::{name}` meets its contract. Written by scripts/readers.py. Assumes nothing."] + lines, defs)
+    lines = [l for l in (pruned(l, body) for l in sorted(uses) + ["use borrow.Author.Needs.{needs}"] + skeleton.own()) if l]
+    skeleton.write([f"-- `{crate_of(module)}::{module}::{name}` meets its contract. Written by scripts/readers.py. Assumes nothing."] + lines, defs)
 
 
 PATH = "use mathlib.Core.Path.{_≡_, refl, sym, ap, _∙_, subst}"

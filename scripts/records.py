@@ -1137,14 +1137,18 @@ def use_generated(name):
     return 'use Rattle.{0}.proofs.{1}.{2} as the{2}\n'.format(crate, HOME[name], name)
 
 
-for module in ('equality', 'blank', 'zero'):
-    shutil.rmtree('%s/proofs/%s' % (CRATE, module), ignore_errors=True)
-equality()
-equality_laws()
-equality_code()
-equality_proofs()
-blanks()
-zero_code()
-zero_proofs()
-held()
-subprocess.run(['rt', 'fmt'], check=True)
+def main():
+    for module in ('equality', 'blank', 'zero'):
+        shutil.rmtree('%s/proofs/%s' % (CRATE, module), ignore_errors=True)
+    equality()
+    equality_laws()
+    equality_code()
+    equality_proofs()
+    blanks()
+    zero_code()
+    zero_proofs()
+    held()
+    subprocess.run(['rt', 'fmt'], check=True)
+
+
+main()

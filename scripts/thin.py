@@ -521,6 +521,7 @@ def core(tag, path, is_law=True, is_call=True):
 
 
 def cite(contract, name, tag, path):
+    """That a core meets its contract, at the table of the functions that the call's code has."""
     called = path.replace('.', '·').replace('_', '-')
     return '(cited 𝓤 H (%s 𝓤 H (𝓖 .A) (𝓜 .mem) (𝓡 .run)) 𝓜 𝓡 code.env #%s %s-def.routine code.calls-control·%s (%s-thm.met 𝓤 H 𝓜 𝓖 𝓡))' % (contract, name, tag, called, tag)
 
@@ -531,6 +532,7 @@ def nest(parts):
 
 
 def nest_type(parts):
+    """The type of such a tuple."""
     return '%s × (%s)' % (parts[0], nest_type(parts[1:])) if parts else 'Unit {0}'
 
 
@@ -582,9 +584,11 @@ class Slices:
         return [template.format(i=i, s=sub(i), e=e) for i, e in enumerate(self.elements, 1)]
 
     def all(self, template):
+        """The same, as one text."""
         return ''.join(self.each(template))
 
     def names(self):
+        """The names of the slices and their lifetimes, by themselves and in binders."""
         return {
             'lfts-are': bound(self.lfts, 'Lft'),
             'shares-are': bound(self.shares, 'Share'),
@@ -693,6 +697,7 @@ class Slices:
         }
 
     def words(self):
+        """All of it."""
         return {**self.names(), **self.tuples(), **self.signature(), **self.ownership(), **self.values(), **self.steps(), **self.uses()}
 
 
