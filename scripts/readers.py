@@ -502,7 +502,8 @@ def part_names(reader, k):
 
 
 def lasts(skeleton, add, reader):
-    """The steps from the last field to the last sum, which may come after the constructor's call."""
+    """The steps from the last field to the last sum, which may come after the constructor's
+    call."""
     return extra(reader) + (1 if reader.made and skeleton.before(f"{kebab(reader.made)}-requires", add) else 0)
 
 
