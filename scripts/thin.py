@@ -24,12 +24,12 @@ Of calls with the same makers all but the judge stands once, in FAMILIES: there 
 outcome, what a verdict that makes a table tells (`knows`) and that the verdict gives the outcome
 (`carries`) are variables of the law, and the call says what they are.
 """
-import re
 import subprocess
 import sys
 
 from context import SPEC, sub
 from gen_judged import law as judged_law, none_of
+from imports import pruned
 
 ROOM = 'h .revision ≡ full → ⊥'
 TARGET = '(h .revision ≡ full → ⊥) × ((h .count ≤ 9) × (targetIndex h < h .count))'
@@ -820,17 +820,7 @@ def made(makers, template):
 
 def used(uses, body):
     """The uses of which the body has the names."""
-    names = set(re.split(r'[\s(){},.]+', body))
-    is_used = lambda name: name.replace('_', '') in names
-    kept = []
-    for line in uses.splitlines():
-        items = re.match(r'(use \S+\.\{)(.*)\}$', line)
-        if items:
-            some = [item for item in items.group(2).split(', ') if is_used(item.split(' as ')[-1])]
-            kept += [items.group(1) + ', '.join(some) + '}'] * bool(some)
-        elif is_used(line.split(' as ')[-1]):
-            kept.append(line)
-    return '\n'.join(kept) + '\n'
+    return '\n'.join(pruned(uses.splitlines(), body)) + '\n'
 
 
 def law_of(name):
