@@ -5,7 +5,7 @@ import re
 
 def words_of(body):
     """The names that a body has, without those that are projected: `.result` is no name."""
-    return set(re.split(r'[\s(){},;.]+', re.sub(r' \.[\w«»-]+', '', body)))
+    return set(re.findall(r'[^\s(){},;.]+', re.sub(r' \.[\w«»-]+', '', body)))
 
 
 def pruned(uses, body):

@@ -18,6 +18,7 @@ import subprocess
 import sys
 
 from fields import FIELDS, back, format_of, kebab
+from imports import pruned, words_of
 
 ROOT = os.path.dirname(os.path.dirname(os.path.abspath(__file__)))
 
@@ -519,40 +520,26 @@ def made_value(reader):
     return "v"
 
 
-def pruned(line, body):
-    """The `use` line with the names that the body has, or nothing."""
-    m = re.fullmatch(r"use (\S+)\.\{(.*)\}", line)
-    if m:
-        kept = [n for n in m.group(2).split(", ")
-                if (all(x in body for x in n.split("_") if x) if n.startswith("_") else re.search(rf"(?<![\w'·-]){re.escape(n)}(?![\w'-])", body))]
-        return f"use {m.group(1)}.{{{', '.join(kept)}}}" if kept else None
-    m = re.fullmatch(r"use \S+ as (\S+)", line)
-    return line if m is None or f" {m.group(1)}." in body else None
+def blank_home(blank):
+    """The module of a blank."""
+    return BLANK_HOMES.get(blank, "layout.specs.Parts" if blank in PARTS_BLANKS else "records.specs.Blank")
 
 
 def header(reader, body, own):
     """The first lines of a record's proof: what it says, and the imports of what the body names."""
-    # without what is projected: `.result` is no format
-    words = set(re.findall(r"[\w«»·'-]+", re.sub(r" \.[\w«»-]+", "", body)))
-    lines = [f"-- `{crate_of(reader.module)}::{reader.module}::{reader.name}` meets its contract: field by field. Written by scripts/readers.py. Assumes nothing.",
-             "use Prim.Native.Nat.{ℕ, _+_, _≤_}", "use mathlib.Core.Bool.{Bool}", "use mathlib.Core.List.{List}", "use mathlib.Core.Path.{_≡_, refl, sym, ap, _∙_}",
-             "use native.Mathlib.Nat.{lt-of-le-of-lt}", "use borrow.Author.Needs.{needs}", "use lib.ListN.{length, drop}",
-             "use Rattle.format.specs.Res.Res.{ok, no}",
+    words = sorted(words_of(body))
+    lines = ["use Prim.Native.Nat.{ℕ, _+_, _≤_}", "use mathlib.Core.Bool.{Bool}", "use mathlib.Core.List.{List}", "use mathlib.Core.Path.{_≡_, refl, sym, ap, _∙_}",
+             FITS, "use borrow.Author.Needs.{needs}", "use lib.ListN.{length, drop}", RESULTS,
              "use Rattle.format.specs.Combinators.{Codec, dep, dep-ok, dep-no-1, dep-no-2, via-ok, via-no, rest}"]
-    blanks = sorted(w for w in words if re.fullmatch(r"(blank|absent)\w+", w))
-    homes = {b: BLANK_HOMES.get(b, "layout.specs.Parts" if b in PARTS_BLANKS else "records.specs.Blank") for b in blanks}
+    blanks = [word for word in words if re.fullmatch(r"(blank|absent)\w+", word)]
     for home in ("records.specs.Blank", "layout.specs.Parts", *dict.fromkeys(BLANK_HOMES.values())):
-        if home in homes.values():
-            lines.append(f"use Rattle.{home}.{{" + ", ".join(b for b in blanks if homes[b] == home) + "}")
+        lines.append(f"use Rattle.{home}.{{{', '.join(blank for blank in blanks if blank_home(blank) == home)}}}")
+    reading = [word for word in words if re.fullmatch(r"[a-z]\w*Read|why[A-Z]\w*", word)]
     for home, names in HOMES.items():
-        hit = [x for x in names if x in words]
-        if home.endswith(".Reading"):
-            hit += sorted(w for w in words if re.fullmatch(r"\w+Read|why[A-Z]\w*", w) and not w[0].isupper())
-        if hit:
-            lines.append(f"use Rattle.{home}.{{{', '.join(dict.fromkeys(hit))}}}")
-    for home, names in DECLARED.items():
-        lines += [f"use Rattle.{home}.{x}.{{{x}}}" for x in names if x in words]
-    return lines[:1] + [l for l in (pruned(l, body) for l in lines[1:] + own) if l]
+        lines.append(f"use Rattle.{home}.{{{', '.join(names + reading if home.endswith('.Reading') else names)}}}")
+    lines += [f"use Rattle.{home}.{name}.{{{name}}}" for home, names in DECLARED.items() for name in names]
+    says = f"-- `{crate_of(reader.module)}::{reader.module}::{reader.name}` meets its contract: field by field. Written by scripts/readers.py. Assumes nothing."
+    return [says] + pruned(lines + own, body)
 
 
 def refill(module, name, uses, defs, bodies):
@@ -563,7 +550,7 @@ def refill(module, name, uses, defs, bodies):
     body = defs + skeleton.text()
     if crate_of(module) == "layout":
         uses = [use.replace("Rattle.layout.specs.", "Rattle.layout.specs.") for use in uses]
-    lines = [l for l in (pruned(l, body) for l in sorted(uses) + ["use borrow.Author.Needs.{needs}"] + skeleton.own()) if l]
+    lines = pruned(sorted(uses) + ["use borrow.Author.Needs.{needs}"] + skeleton.own(), body)
     skeleton.write([f"-- `{crate_of(module)}::{module}::{name}` meets its contract. Written by scripts/readers.py. Assumes nothing."] + lines, defs)
 
 
