@@ -19,6 +19,7 @@ import subprocess
 import sys
 
 from fields import FIELDS, back, camel, format_of, kebab
+from imports import pruned
 
 PROOFS = 'crates/writer/proofs'
 BY = 'Written by scripts/writers.py.'
@@ -180,29 +181,20 @@ FROM = [
 ]
 
 
-def used(name, text):
-    name = name.strip('_') if name.startswith('_') else name
-    return re.search(r'(?<![\w·.-])(?<!\. )' + re.escape(name) + r'(?![\w-])', text) is not None
-
-
 def written(name, says, record, body, needs):
     """The file: what it says, what it uses, the body, and the needs put together."""
-    text = re.sub(r' \.[\w«»]+', '', body)
-    out = [f'-- `writer::encode::{name}` meets its contract: {says}. {BY} Assumes nothing.']
-    for module, names in FROM:
-        found = [n for n in names.split() if used(n, text)]
-        if found:
-            out.append(f'use {module}.{{{", ".join(found)}}}')
-    if record:
-        out.append(f'use {TYPES.get(record, "Rattle.records.specs.declared.records." + record)}.{{{record}}}')
     own = f'use Rattle.writer.proofs.encode.{name}'
-    out += [own + '.Statement.{statement}', own + '.Tie as tie', '']
+    uses = pruned([f'use {module}.{{{names.replace(" ", ", ")}}}' for module, names in FROM], body)
+    if record:
+        uses.append(f'use {TYPES.get(record, "Rattle.records.specs.declared.records." + record)}.{{{record}}}')
+    uses += [own + '.Statement.{statement}', own + '.Tie as tie']
+    says = f'-- `writer::encode::{name}` meets its contract: {says}. {BY} Assumes nothing.'
     spec = kebab(name) + '-spec'
     end = f'pub {spec} : {{M : Type 1}} → statement M\n{spec} =\n    tie.close\n    (tie.spec\n' + '\n'.join(f'    {n}' for n in needs) + ')\n'
     path = f'{PROOFS}/encode/{name}'
     os.makedirs(path, exist_ok=True)
     with open(f'{path}/Proof.antt', 'w') as file:
-        file.write('\n'.join(out) + '\n' + body + end)
+        file.write('\n'.join([says] + uses) + '\n\n' + body + end)
 
 
 # ---- a chain
