@@ -63,6 +63,7 @@ class Field:
     def __init__(self, name, written, declared):
         written = ALIASES.get(written, written)
         self.name = name
+        self.struct = self.size = self.length = ''
         array = re.fullmatch(r'\[(\w+); (\w+)\]', written)
         size = int(CONSTANTS.get(array.group(2), array.group(2))) if array else 0
         if written in WIDTHS:
@@ -82,7 +83,15 @@ class Field:
         return '«%s»' % self.name if '_' in self.name else self.name
 
     def of(self, value):
+        """The field of a value."""
         return '(%s .%s)' % (value, self.quoted())
+
+    def say(self, templates):
+        """The template of its kind. In it {a} and {b} are the field of a and of b, {struct} is its
+        struct and {snake} the struct in the name of a function, {size} is an array's length and
+        {length} the same as the source writes it."""
+        return templates[self.kind].format(
+            a=self.of('a'), b=self.of('b'), struct=self.struct, snake=snake(self.struct), size=self.size, length=self.length, places=PLACES, places_name=PLACES_NAME)
 
 
 RECORDS = {}
@@ -163,15 +172,14 @@ def listed(before, entries):
 # ---- equality: definitions
 
 
-def test(field):
-    a, b = field.of('a'), field.of('b')
-    return {
-        'number': lambda: 'eqb %s %s' % (a, b),
-        'bool': lambda: 'Bool·beq %s %s' % (a, b),
-        'bytes': lambda: 'eqBytes %s %s' % (a, b),
-        'nine': lambda: 'eqList same%s %s %s' % (field.struct, a, b),
-        'struct': lambda: 'same%s %s %s' % (field.struct, a, b),
-    }[field.kind]()
+# The test of a field of a and b
+TEST = {
+    'number': 'eqb {a} {b}',
+    'bool': 'Bool·beq {a} {b}',
+    'bytes': 'eqBytes {a} {b}',
+    'nine': 'eqList same{struct} {a} {b}',
+    'struct': 'same{struct} {a} {b}',
+}
 
 
 def equality():
@@ -202,7 +210,7 @@ abbrev pub eqBytes : List ℕ → List ℕ → Bool
 eqBytes a b = eqList eqb a b
 ''']
     for name, fields in RECORDS.items():
-        tests = ''.join('%s\n    ∷ ' % test(field) for field in fields)
+        tests = ''.join('%s\n    ∷ ' % field.say(TEST) for field in fields)
         parts.append('''
 unfoldable pub same{0} : {0} → {0} → Bool
 same{0} a b =
@@ -215,25 +223,24 @@ same{0} a b =
 # ---- equality: laws
 
 
-def from_true(field):
-    return {
-        'number': lambda: 'eqb-true _ _',
-        'bool': lambda: 'beq-true _ _',
-        'bytes': lambda: 'eqBytes-true _ _',
-        'nine': lambda: 'eqList-true same{0} same{0}-true _ _'.format(field.struct),
-        'struct': lambda: 'same%s-true _ _' % field.struct,
-    }[field.kind]()
+# That the fields are the same where that test holds
+FROM_TRUE = {
+    'number': 'eqb-true _ _',
+    'bool': 'beq-true _ _',
+    'bytes': 'eqBytes-true _ _',
+    'nine': 'eqList-true same{struct} same{struct}-true _ _',
+    'struct': 'same{struct}-true _ _',
+}
 
 
-def of_itself(field):
-    a = field.of('a')
-    return {
-        'number': lambda: 'eqb-refl %s' % a,
-        'bool': lambda: 'beq-refl %s' % a,
-        'bytes': lambda: 'eqBytes-refl %s' % a,
-        'nine': lambda: 'eqList-refl same{0} same{0}-refl {1}'.format(field.struct, a),
-        'struct': lambda: 'same%s-refl %s' % (field.struct, a),
-    }[field.kind]()
+# That a field of a is the same as itself
+OF_ITSELF = {
+    'number': 'eqb-refl {a}',
+    'bool': 'beq-refl {a}',
+    'bytes': 'eqBytes-refl {a}',
+    'nine': 'eqList-refl same{struct} same{struct}-refl {a}',
+    'struct': 'same{struct}-refl {a}',
+}
 
 
 LAWS_HEAD = '''
@@ -376,10 +383,10 @@ def record_laws(name, fields):
     """That a test of a record that holds is a path, and that each value is the same as itself."""
     lets, path = '', 'e'
     for i, field in enumerate(fields):
-        lets += '    let e%d : a .%s ≡ b .%s = %s (%s .0) in\n' % (i, field.quoted(), field.quoted(), from_true(field), path)
+        lets += '    let e%d : a .%s ≡ b .%s = %s (%s .0) in\n' % (i, field.quoted(), field.quoted(), field.say(FROM_TRUE), path)
         path += ' .1'
     paths = record(['%s = e%d i' % (field.quoted(), i) for i, field in enumerate(fields)], 'λ i. ')
-    selves = listed('rw', [of_itself(field) for field in fields])
+    selves = listed('rw', [field.say(OF_ITSELF) for field in fields])
     return RECORD_LAWS.format(name, lets, paths, clause('same%s-refl a' % name, selves))
 
 
@@ -485,7 +492,7 @@ def same_code(name, fields):
         if field.kind != 'bytes':
             lets += '    let a_{0} = a.{0};\n    let b_{0} = b.{0};\n'.format(field.name)
             pair = 'a_{0}, b_{0}'
-        call = '%s(%s)' % (same_of(field), pair.format(field.name))
+        call = '%s(%s)' % (field.say(SAME_CALL), pair.format(field.name))
         if field is fields[0] and is_apart(fields):
             lets += returns_early(call)
         else:
@@ -504,12 +511,12 @@ def equality_code():
     write('src/equality.rt', *parts)
 
 
-def same_of(field):
-    return {
-        'bytes': lambda: 'same_bytes',
-        'nine': lambda: 'same_%ss' % snake(field.struct),
-        'struct': lambda: 'same_%s' % snake(field.struct),
-    }[field.kind]()
+# The function that tests two fields
+SAME_CALL = {
+    'bytes': 'same_bytes',
+    'nine': 'same_{snake}s',
+    'struct': 'same_{snake}',
+}
 
 
 # ---- proofs
@@ -619,13 +626,13 @@ def same_returns(fields, compared, known):
     # more calls than `simp` takes: the path from the code to the definition, field by field
     lets += ''.join('    let %s = %s%s .args .%s in\n' % (name, places[0], start, arg) for name, arg in (('a', 't1'), ('b', 't2')))
     told[0] = 'sym (held (%s) (e .if1 .left))' % told[0]
-    paths = ['%s i' % told.pop(0) if field in compared else test(field) for field in fields]
+    paths = ['%s i' % told.pop(0) if field in compared else field.say(TEST) for field in fields]
     return 'returns-2 c =\n%s    λ i.%s' % (lets, along(paths))
 
 
 def same_proof(name, fields):
     compared = [field for field in fields if field.kind not in ('number', 'bool')]
-    needs, known = requires([same_of(field) for field in compared])
+    needs, known = requires([field.say(SAME_CALL) for field in compared])
     returns = 'unfolding allTrue same%s\n%s' % (name, same_returns(fields, compared, known))
     uses = [NEEDS, 'Rattle.records.specs.Equality.{allTrue, same%s}' % name]
     if is_apart(fields):
@@ -701,24 +708,24 @@ def bytes_proof():
 # ---- blanks
 
 
-def blank_value(field):
-    return {
-        'number': lambda: '0',
-        'bool': lambda: 'false',
-        'bytes': lambda: 'replicate %d 0' % field.size,
-        'nine': lambda: 'replicate %d blank%s' % (PLACES, field.struct),
-        'struct': lambda: 'blank' + field.struct,
-    }[field.kind]()
+# The blank of a field, in the definition
+BLANK = {
+    'number': '0',
+    'bool': 'false',
+    'bytes': 'replicate {size} 0',
+    'nine': 'replicate {places} blank{struct}',
+    'struct': 'blank{struct}',
+}
 
 
-def blank_code_value(field):
-    return {
-        'number': lambda: '0',
-        'bool': lambda: 'false',
-        'bytes': lambda: '[0; %s]' % field.length,
-        'nine': lambda: '[%s; %s]' % (snake(field.struct), PLACES_NAME),
-        'struct': lambda: snake(field.struct),
-    }[field.kind]()
+# The blank of a field, in the code
+BLANK_CODE = {
+    'number': '0',
+    'bool': 'false',
+    'bytes': '[0; {length}]',
+    'nine': '[{snake}; {places_name}]',
+    'struct': '{snake}',
+}
 
 
 def blanks():
@@ -739,13 +746,13 @@ ghost use Rattle.records.specs.Blank.{%s};
 %s%s''' % (BY, all_of('blank'), use_rattle(NAMES), ''.join('use identity::text::%s;\n' % name for name in LENGTHS))]
     for name, fields in RECORDS.items():
         spec.append('unfoldable pub blank{0} : {0}\n{1}'.format(
-            name, clause('blank' + name, record(['%s = %s' % (field.quoted(), blank_value(field)) for field in fields]))))
+            name, clause('blank' + name, record(['%s = %s' % (field.quoted(), field.say(BLANK)) for field in fields]))))
         parts = []
         for field in fields:
             if field.kind in ('nine', 'struct') and field.struct not in parts:
                 parts.append(field.struct)
         lets = ''.join('    let {0} = blank_{0}();\n'.format(snake(part)) for part in parts)
-        values = ''.join('        %s: %s,\n' % (field.name, blank_code_value(field)) for field in fields)
+        values = ''.join('        %s: %s,\n' % (field.name, field.say(BLANK_CODE)) for field in fields)
         code.append('''
 pub fn blank_{0}() -> {1}
     ensures {{ λ r. ⌜ r ≡ blank{1} ⌝ }}
@@ -769,12 +776,12 @@ PARTS = [name for name in NAMES if any(field.kind in ('nine', 'struct') and fiel
 PART_NINES = [field.struct for name in PARTS for field in RECORDS[name] if field.kind == 'nine']
 
 
-def zero_of(field):
-    return {
-        'bytes': lambda: 'zeros',
-        'nine': lambda: 'is_blank_%ss' % snake(field.struct),
-        'struct': lambda: 'is_blank_%s' % snake(field.struct),
-    }[field.kind]()
+# The function that tests a field for its blank
+ZERO_CALL = {
+    'bytes': 'zeros',
+    'nine': 'is_blank_{snake}s',
+    'struct': 'is_blank_{snake}',
+}
 
 
 def zero_test(field):
@@ -785,7 +792,7 @@ def zero_test(field):
         return '!x.%s' % field.name, ''
     if field.kind == 'bytes':
         return field.name, '    let {0} = zeros(&x.{0});\n'.format(field.name)
-    return field.name, '    let x_{0} = x.{0};\n    let {0} = {1}(x_{0});\n'.format(field.name, zero_of(field))
+    return field.name, '    let x_{0} = x.{0};\n    let {0} = {1}(x_{0});\n'.format(field.name, field.say(ZERO_CALL))
 
 
 ZERO_HEAD = '''
@@ -936,7 +943,7 @@ def zero_returns(fields, asked, known):
 
 def is_blank_proof(name, fields):
     asked = [field for field in fields if field.kind not in ('number', 'bool')]
-    needs, known = requires([zero_of(field) for field in asked])
+    needs, known = requires([field.say(ZERO_CALL) for field in asked])
     returns = 'unfolding allTrue same{0} blank{0}\n{1}'.format(name, zero_returns(fields, asked, known))
     if is_apart(fields):
         needs.insert(1, first_fails(name, fields[0]))
