@@ -4,7 +4,7 @@ scripts/readers.py makes the proofs of `read_RECORD` of this list, and scripts/w
 `put_RECORD`. A field is its name and its kind: a number (u64, count ..), bytes as they stand
 (array32 ..), a choice among small numbers (kind, phase ..), a mark (version, head), another record
 or group (binding ..), so many places as were counted (members, slots), or an optional part
-(optional_result ..).
+(optional_result ..). How both scripts name formats, needs and places is at the end.
 """
 
 # The format of a kind whose name is not the kind's
@@ -60,5 +60,16 @@ def camel(name):
     return first + "".join(word.capitalize() for word in more)
 
 
+def kebab(name):
+    """A name as the needs of a proof have it: `result-head` of `result_head`."""
+    return name.replace("_", "-")
+
+
+def back(steps):
+    """The place of a walk that is so many steps before c."""
+    return " ".join(["c"] + [".before"] * steps)
+
+
 def format_of(kind):
+    """The format of a kind."""
     return FORMATS.get(kind, camel(kind))

@@ -14,15 +14,15 @@ the number's type.
 """
 import subprocess
 
+from context import CALLED, CLOSED, OPENED, REFERENCE, RESULT, SPEC, Locals, closed, each, sub
+
 CALLS = {
     'voter_slots_table_read': {'core': 'read_over', 'defined': 'tableReadOf', 'number': ''},
     'voter_slots_table_apply': {'core': 'apply_to', 'defined': 'tableApplyOf', 'number': 'u32'},
     'voter_slots_table_observe': {'core': 'observe_at', 'defined': 'tableObserveOf', 'number': ''},
 }
 
-SUB = '₀₁₂₃₄₅₆₇₈₉'
-
-LAW = '''-- The law of a call on a table that is lent to be changed: `let after = core(*table, ..); *table = after.table; after.result`, with {k} parameter{s} after the table.
+LAW = '''-- The law of a call on a table that is lent to be changed: `let after = core(*table, ..); *table = after.table; after.result`, with {parameters} after the table.
 -- It holds for any table, any result, any parameters and any core: the types, the machine values and the contract are variables, so the size of the table plays no part.
 -- Written by scripts/lent.py. Assumes `Given`.
 use mathlib.Core.Path.{{refl}}
@@ -55,65 +55,68 @@ abbrev pub thinFn : ℕ → (τA τN {types} : Ty) → Sym → Ty → Name → F
 thinFn lfts τA τN {types} ν τT f = record {{
   lifetimes = lfts;
   outlives = [];
-  params = {params};
-  locals = local τA valueLocal ∷ local (tyRef (named 0) mut τN) valueLocal ∷ {locals} ∷ local (outcome ν τA τT) valueLocal ∷ local τT valueLocal ∷ [];
+  params = {param-count};
+  locals = local τA valueLocal ∷ local (tyRef (named 0) mut τN) valueLocal ∷ {parameter-locals} ∷ local (outcome ν τA τT) valueLocal ∷ local τT valueLocal ∷ [];
   body =
-      seq (assign (place {t} []) (rvOpd (copy (place 1 (deref τT ∷ [])))))
-      (seq (call f (copy (place {t} []) ∷ {operands} ∷ []) (place {o} []))
-      (seq (assign (place 1 (deref τT ∷ [])) (rvOpd (copy (place {o} (field 1 ∷ [])))))
-      (seq (assign (place 0 []) (rvOpd (copy (place {o} (field 0 ∷ []))))) return)));
+      seq (assign (place {table} []) (rvOpd (copy (place 1 (deref τT ∷ [])))))
+      (seq (call f (copy (place {table} []) ∷ {copies} ∷ []) (place {outcome} []))
+      (seq (assign (place 1 (deref τT ∷ [])) (rvOpd (copy (place {outcome} (field 1 ∷ [])))))
+      (seq (assign (place 0 []) (rvOpd (copy (place {outcome} (field 0 ∷ []))))) return)));
 }}
 
 module _ {{M : Type 1}} (𝓤 : URA M) (H : Heap 𝓤) (A : Atoms 𝓤) (W : Given 𝓤 H A) (R O : RattleType) (τA τN {types} : Ty) (ν : Sym) (τT : Ty) (N : Lendable 𝓤 H A R τT) (G : Gives 𝓤 H A R O τA ν τT N)
-    (κ : Lft) (q : Share) (b o : ℕ) (γ : GName) (h : R .Denot) ({values} : Val) {oks} (φ : O .Denot → Type 0) (Pre X Y Z : SProp 𝓤) (Q Post : Val → SProp 𝓤) where
+    (κ : Lft) (q : Share) (b o : ℕ) (γ : GName) (h : R .Denot) ({values} : Val) {typed} (φ : O .Denot → Type 0) (Pre X Y Z : SProp 𝓤) (Q Post : Val → SProp 𝓤) where
   -- Pre and Q are the core's, at what it is called at; X is what the core asks with the table, and Y what it gives back with the outcome; Z is kept
-  pub thin : (lfts : ℕ) (C : Calls 𝓤 H) (Λ : Loops 𝓤 H) → FmC 𝓤 H (W .laws) C → (f : Name) → ent 𝓤 Pre (C f (N .tval h ∷ {vals} ∷ []) Q)
+  pub thin : (lfts : ℕ) (C : Calls 𝓤 H) (Λ : Loops 𝓤 H) → FmC 𝓤 H (W .laws) C → (f : Name) → ent 𝓤 Pre (C f (N .tval h ∷ {arguments} ∷ []) Q)
       → ent 𝓤 (sep 𝓤 (sem 𝓤 H A (R .own h (N .tval h ∷ []))) X) Pre
       → ((v : Val) → ent 𝓤 (Q v) (H .⇛ (ex 𝓤 (λ (r : O .Denot). sep 𝓤 (sep 𝓤 Y (sem 𝓤 H A (O .own r (v ∷ [])))) (fact 𝓤 (φ r))))))
       → ((r : O .Denot) (v : Val) → Is O r (v ∷ []) → φ r → ent 𝓤 (held 𝓤 A R κ q b o γ (G .table r) (sep 𝓤 Y Z)) (Post (G .aval r)))
-      → ent 𝓤 (held 𝓤 A R κ q b o γ h (sep 𝓤 X Z)) (WpFn 𝓤 H C Λ (thinFn lfts τA τN {types} ν τT f) (vptr b o ∷ {vals} ∷ []) Post)
+      → ent 𝓤 (held 𝓤 A R κ q b o γ h (sep 𝓤 X Z)) (WpFn 𝓤 H C Λ (thinFn lfts τA τN {types} ν τT f) (vptr b o ∷ {arguments} ∷ []) Post)
   thin lfts C Λ fm f met goes-core comes exits =
       qed W (‵ (fobs γ (R .coded .code h)) ∷ ‵ (fbor κ (Body (mem R) b o γ)) ∷ ‵ (flft κ q) ∷ raw X ∷ raw Z ∷ []) ∵
-      enter ! C Λ (thinFn lfts τA τN {types} ν τT f) (vptr b o ∷ {vals} ∷ []) _ $
-      {allocs} alloc0 ! $ params1 ! $ pass1 ! (init ! {at1} refl (tt, tt)) $ {passes} pass0 ! $
+      enter ! C Λ (thinFn lfts τA τN {types} ν τT f) (vptr b o ∷ {arguments} ∷ []) _ $
+      {allocated} alloc0 ! $ params1 ! $ pass1 ! (init ! {reference-at} refl (tt, tt)) $ {passed} pass0 ! $
       -- the borrow is opened, and the table copied
-      move ! ({b0} ∷ {b1} ∷ {b2} ∷ []) $ opens ! tt R {{h = h}} b o (λ vs. spelt ! R (Is R) (shows 𝓤 H A R) (λ y. N .tval y ∷ []) (N .tells) fullShare h vs b o $
+      move ! ({borrow-at} ∷ []) $ opens ! tt R {{h = h}} b o (λ vs. spelt ! R (Is R) (shows 𝓤 H A R) (λ y. N .tval y ∷ []) (N .tells) fullShare h vs b o $
       use1 W (‵ (fat fullShare τT b o (N .tval h))) (N .out fullShare b o h) $ move ! (1 ∷ []) $ peeks ! R (Is R) (shows 𝓤 H A R) h (N .tval h ∷ []) (λ g. move ! (1 ∷ 0 ∷ []) $
       -- [the table's cell; what it owns; the open borrow; obs; auth; the locals from the last to the first, two entries each; X; Z]
-      assigns ! (of-opd ! (load ! (from ! (hop ! (look ! {r1} refl) (stop !))) (look ! 0 refl))) (from ! (stop !)) (init ! {rt} refl (N .typed h g)) $
+      assigns ! (of-opd ! (load ! (from ! (hop ! (look ! {reference-opened} refl) (stop !))) (look ! 0 refl))) (from ! (stop !)) (init ! {table-opened} refl (N .typed h g)) $
       -- the call
-      move ! (1 ∷ {x} ∷ []) $ use2 W (raw Pre) goes-core $
-      calls-from ! fm (raw Pre) (N .tval h ∷ {vals} ∷ []) Q met (and-then ! (load ! (from ! (stop !)) (look ! {rt} refl)) {loads}) (λ v.
+      move ! (1 ∷ {asked-at} ∷ []) $ use2 W (raw Pre) goes-core $
+      calls-from ! fm (raw Pre) (N .tval h ∷ {arguments} ∷ []) Q met {core-operands} (λ v.
       use1 W (later (some (λ (r : O .Denot). (raw Y ⊛ ‵ (O .own r (v ∷ []))) ⊛ raw (fact 𝓤 (φ r))))) (comes v) $ await ! tt $ pick ! (λ r. split ! $ move ! (1 ∷ []) $ heard ! (φ r) (λ e. split ! $ move ! (1 ∷ []) $ peeks ! O (Is O) (shows 𝓤 H A O) r (v ∷ []) (λ is.
       -- [what the outcome owns; Y; the table's cell; the open borrow; obs; auth; the locals; Z]
-      land ! (from ! (stop !)) (init ! {so} refl (G .o-typed r v is)) $ rewrite ! {so} (λ (u : Val). ‵ (fat fullShare (outcome ν τA τT) {lo} 0 u)) (G .spelled r v is) refl $
-      assigns ! (of-opd ! (load ! (from ! (fld ! refl (stop !))) (look-in ! {so} (sub ! 1 refl (whole !))))) (from ! (hop ! (look ! {s1} refl) (stop !))) (store ! 2 refl (N .typed (G .table r) (G .has r v is))) $
-      assigns ! (of-opd ! (load ! (from ! (fld ! refl (stop !))) (look-in ! {so} (sub ! 0 refl (whole !))))) (from ! (stop !)) (init ! {s0} refl (G .a-typed r v is)) $
+      land ! (from ! (stop !)) (init ! {outcome-called} refl (G .o-typed r v is)) $ rewrite ! {outcome-called} (λ (u : Val). ‵ (fat fullShare (outcome ν τA τT) {outcome-local} 0 u)) (G .spelled r v is) refl $
+      assigns ! (of-opd ! (load ! (from ! (fld ! refl (stop !))) (look-in ! {outcome-called} (sub ! 1 refl (whole !))))) (from ! (hop ! (look ! {reference-called} refl) (stop !))) (store ! 2 refl (N .typed (G .table r) (G .has r v is))) $
+      assigns ! (of-opd ! (load ! (from ! (fld ! refl (stop !))) (look-in ! {outcome-called} (sub ! 0 refl (whole !))))) (from ! (stop !)) (init ! {result-called} refl (G .a-typed r v is)) $
       -- the borrow is closed at the outcome's table
       drop ! $ owned ! R (Is R) (N .makes) (G .table r) (N .tval (G .table r) ∷ []) (G .has r v is) $ move ! (2 ∷ []) $ use1 W (‵ (cellAt fullShare (R .mir) (N .tval (G .table r) ∷ []) b o)) (N .in-cell fullShare b o (G .table r)) $
       move ! (0 ∷ 1 ∷ 3 ∷ 4 ∷ 5 ∷ []) $ closes ! tt R (G .table r) (N .tval (G .table r) ∷ []) b o $
       -- [obs; the borrow; the token; Y; the locals; Z]
-      returns ! (look ! {f0} refl) $ {forgets}
-      {frees} free0 ! $
-      by ! (exits r v is e){close}
-'''
+      returns ! (look ! {result-closed} refl) $ {freed}
+      by ! (exits r v is e)'''
 
 
-def law(k):
-    """The law with k parameters after the table. The locals are the result, the reference, the
-    parameters, the outcome and the copy of the table; two entries of the context each, the last
-    local first."""
-    n, o, t = k + 4, k + 2, k + 3
-    at = lambda i: 2 * (n - 1 - i)
-    ps = [i + 2 for i in range(k)]
-    every = range(n)
-    return LAW.format(
-        k=k, s='' if k == 1 else 's', params=k + 1, o=o, t=t, types=' '.join('τ' + SUB[i] for i in ps), values=' '.join('w' + SUB[i] for i in ps),
-        vals=' ∷ '.join('w' + SUB[i] for i in ps), locals=' ∷ '.join('local τ%s valueLocal' % SUB[i] for i in ps), operands=' ∷ '.join('copy (place %d [])' % i for i in ps),
-        oks=' '.join('(ok%s : Typed τ%s w%s)' % (SUB[i], SUB[i], SUB[i]) for i in ps), allocs=' '.join('alloc1 ! (λ l%s.' % SUB[i] for i in every), at1=at(1),
-        passes=' '.join('pass1 ! (init ! %d refl ok%s) $' % (at(i), SUB[i]) for i in ps), b0=2 * n, b1=2 * n + 1, b2=2 * n + 2, r1=5 + at(1), rt=5 + at(t), x=5 + 2 * n,
-        loads=' '.join('(and-then ! (load ! (from ! (stop !)) (look ! %d refl))' % (5 + at(i)) for i in ps) + ' (no-more !)' + ')' * k, so=6 + at(o), lo='l' + SUB[o], s1=6 + at(1), s0=6 + at(0), f0=4 + at(0),
-        forgets=' '.join('forget ! %d refl $' % (4 + at(n - 1 - i)) for i in every), frees=' '.join('move ! (%d ∷ %d ∷ []) $ free1 ! $' % (4 + at(i), 5 + at(i)) for i in every), close=')' * (n + 6))
+def law(parameters):
+    """The law with so many parameters after the table. The temporaries are the outcome and the
+    copy of the table."""
+    locals_ = Locals(parameters, 2)
+    at, outcome, table = locals_.at, locals_.first_temporary, locals_.first_temporary + 1
+    return closed(LAW.format(outcome=outcome, table=table, freed=locals_.freed(CLOSED), **locals_.words(), **{
+        'parameters': '%d parameter%s' % (parameters, '' if parameters == 1 else 's'),
+        'param-count': 1 + parameters,
+        'parameter-locals': each('local τ{s} valueLocal', locals_.parameters, ' ∷ '),
+        'reference-opened': at(REFERENCE, OPENED),
+        'table-opened': at(table, OPENED),
+        # X, which comes after the locals
+        'asked-at': locals_.end(OPENED),
+        'core-operands': locals_.operands([table, *locals_.parameters], OPENED),
+        'outcome-called': at(outcome, CALLED),
+        'outcome-local': 'l' + sub(outcome),
+        'reference-called': at(REFERENCE, CALLED),
+        'result-called': at(RESULT, CALLED),
+        'result-closed': at(RESULT, CLOSED),
+    })) + '\n'
 
 
 PROOF = '''-- `voter_slots::table::{name}` meets its contract: the law of a call on a lent table (`{law}`), at its types and its core.
@@ -271,14 +274,9 @@ thin-meets 𝓤 H A W at-mem run 𝓣 known =
     walk-meets 𝓤 H A thin.ended stayed W (goes 𝓤 H A W at-mem run) (thin.clauses 𝓤 H A at-mem run) (WpFn 𝓤 H (𝓣 .C) (𝓣 .Λ) code.function) (WpFn-mono 𝓤 H (W .laws) 𝓣 code.function)
     (thin-walks 𝓤 H A W at-mem run (𝓣 .C) (𝓣 .Λ) (fmOf 𝓤 H (W .laws) 𝓣) known)
 
-pub {kebab}-spec : {{M : Type 1}} → stated.statement M
-unfolding code.routine tablesOf
-{kebab}-spec 𝓤 H 𝓜 𝓖 𝓡 =
-    entered 𝓤 H (tripleOf 𝓤 H (𝓖 .A) thin.signature (thin.spec 𝓤 H (𝓖 .A) (𝓜 .mem) (𝓡 .run)))
-    (tables 𝓤 H 𝓜 𝓡 code.env .C) (tables 𝓤 H 𝓜 𝓡 code.env .Λ) #thin code.function (code.unfolded 𝓤 H 𝓜 𝓡)
-    (thin-meets 𝓤 H (𝓖 .A) (givenOf 𝓤 H 𝓜 𝓖) (𝓜 .mem) (𝓡 .run) (tablesOf 𝓤 H 𝓜 (tables 𝓤 H 𝓜 𝓡 code.env))
-    (cited 𝓤 H (Core 𝓤 H (𝓖 .A) (𝓜 .mem) (𝓡 .run)) 𝓜 𝓡 code.env #core core-def.routine code.calls-voter-slots·lent·{core-kebab} (core-thm.met 𝓤 H 𝓜 𝓖 𝓡)))
 '''
+
+CITE = '''    (cited 𝓤 H (Core 𝓤 H (𝓖 .A) (𝓜 .mem) (𝓡 .run)) 𝓜 𝓡 code.env #core core-def.routine code.calls-voter-slots·lent·{core-kebab} (core-thm.met 𝓤 H 𝓜 𝓖 𝓡))'''
 
 # What a number between the table and the slice adds to the text: each key is a place of PROOF.
 NUMBER = {
@@ -292,14 +290,23 @@ NONE = dict(dict.fromkeys(NUMBER, ''), told='(a .1 .0) (are .1 .0)')
 
 
 def proof(name, call):
-    numbered = bool(call['number'])
-    return PROOF.format(name=name, kebab=name.replace('_', '-'), law='Thin2' if numbered else 'Thin1', core=call['core'], **{'core-kebab': call['core'].replace('_', '-')}, defined=call['defined'], **(NUMBER if numbered else NONE))
+    """The proof of an export: the law, at its types and its core."""
+    words = {'core': call['core'], 'core-kebab': call['core'].replace('_', '-'), 'kebab': name.replace('_', '-')}
+    words.update(NUMBER if call['number'] else NONE)
+    return (PROOF + SPEC).format(
+        name=name, law='Thin2' if call['number'] else 'Thin1', defined=call['defined'], cites=CITE.format(**words), **words)
 
 
 FOLDER = 'crates/voter_slots/proofs/'
-FILES = {'Thin%d.antt' % k: law(k) for k in (1, 2)}
-FILES.update({'table/%s/Proof.antt' % name: proof(name, call) for name, call in CALLS.items()})
-for path, text in FILES.items():
-    with open(FOLDER + path, 'w', encoding='utf-8') as file:
-        file.write(text)
-subprocess.run(['rt', 'fmt'], check=True)
+
+
+def main():
+    files = {'Thin%d.antt' % parameters: law(parameters) for parameters in (1, 2)}
+    files.update({'table/%s/Proof.antt' % name: proof(name, call) for name, call in CALLS.items()})
+    for path, text in files.items():
+        with open(FOLDER + path, 'w', encoding='utf-8') as file:
+            file.write(text)
+    subprocess.run(['rt', 'fmt'], check=True)
+
+
+main()

@@ -17,7 +17,8 @@ import re
 import subprocess
 import sys
 
-from fields import FIELDS, format_of
+from fields import FIELDS, back, format_of, kebab
+from imports import pruned, words_of
 
 ROOT = os.path.dirname(os.path.dirname(os.path.abspath(__file__)))
 
@@ -29,6 +30,7 @@ def proofs_of(module):
 
 
 def crate_of(module):
+    """The crate of a module."""
     return {"get": "layout", "reading": "layout", "bodies": "journal"}.get(module, "reader")
 
 
@@ -213,15 +215,8 @@ PARTS_BLANKS = {"blankBinding", "blankResultHead", "blankSlotMember", "blankClai
 BLANK_HOMES = {"blankConsensusIdentity": "control.specs.Blank", "blankMarkerBody": "journal·specs.specs.Bodies", "blankBeginHead": "journal·specs.specs.Bodies"}
 
 
-def back(k, c="c"):
-    return " ".join([c] + [".before"] * k)
-
-
-def kebab(name):
-    return name.replace("_", "-")
-
-
 def par(text):
+    """A term as an argument."""
     return f"({text})" if " " in text else text
 
 
@@ -273,6 +268,7 @@ class Reader:
         return (ENUM[k] if k in ENUM else STRUCT[k])[0]
 
     def types(self, k):
+        """The type of the first k fields together."""
         t = self.type_of(0)
         for i in range(1, k):
             u = self.type_of(i)
@@ -380,9 +376,11 @@ class Reader:
         return fields if self.codec in GROUPS else f"via-{way} _ _ _ _ _ ({fields})"
 
     def unfolded(self):
+        """What is unfolded to see the fields of the record."""
         return "" if self.codec in GROUPS else self.codec
 
     def why(self, k):
+        """The call that takes the refusal of field k out of an answer, and its definition."""
         kind = self.kind(k)
         if kind in ENUM and ENUM[kind][2]:
             w = ENUM[kind][2]
@@ -398,137 +396,162 @@ class Reader:
         return w, self.why(k)[1], w if self.enum else kebab(REFUSED.get(self.name, "refused_" + self.name[5:])) + nth(k)
 
 
-def write(r):
-    s = Skeleton(r.module, r.name)
-    n = r.n
-    defs = "-- the format up to each field\n"
-    for k in range(n):
-        c = r.codec_of(0, "") if k == 0 else f"dep to-{r.field(k - 1)} (λ a. {r.codec_of(k, 'a .1')})"
-        defs += abbrev(f"to-{r.field(k)}", f"Codec {par(r.types(k + 1))}", c)
-    defs += r.places() + r.gave()
-    defs += "-- after each field: what was read so far, and up to where\n"
-    for k in range(n):
-        f, got = r.field(k), r.field_got(k)
-        # so many places are asked for as were counted
-        if k + 1 < n and r.kind(k + 1) in COUNTED:
-            counted = f"slotCount .dec (drop ({r.sizes(k - 1, r.last(k))}) ({r.start(k)} .args .bytes .now)) ≡ ok ({f}-value c) ({f}-size c)"
-            defs += f"-- the count by itself: so many places are read\ncounted : (c : {r.place(k)})\n    → {counted}\ncounted c =\n    {got}\n\n"
-            s.fill(kebab(r.call(k + 1)) + "-requires", "count-read _ (counted (c .before))")
-            got = "counted c"
-        defs += f"got-{f} : (c : {r.place(k)})\n    → to-{f} .dec ({r.start(k)} .args .bytes .now) ≡ ok ({r.values(k)}) ({r.sizes(k)})\n"
+def formats(reader):
+    """The format up to each field."""
+    out = "-- the format up to each field\n"
+    for k in range(reader.n):
+        codec = f"dep to-{reader.field(k - 1)} (λ a. {reader.codec_of(k, 'a .1')})" if k else reader.codec_of(0, "")
+        out += abbrev(f"to-{reader.field(k)}", f"Codec {par(reader.types(k + 1))}", codec)
+    return out
+
+
+def counts(reader, k):
+    """Whether field k is the count of the places that are read next."""
+    return k + 1 < reader.n and reader.kind(k + 1) in COUNTED
+
+
+def counted(reader, k):
+    """The lemma of a count by itself."""
+    f = reader.field(k)
+    is_read = f"slotCount .dec (drop ({reader.sizes(k - 1, reader.last(k))}) ({reader.start(k)} .args .bytes .now)) ≡ ok ({f}-value c) ({f}-size c)"
+    return f"-- the count by itself: so many places are read\ncounted : (c : {reader.place(k)})\n    → {is_read}\ncounted c =\n    {reader.field_got(k)}\n\n"
+
+
+def lemmas(reader):
+    """After each field a lemma of what was read so far."""
+    out = "-- after each field: what was read so far, and up to where\n"
+    for k in range(reader.n):
+        f, got = reader.field(k), reader.field_got(k)
+        if counts(reader, k):
+            out, got = out + counted(reader, k), "counted c"
+        out += f"got-{f} : (c : {reader.place(k)})\n    → to-{f} .dec ({reader.start(k)} .args .bytes .now) ≡ ok ({reader.values(k)}) ({reader.sizes(k)})\n"
         if k == 0:
-            defs += f"got-{f} c = {got}\n\n"
+            out += f"got-{f} c = {got}\n\n"
         else:
-            defs += f"got-{f} c =\n    dep-ok _ _ _ (got-{r.field(k - 1)} ({r.last(k)}))\n    ({got})\n\n"
-    for k in range(n):
-        f = r.field(k)
-        w, wd, passed = r.refusal(k)
-        # for an enum's refusal the `else` is one step back, with `refused_x` around it two
-        told = f"{back(1 if r.enum else 2)} .enum-told{nth(k)} .given .1"
-        t = r.field_not(k, told)
-        if k > 0:
-            t = f"dep-no-2 _ _ _ (got-{r.field(k - 1)} (after-{r.field(k - 1)} (refused-{f} c)))\n    ({t})"
-        for _ in range(n - 1 - k):
-            t = f"dep-no-1 _ _ _ ({t})"
-        if r.enum:
-            body = f"\n    ap (λ a. no (numberOf a)) (c .{w} .ensures ∙ ap {wd} ({told}))\n    ∙ sym (via-no _ _ _ _ _ ({t}))"
-        else:
-            body = (f"\n    outcome-no _ (c .{passed} .ensures ∙ ap (λ a. outcome {r.blank} (no (numberOf a))) (c .before .{w} .ensures ∙ ap {wd} ({told})))"
-                    f"\n    ({r.whole('no', t)})")
-        s.fill("returns" if k == 0 else f"returns-{k + 1}", body, r.unfolded())
-        if k + 1 < n:
-            call = r.calls[k + 1][1]
-            base = re.sub(r"-\d+$", "", call) if r.calls[k + 1][0] != r.calls[k + 1][1] else call
-            for need in part_names(base, r, k + 1):
-                s.fill(need, f"to-{f} .within _ (got-{f} c)")
-        if 0 < k < n - 1:
-            s.fill("add-at" if k == 1 else f"add-at-{k}", fits(r, k, "c"))
-    end, m = n - 1, 1 if r.made else 0
-    last = s.last_sum()
+            out += f"got-{f} c =\n    dep-ok _ _ _ (got-{reader.field(k - 1)} ({reader.last(k)}))\n    ({got})\n\n"
+    return out
+
+
+def refused(reader, k):
+    """The answer to the need of the return where field k was refused."""
+    why, defined, passed_on_by = reader.refusal(k)
+    # for an enum's refusal the `else` is one step back, with `refused_x` around it two
+    told = f"{back(1 if reader.enum else 2)} .enum-told{nth(k)} .given .1"
+    fields = reader.field_not(k, told)
+    if k > 0:
+        fields = f"dep-no-2 _ _ _ (got-{reader.field(k - 1)} (after-{reader.field(k - 1)} (refused-{reader.field(k)} c)))\n    ({fields})"
+    for _ in range(reader.n - 1 - k):
+        fields = f"dep-no-1 _ _ _ ({fields})"
+    if reader.enum:
+        return f"\n    ap (λ a. no (numberOf a)) (c .{why} .ensures ∙ ap {defined} ({told}))\n    ∙ sym (via-no _ _ _ _ _ ({fields}))"
+    return f"\n    {passed(passed_on_by, reader.blank, why, defined, told)}\n    ({reader.whole('no', fields)})"
+
+
+def fill_fields(reader, skeleton):
+    """Answers the needs of each field: its refusal, and what the read of the next field asks."""
+    for k in range(reader.n):
+        f = reader.field(k)
+        skeleton.fill(returns(k), refused(reader, k), reader.unfolded())
+        if counts(reader, k):
+            skeleton.fill(kebab(reader.call(k + 1)) + "-requires", "count-read _ (counted (c .before))")
+        if k + 1 < reader.n:
+            for need in part_names(reader, k + 1):
+                skeleton.fill(need, f"to-{f} .within _ (got-{f} c)")
+        if 0 < k < reader.n - 1:
+            skeleton.fill("add-at" if k == 1 else f"add-at-{k}", fits(reader, k, "c"))
+
+
+def fill_end(reader, skeleton):
+    """Answers the needs after the last field: the sum of the sizes, and the return."""
+    end, made = reader.n - 1, 1 if reader.made else 0
+    last = skeleton.last_sum()
     if last:
-        s.fill(last, fits(r, end, back(lasts(s, last, r))))
-    whole = r.whole("ok", f"got-{r.field(end)} {par(back(m + extra(r)))}")
-    if r.made:
-        whole += f"\n    ∙ ap (λ v. ok {made_value(r)} ({r.sizes(end, back(m))})) (sym (c .{kebab(r.made)} .ensures))"
-    body = f"sym ({whole})" if r.enum else f"outcome-ok _ ({whole})"
-    s.fill(f"returns-{n + 1}", "\n    " + body if r.made else body, r.unfolded())
-    s.write(header(r, defs + s.text(), s.own()), defs)
+        skeleton.fill(last, fits(reader, end, back(lasts(skeleton, last, reader))))
+    whole = reader.whole("ok", f"got-{reader.field(end)} {par(back(made + extra(reader)))}")
+    if reader.made:
+        whole += f"\n    ∙ ap (λ v. ok {made_value(reader)} ({reader.sizes(end, back(made))})) (sym (c .{kebab(reader.made)} .ensures))"
+    body = f"sym ({whole})" if reader.enum else f"outcome-ok _ ({whole})"
+    skeleton.fill(returns(reader.n), "\n    " + body if reader.made else body, reader.unfolded())
 
 
-def fits(r, k, c):
+def write(reader):
+    """Writes the proof of the reader of a record."""
+    skeleton = Skeleton(reader.module, reader.name)
+    fill_fields(reader, skeleton)
+    fill_end(reader, skeleton)
+    defs = formats(reader) + reader.places() + reader.gave() + lemmas(reader)
+    skeleton.write(header(reader, defs + skeleton.text(), skeleton.own()), defs)
+
+
+def returns(k):
+    """The need of return k, counted from 0."""
+    return f"returns-{k + 1}" if k else "returns"
+
+
+def fits(reader, k, c):
     """That the bytes up to field k are no more than a number holds; c is the place after it."""
-    f = r.field(k)
-    return f"record {{ fits = lt-of-le-of-lt (to-{f} .within _ (got-{f} {par(c)})) ({r.start(k, c)} .good .0 .0) }}"
+    f = reader.field(k)
+    return f"record {{ fits = lt-of-le-of-lt (to-{f} .within _ (got-{f} {par(c)})) ({reader.start(k, c)} .good .0 .0) }}"
 
 
-def part_names(base, r, k):
+def part_names(reader, k):
     """The needs of the slice that call k takes: they are numbered by the parts of that name."""
-    earlier = sum(1 for i in range(1, k) if r.call(i) == r.call(k))
+    base = kebab(reader.call(k))
+    earlier = sum(1 for i in range(1, k) if reader.call(i) == reader.call(k))
     x = "" if earlier == 0 else f"-{earlier + 1}"
     return f"sub-{base}{x}", f"part-{base}-start{x}"
 
 
-def lasts(s, add, r):
-    """Whether the last sum comes after the constructor's call."""
-    return extra(r) + (1 if r.made and s.before(f"{kebab(r.made)}-requires", add) else 0)
+def lasts(skeleton, add, reader):
+    """The steps from the last field to the last sum, which may come after the constructor's
+    call."""
+    return extra(reader) + (1 if reader.made and skeleton.before(f"{kebab(reader.made)}-requires", add) else 0)
 
 
-def extra(r):
+def extra(reader):
     """Steps after the last field: `let member = head.member;` in a slot's reader."""
-    return 1 if r.name == "read_slot" else 0
+    return 1 if reader.name == "read_slot" else 0
 
 
-def made_value(r):
-    if r.name == "read_slot_member":
-        return f"(record {{ member = v; «retired_through» = {r.value(1, r.last(2, back(1)))} }})"
+def made_value(reader):
+    """The record, of what the constructor's call made (v)."""
+    if reader.name == "read_slot_member":
+        return f"(record {{ member = v; «retired_through» = {reader.value(1, reader.last(2, back(1)))} }})"
     return "v"
 
 
-def pruned(line, body):
-    """The `use` line with the names that the body has, or nothing."""
-    m = re.fullmatch(r"use (\S+)\.\{(.*)\}", line)
-    if m:
-        kept = [n for n in m.group(2).split(", ")
-                if (all(x in body for x in n.split("_") if x) if n.startswith("_") else re.search(rf"(?<![\w'·-]){re.escape(n)}(?![\w'-])", body))]
-        return f"use {m.group(1)}.{{{', '.join(kept)}}}" if kept else None
-    m = re.fullmatch(r"use \S+ as (\S+)", line)
-    return line if m is None or f" {m.group(1)}." in body else None
+def blank_home(blank):
+    """The module of a blank."""
+    return BLANK_HOMES.get(blank, "layout.specs.Parts" if blank in PARTS_BLANKS else "records.specs.Blank")
 
 
-def header(r, body, own):
-    # without what is projected: `.result` is no format
-    words = set(re.findall(r"[\w«»·'-]+", re.sub(r" \.[\w«»-]+", "", body)))
-    lines = [f"-- `{crate_of(r.module)}::{r.module}::{r.name}` meets its contract: field by field. Written by scripts/readers.py. Assumes nothing.",
-             "use Prim.Native.Nat.{ℕ, _+_, _≤_}", "use mathlib.Core.Bool.{Bool}", "use mathlib.Core.List.{List}", "use mathlib.Core.Path.{_≡_, refl, sym, ap, _∙_}",
-             "use native.Mathlib.Nat.{lt-of-le-of-lt}", "use borrow.Author.Needs.{needs}", "use lib.ListN.{length, drop}",
-             "use Rattle.format.specs.Res.Res.{ok, no}",
+def header(reader, body, own):
+    """The first lines of a record's proof: what it says, and the imports of what the body names."""
+    words = sorted(words_of(body))
+    lines = ["use Prim.Native.Nat.{ℕ, _+_, _≤_}", "use mathlib.Core.Bool.{Bool}", "use mathlib.Core.List.{List}", "use mathlib.Core.Path.{_≡_, refl, sym, ap, _∙_}",
+             FITS, "use borrow.Author.Needs.{needs}", "use lib.ListN.{length, drop}", RESULTS,
              "use Rattle.format.specs.Combinators.{Codec, dep, dep-ok, dep-no-1, dep-no-2, via-ok, via-no, rest}"]
-    blanks = sorted(w for w in words if re.fullmatch(r"(blank|absent)\w+", w))
-    homes = {b: BLANK_HOMES.get(b, "layout.specs.Parts" if b in PARTS_BLANKS else "records.specs.Blank") for b in blanks}
+    blanks = [word for word in words if re.fullmatch(r"(blank|absent)\w+", word)]
     for home in ("records.specs.Blank", "layout.specs.Parts", *dict.fromkeys(BLANK_HOMES.values())):
-        if home in homes.values():
-            lines.append(f"use Rattle.{home}.{{" + ", ".join(b for b in blanks if homes[b] == home) + "}")
+        lines.append(f"use Rattle.{home}.{{{', '.join(blank for blank in blanks if blank_home(blank) == home)}}}")
+    reading = [word for word in words if re.fullmatch(r"[a-z]\w*Read|why[A-Z]\w*", word)]
     for home, names in HOMES.items():
-        hit = [x for x in names if x in words]
-        if home.endswith(".Reading"):
-            hit += sorted(w for w in words if re.fullmatch(r"\w+Read|why[A-Z]\w*", w) and not w[0].isupper())
-        if hit:
-            lines.append(f"use Rattle.{home}.{{{', '.join(dict.fromkeys(hit))}}}")
-    for home, names in DECLARED.items():
-        lines += [f"use Rattle.{home}.{x}.{{{x}}}" for x in names if x in words]
-    return lines[:1] + [l for l in (pruned(l, body) for l in lines[1:] + own) if l]
+        lines.append(f"use Rattle.{home}.{{{', '.join(names + reading if home.endswith('.Reading') else names)}}}")
+    lines += [f"use Rattle.{home}.{name}.{{{name}}}" for home, names in DECLARED.items() for name in names]
+    says = f"-- `{crate_of(reader.module)}::{reader.module}::{reader.name}` meets its contract: field by field. Written by scripts/readers.py. Assumes nothing."
+    return [says] + pruned(lines + own, body)
 
 
 def refill(module, name, uses, defs, bodies):
     """Writes a file of these imports, definitions and answers to needs."""
-    s = Skeleton(module, name)
+    skeleton = Skeleton(module, name)
     for need, answer in bodies.items():
-        s.fill(s.last_sum() if need == LAST_SUM else need, *(answer if isinstance(answer, tuple) else (answer,)))
-    body = defs + s.text()
+        skeleton.fill(skeleton.last_sum() if need == LAST_SUM else need, *(answer if isinstance(answer, tuple) else (answer,)))
+    body = defs + skeleton.text()
     if crate_of(module) == "layout":
         uses = [use.replace("Rattle.layout.specs.", "Rattle.layout.specs.") for use in uses]
-    lines = [l for l in (pruned(l, body) for l in sorted(uses) + ["use borrow.Author.Needs.{needs}"] + s.own()) if l]
-    s.write([f"-- `{crate_of(module)}::{module}::{name}` meets its contract. Written by scripts/readers.py. Assumes nothing."] + lines, defs)
+    lines = pruned(sorted(uses) + ["use borrow.Author.Needs.{needs}"] + skeleton.own(), body)
+    skeleton.write([f"-- `{crate_of(module)}::{module}::{name}` meets its contract. Written by scripts/readers.py. Assumes nothing."] + lines, defs)
 
 
 PATH = "use mathlib.Core.Path.{_≡_, refl, sym, ap, _∙_, subst}"
@@ -538,25 +561,13 @@ LAWS = "use Rattle.layout.specs.ReadingLaws.{got, told, told-not, outcome-ok, o
 ARITH = "use native.Mathlib.Omega.{arith}"
 FITS = "use native.Mathlib.Nat.{lt-of-le-of-lt}"
 LAST_SUM = "the last sum"
+# What the answer was that a call was refused with, at a return after it
+TOLD = f"{back(2)} .enum-told .given .1"
 
-
-def optional(name, codec, absent, blank, call, make):
-    """A flag, and after a yes the part."""
-    whole, part, refused = f"opt {codec} {blank}", f"tie.After-{call}", f"refused-optional-{name}"
-
-    def source(place):
-        return f"({place} .{call} .ensures ∙ ap (λ l. outcome {blank} ({codec} .dec l)) (rest (start (at-flag (at-yes ({place}))) .args .bytes .now) _))"
-
-    defs = "-- the start and the flag's place, from after them; the part's call, from after the part and from after its refusal\n"
-    for place in [("start", "tie.After-flag → tie.Start", 4), ("at-flag", "tie.Else1 → tie.After-flag", 2), ("at-yes", f"{part} → tie.Else1", 2),
-                  ("called", f"tie.After-value → {part}", 4), ("refused", f"tie.After-{refused}2 → {part}", 4)]:
-        defs += abbrev(place[0], place[1], back(place[2]))
-    defs += "-- how many bytes the flag has, and the whole\n"
-    defs += abbrev("flag-size", "tie.After-flag → ℕ", "c .flag .given .0 .1 .0")
-    defs += abbrev("size", "tie.After-value → ℕ", f"flag-size (at-flag (at-yes (called c))) + {back(2)} .to .given .0 .0")
-    defs += f"""-- the flag, what it says in the branch of a yes, and the whole
+# What is said of the flag of an optional part, and of the whole
+OPTIONAL = '''-- the flag, what it says in the branch of a yes, and the whole
 flagged : (c : tie.After-flag) → flag .dec (start c .args .bytes .now) ≡ ok (c .flag .given .0 .0) (flag-size c)
-flagged c = got boolRead ({back(2)} .read-flag .ensures) (c .flag .given .1)
+flagged c = got boolRead (c .before .before .read-flag .ensures) (c .flag .given .1)
 
 yes-is : (c : tie.Else1) → at-flag c .flag .given .0 .0 ≡ true
 yes-is c = not-false _ (c .if1 .left)
@@ -568,52 +579,13 @@ both : (c : tie.After-value) → {whole} .dec (start (at-flag (at-yes (called c)
 both c =
     opt-some _ _ _ (flagged-yes (at-yes (called c)))
     (told {blank} _
-    {source("called c")}
-    ({back(2)} .to .given .1))
+    {source}
+    (c .before .before .to .given .1))
 
-"""
-    told, told2 = f"{back(2)} .enum-told .given .1", f"{back(2)} .enum-told2 .given .1"
+'''
 
-    def passed(n, why, said):
-        return f"outcome-no {absent} (c .{refused}{n} .ensures ∙ ap (λ a. outcome {absent} (no (numberOf a))) ({back(1)} .{why[0]} .ensures ∙ ap {why[1]} ({said})))"
-
-    refill("decode", f"read_optional_{name}", [
-        "use Prim.Native.Nat.{ℕ, _+_}", PATH, "use mathlib.Core.Bool.{true, false}", FITS, "use borrow.Author.Tests.{not-true, not-false}", RESULTS,
-        "use Rattle.format.specs.Combinators.{rest}", "use Rattle.format.specs.List.{flag, opt, opt-no, opt-none, opt-some, opt-bad}", NUMBER,
-        f"use Rattle.records.specs.Blank.{{{blank}}}", f"use Rattle.layout.specs.Layout.{{{codec}}}",
-        f"use Rattle.layout.specs.Parts.{{{absent}}}", "use Rattle.layout.specs.Reading.{outcome, boolRead, whyOf, whyBool}", LAWS,
-    ], defs, {
-        "returns": f"\n    {passed('', ('why-bool', 'whyBool'), told)}\n    (opt-no _ _ _ (got boolRead ({back(4)} .read-flag .ensures) ({told})))",
-        "returns-2": f"""
-    let f = {back(3)} in
-    let n = flag-size f in
-    let t = not-true _ (c .before .if1 .taken) in
-    let p : {whole} .dec (start f .args .bytes .now) ≡ ok (false, {blank}) n = opt-none _ _ _ (flagged f ∙ ap (λ b. ok b n) t) in
-    outcome-ok {absent} (p ∙ (λ i. ok (sym t i, sym (c .{make} .ensures) i) n))""",
-        f"sub-{call}": "flag .within _ (flagged (at-flag c))",
-        f"part-{call}-start": "flag .within _ (flagged (at-flag c))",
-        "returns-3": f"""
-    {passed('2', ('why', 'whyOf'), told2)}
-    (opt-bad _ _ _ (flagged-yes (at-yes (refused c)))
-    (told-not {blank} _
-    {source("refused c")}
-    ({told2})))""",
-        LAST_SUM: f"record {{ fits = lt-of-le-of-lt (({whole}) .within _ (both c)) (start (at-flag (at-yes (called c))) .good .0 .0) }}",
-        "returns-4": f"""
-    outcome-ok {absent}
-    (both c ∙ ap (λ b. ok (b, called c .{call} .result .value) (size c)) (sym (yes-is (at-yes (called c)))))""",
-    })
-
-
-def places(name, element, blanks, blank, make):
-    """The first so many of nine places."""
-    call, vec, of = f"read-{element}", f"vec {element} {blank}", "Inv-loop μ-loop"
-    part, told = f"tie.After-{call} {of}", f"{back(2)} .enum-told .given .1"
-
-    def source(place, at):
-        return f"({place} .{call} .ensures ∙ ap (λ l. outcome {blank} ({element} .dec l)) (rest (start (turn ({place})) .args .bytes .now) ({at})))"
-
-    defs = f"""abbrev Inv-loop : tie.InvT-loop
+# The loop that reads places, and what a turn of it reads
+PLACES_LOOP = '''abbrev Inv-loop : tie.InvT-loop
 Inv-loop bytes count value₀ at₀ i₀ value at i =
     (i ≤ count) × ({vec} i .dec bytes ≡ ok (take i value) at) × (drop i value ≡ drop i value₀) × (length value ≡ 9)
 
@@ -621,127 +593,262 @@ abbrev μ-loop : tie.MeasureT-loop
 μ-loop bytes count value₀ at₀ i₀ value at i = count - i
 
 -- the start, from within the loop; the turn of the loop, from the call in it; that call, from after its answer and from after its refusal
-"""
-    for place in [("start", f"tie.In-loop {of} → tie.Start {of}", 4), ("turn", f"{part} → tie.In-loop {of}", 2),
-                  ("called", f"tie.After-to {of} → {part}", 2), ("refused", f"tie.After-refused-{name} {of} → {part}", 4)]:
-        defs += abbrev(place[0], place[1], back(place[2]))
-    defs += f"""-- one more was read, after those before it
+'''
+ONE_MORE = '''-- one more was read, after those before it
 one-more : (c : tie.After-to {of})
     → {element} .dec (drop (turn (called c) .before .loop .at) (start (turn (called c)) .args .bytes .now)) ≡ ok (called c .{call} .result .value) (c .to .given .0 .0)
-one-more c = told {blank} _ {source("called c", "turn (called c) .before .loop .at")} (c .to .given .1)
+one-more c = told {blank} _ {more-source} (c .to .given .1)
 
 -- after those that were read there are blanks
 blanks-after : (i : ℕ) → drop i {blanks} ≡ replicate (9 - i) {blank}
 unfolding {blanks}
 blanks-after i = drop-replicate i 9 {blank}
 
-"""
-    refill("decode", f"read_{name}", [
-        "use Prim.Native.Nat.{ℕ, _+_, _-_, _≤_}", PATH, "use mathlib.Core.List.{_++_}", FITS, ARITH,
-        "use lib.ListN.{length, take, drop, set, replicate, length-set, take-append-drop}", RESULTS, "use Rattle.format.specs.Combinators.{rest}",
-        "use Rattle.format.specs.Copy.{filled-more, unfilled-more, drop-replicate}",
-        "use Rattle.format.specs.List.{vec, vec-start, vec-next, vec-refused, padded-ok, padded-no}", NUMBER,
-        f"use Rattle.records.specs.Blank.{{{blank}}}", f"use Rattle.layout.specs.Layout.{{{element}, {name}}}",
-        f"use Rattle.layout.specs.Parts.{{{blanks}}}", "use Rattle.layout.specs.Reading.{outcome, whyOf}", LAWS,
-    ], defs, {
-        **{need: "search needs" for need in [f"{make}-requires", f"part-{call}-end", f"{call}-requires", "enum-known-to", "enum-told", "why-requires",
-                                             f"refused-{name}-requires", "mul-value", "array-set-from-value", "add-i"]},
-        "loop-holds": (f"(search needs, vec-start {element} {blank} _, refl, ap length (c .{make} .ensures))", blanks),
-        f"sub-{call}": f"{vec} _ .within _ (c .before .loop .inv .1)",
-        f"part-{call}-start": f"{vec} _ .within _ (c .before .loop .inv .1)",
-        "returns": (f"""
-    let l = turn (refused c) .before .loop in
-    outcome-no {blanks} (c .refused-{name} .ensures ∙ ap (λ a. outcome {blanks} (no (numberOf a))) ({back(1)} .why .ensures ∙ ap whyOf ({told})))
-    (padded-no _ _ _ _ _ _ (vec-refused _ _ _ _ _ (turn (refused c) .loop-test .taken) (l .inv .1)
-    (told-not {blank} _ {source("refused c", "l .at")} ({told}))))""", name),
-        "add-at": f"""
-    let t = turn (called ({back(2)})) in
-    record {{ fits = lt-of-le-of-lt ({vec} _ .within _ (vec-next {element} {blank} _ _ (t .before .loop .inv .1) (one-more ({back(2)})))) (start t .good .0 .0) }}""",
-        "loop-less": "omega arith",
-        "loop-again": f"""
-    let l = turn (called ({back(2)})) .before .loop in
-    let m = called ({back(2)}) .{call} .result .value in (
-      omega arith,
-      vec-next {element} {blank} _ _ (l .inv .1) (one-more ({back(2)}))
-        ∙ ap (λ v. ok v (l .at + {back(2)} .to .given .0 .0)) (sym (filled-more (l .value) (l .i) m (omega (arith, l .inv .3)))),
-      unfilled-more (l .value) _ (l .i) m (l .inv .2),
-      length-set (l .value) (l .i) m ∙ l .inv .3,
-    )""",
-        "returns-2": (f"""
-    let l = c .before .loop in
-    let a = {back(4)} .args in
-    let e : l .i ≡ a .count = omega arith in
-    let v : l .value ≡ take (l .i) (l .value) ++ replicate (9 - a .count) {blank}
-        = sym (take-append-drop (l .i) (l .value))
-            ∙ ap (λ t. take (l .i) (l .value) ++ t) (l .inv .2 ∙ ap (drop (l .i)) ({back(2)} .{make} .ensures) ∙ blanks-after (l .i))
-            ∙ ap (λ n. take (l .i) (l .value) ++ replicate (9 - n) {blank}) e in
-    outcome-ok {blanks}
-    (padded-ok _ _ _ _ _ _ (subst (λ n. {vec} n .dec (a .bytes .now) ≡ ok (take (l .i) (l .value)) (l .at)) e (l .inv .1)) ∙ ap (λ x. ok x (l .at)) (sym v))""", name),
-    })
+'''
 
-
-def text(name, codec, blank, size):
-    """Sized bytes that are UTF-8, in a place of so many."""
-    call, zeros, refused = f"read_{name}", f"zeros{size}", "refused-" + kebab(name)
-    told, after = f"{back(2)} .enum-told .given .1", "tie.After-known-told"
-
-    def names(place):
-        return f"let n = text-size ({place}) in\n    let at = text-at ({place}) in\n    let s = input ({place}) in"
-
-    defs = "-- the start, from after the size was read; that place, from after the text was refused and from after its place was made\n"
-    defs += abbrev("start", f"{after} → tie.Start", back(5))
-    defs += abbrev("sized-refused", f"tie.After-{refused}2 → {after}", back(4))
-    defs += abbrev("sized-held", f"tie.After-place → {after}", back(5))
-    defs += "-- how many bytes the text has, where it begins, and in which bytes\n"
-    defs += abbrev("text-size", f"{after} → ℕ", "c .before .size .given .0 .0")
-    defs += abbrev("text-at", f"{after} → ℕ", "c .before .size .given .0 .1 .0")
-    defs += abbrev("input", f"{after} → List ℕ", "start c .args .bytes .now")
-    defs += f"""-- what was read
+# What was read of a text
+TEXT_READ = '''-- what was read
 is : (c : {after}) → sized {size} .dec (input c) ≡ ok (text-size c, take (text-size c) (drop (text-at c) (input c))) (text-at c + text-size c)
-is c = got (λ r. sizedRead r (input c)) ({back(3)} .read-sized .ensures) (c .before .size .given .1)
+is c = got (λ r. sizedRead r (input c)) (c .before .before .before .read-sized .ensures) (c .before .size .given .1)
 
 fits : (c : {after}) → text-at c + text-size c ≤ length (input c)
 fits c = sized {size} .within _ (is c)
 
-"""
-    opened = f"{codec} string"
-    refill("reader", call, [
-        "use Prim.Native.Nat.{ℕ, _+_, _-_, _≤_}", PATH, "use mathlib.Core.List.{List, _++_}", FITS, ARITH,
-        "use lib.ListN.{length, take, drop, replicate, length-take, length-drop}", "use lib.Seq.{length-take-le}", RESULTS,
-        "use Rattle.format.specs.Combinators.{checked-ok, checked-no, checked-bad, via-ok, via-no}", "use Rattle.format.specs.Copy.{length-zeros}",
-        "use Rattle.format.specs.Fill.{put-zeros}", "use Rattle.format.specs.Num.{pick}", "use Rattle.format.specs.Put.{put}", NUMBER,
-        "use Rattle.identity.specs.Text.{isUtf8}", f"use Rattle.records.specs.Blank.{{{blank}}}", "use Rattle.records.specs.ValidationLaws.{failed, held}",
-        f"use Rattle.layout.specs.Layout.{{require, sized, string, {codec}}}", "use Rattle.layout.specs.LayoutLaws.{sized-small, part-is}",
-        "use Rattle.layout.specs.Reading.{outcome, sizedRead, whySized}", LAWS,
-    ], defs, {
-        "returns": (f"""
+'''
+
+
+def passed(refused, blank, why, definition, told, value="_"):
+    """That a refusal was passed on: the call `why`, of this definition, took it out of the answer,
+    which is told, and the call `refused` made the result of it."""
+    answer = f"ap (λ a. outcome {blank} (no (numberOf a))) ({back(1)} .{why} .ensures ∙ ap {definition} ({told}))"
+    return f"outcome-no {value} (c .{refused} .ensures ∙ {answer})"
+
+
+def places_back(*places):
+    """Names of places: the name, its type, and the steps back."""
+    return "".join(abbrev(name, kind, back(steps)) for name, kind, steps in places)
+
+
+class Optional:
+    """A flag, and after a yes the part."""
+
+    def __init__(self, name, codec, absent, blank, call, make):
+        self.name, self.codec, self.absent, self.blank, self.call, self.make = name, codec, absent, blank, call, make
+        self.whole, self.refused = f"opt {codec} {blank}", f"refused-optional-{name}"
+
+    def source(self, place):
+        """What the part's call ensures, of the bytes as the format has them."""
+        read = f"rest (start (at-flag (at-yes ({place}))) .args .bytes .now) _"
+        return f"({place} .{self.call} .ensures ∙ ap (λ l. outcome {self.blank} ({self.codec} .dec l)) ({read}))"
+
+    def defs(self):
+        part = f"tie.After-{self.call}"
+        out = "-- the start and the flag's place, from after them; the part's call, from after the part and from after its refusal\n"
+        out += places_back(
+            ("start", "tie.After-flag → tie.Start", 4), ("at-flag", "tie.Else1 → tie.After-flag", 2), ("at-yes", f"{part} → tie.Else1", 2),
+            ("called", f"tie.After-value → {part}", 4), ("refused", f"tie.After-{self.refused}2 → {part}", 4))
+        out += "-- how many bytes the flag has, and the whole\n"
+        out += abbrev("flag-size", "tie.After-flag → ℕ", "c .flag .given .0 .1 .0")
+        out += abbrev("size", "tie.After-value → ℕ", f"flag-size (at-flag (at-yes (called c))) + {back(2)} .to .given .0 .0")
+        return out + OPTIONAL.format(whole=self.whole, call=self.call, blank=self.blank, source=self.source("called c"))
+
+    def uses(self):
+        return [
+            "use Prim.Native.Nat.{ℕ, _+_}", PATH, "use mathlib.Core.Bool.{true, false}", FITS, "use borrow.Author.Tests.{not-true, not-false}", RESULTS,
+            "use Rattle.format.specs.Combinators.{rest}", "use Rattle.format.specs.List.{flag, opt, opt-no, opt-none, opt-some, opt-bad}", NUMBER,
+            f"use Rattle.records.specs.Blank.{{{self.blank}}}", f"use Rattle.layout.specs.Layout.{{{self.codec}}}",
+            f"use Rattle.layout.specs.Parts.{{{self.absent}}}", "use Rattle.layout.specs.Reading.{outcome, boolRead, whyOf, whyBool}", LAWS,
+        ]
+
+    def refusals(self):
+        """The returns where the flag or the part was refused."""
+        told = f"{back(2)} .enum-told2 .given .1"
+        return {
+            "returns": f"""
+    {passed(self.refused, self.absent, "why-bool", "whyBool", TOLD, self.absent)}
+    (opt-no _ _ _ (got boolRead ({back(4)} .read-flag .ensures) ({TOLD})))""",
+            "returns-3": f"""
+    {passed(self.refused + "2", self.absent, "why", "whyOf", told, self.absent)}
+    (opt-bad _ _ _ (flagged-yes (at-yes (refused c)))
+    (told-not {self.blank} _
+    {self.source("refused c")}
+    ({told})))""",
+        }
+
+    def write(self):
+        refill("decode", f"read_optional_{self.name}", self.uses(), self.defs(), {
+            **self.refusals(),
+            "returns-2": f"""
+    let f = {back(3)} in
+    let n = flag-size f in
+    let t = not-true _ (c .before .if1 .taken) in
+    let p : {self.whole} .dec (start f .args .bytes .now) ≡ ok (false, {self.blank}) n = opt-none _ _ _ (flagged f ∙ ap (λ b. ok b n) t) in
+    outcome-ok {self.absent} (p ∙ (λ i. ok (sym t i, sym (c .{self.make} .ensures) i) n))""",
+            f"sub-{self.call}": "flag .within _ (flagged (at-flag c))",
+            f"part-{self.call}-start": "flag .within _ (flagged (at-flag c))",
+            LAST_SUM: f"record {{ fits = lt-of-le-of-lt (({self.whole}) .within _ (both c)) (start (at-flag (at-yes (called c))) .good .0 .0) }}",
+            "returns-4": f"""
+    outcome-ok {self.absent}
+    (both c ∙ ap (λ b. ok (b, called c .{self.call} .result .value) (size c)) (sym (yes-is (at-yes (called c)))))""",
+        })
+
+
+class Places:
+    """The first so many of nine places."""
+
+    def __init__(self, name, element, blanks, blank, make):
+        self.name, self.element, self.blanks, self.blank, self.make = name, element, blanks, blank, make
+        self.call, self.vec = f"read-{element}", f"vec {element} {blank}"
+
+    def source(self, place, at):
+        """What the call in the loop ensures, of the bytes as the format has them."""
+        read = f"rest (start (turn ({place})) .args .bytes .now) ({at})"
+        return f"({place} .{self.call} .ensures ∙ ap (λ l. outcome {self.blank} ({self.element} .dec l)) ({read}))"
+
+    def defs(self):
+        of = "Inv-loop μ-loop"
+        part, to = f"tie.After-{self.call} {of}", f"tie.After-to {of}"
+        words = {"vec": self.vec, "element": self.element, "blank": self.blank, "blanks": self.blanks, "call": self.call, "of": of,
+                 "more-source": self.source("called c", "turn (called c) .before .loop .at")}
+        named = places_back(
+            ("start", f"tie.In-loop {of} → tie.Start {of}", 4), ("turn", f"{part} → tie.In-loop {of}", 2),
+            ("called", f"{to} → {part}", 2), ("refused", f"tie.After-refused-{self.name} {of} → {part}", 4))
+        return PLACES_LOOP.format(**words) + named + ONE_MORE.format(**words)
+
+    def uses(self):
+        return [
+            "use Prim.Native.Nat.{ℕ, _+_, _-_, _≤_}", PATH, "use mathlib.Core.List.{_++_}", FITS, ARITH,
+            "use lib.ListN.{length, take, drop, set, replicate, length-set, take-append-drop}", RESULTS, "use Rattle.format.specs.Combinators.{rest}",
+            "use Rattle.format.specs.Copy.{filled-more, unfilled-more, drop-replicate}",
+            "use Rattle.format.specs.List.{vec, vec-start, vec-next, vec-refused, padded-ok, padded-no}", NUMBER,
+            f"use Rattle.records.specs.Blank.{{{self.blank}}}", f"use Rattle.layout.specs.Layout.{{{self.element}, {self.name}}}",
+            f"use Rattle.layout.specs.Parts.{{{self.blanks}}}", "use Rattle.layout.specs.Reading.{outcome, whyOf}", LAWS,
+        ]
+
+    def turns(self):
+        """The needs of the loop."""
+        holds = f"(search needs, vec-start {self.element} {self.blank} _, refl, ap length (c .{self.make} .ensures))"
+        return {
+            "loop-holds": (holds, self.blanks),
+            f"sub-{self.call}": f"{self.vec} _ .within _ (c .before .loop .inv .1)",
+            f"part-{self.call}-start": f"{self.vec} _ .within _ (c .before .loop .inv .1)",
+            "add-at": f"""
+    let t = turn (called ({back(2)})) in
+    record {{ fits = lt-of-le-of-lt ({self.vec} _ .within _ (vec-next {self.element} {self.blank} _ _ (t .before .loop .inv .1) (one-more ({back(2)})))) (start t .good .0 .0) }}""",
+            "loop-less": "omega arith",
+            "loop-again": f"""
+    let l = turn (called ({back(2)})) .before .loop in
+    let m = called ({back(2)}) .{self.call} .result .value in (
+      omega arith,
+      vec-next {self.element} {self.blank} _ _ (l .inv .1) (one-more ({back(2)}))
+        ∙ ap (λ v. ok v (l .at + {back(2)} .to .given .0 .0)) (sym (filled-more (l .value) (l .i) m (omega (arith, l .inv .3)))),
+      unfilled-more (l .value) _ (l .i) m (l .inv .2),
+      length-set (l .value) (l .i) m ∙ l .inv .3,
+    )""",
+        }
+
+    def returns(self):
+        """The returns: where a place was refused, and at the end."""
+        return {
+            "returns": (f"""
+    let l = turn (refused c) .before .loop in
+    {passed("refused-" + self.name, self.blanks, "why", "whyOf", TOLD, self.blanks)}
+    (padded-no _ _ _ _ _ _ (vec-refused _ _ _ _ _ (turn (refused c) .loop-test .taken) (l .inv .1)
+    (told-not {self.blank} _ {self.source("refused c", "l .at")} ({TOLD}))))""", self.name),
+            "returns-2": (f"""
+    let l = c .before .loop in
+    let a = {back(4)} .args in
+    let e : l .i ≡ a .count = omega arith in
+    let v : l .value ≡ take (l .i) (l .value) ++ replicate (9 - a .count) {self.blank}
+        = sym (take-append-drop (l .i) (l .value))
+            ∙ ap (λ t. take (l .i) (l .value) ++ t) (l .inv .2 ∙ ap (drop (l .i)) ({back(2)} .{self.make} .ensures) ∙ blanks-after (l .i))
+            ∙ ap (λ n. take (l .i) (l .value) ++ replicate (9 - n) {self.blank}) e in
+    outcome-ok {self.blanks}
+    (padded-ok _ _ _ _ _ _ (subst (λ n. {self.vec} n .dec (a .bytes .now) ≡ ok (take (l .i) (l .value)) (l .at)) e (l .inv .1)) ∙ ap (λ x. ok x (l .at)) (sym v))""", self.name),
+        }
+
+    def write(self):
+        searched = [f"{self.make}-requires", f"part-{self.call}-end", f"{self.call}-requires", "enum-known-to", "enum-told", "why-requires",
+                    f"refused-{self.name}-requires", "mul-value", "array-set-from-value", "add-i"]
+        needs = {**dict.fromkeys(searched, "search needs"), **self.turns(), **self.returns()}
+        refill("decode", f"read_{self.name}", self.uses(), self.defs(), needs)
+
+
+class Text:
+    """Sized bytes that are UTF-8, in a place of so many."""
+
+    def __init__(self, name, codec, blank, size):
+        self.name, self.codec, self.blank, self.size = name, codec, blank, size
+        self.zeros, self.refused, self.opened = f"zeros{size}", "refused-" + kebab(name), f"{codec} string"
+
+    def names(self, place):
+        """Names for the text's size, its place and the bytes, for the lines that follow."""
+        return f"let n = text-size ({place}) in\n    let at = text-at ({place}) in\n    let s = input ({place}) in"
+
+    def defs(self):
+        after = "tie.After-known-told"
+        out = "-- the start, from after the size was read; that place, from after the text was refused and from after its place was made\n"
+        out += places_back(("start", f"{after} → tie.Start", 5), ("sized-refused", f"tie.After-{self.refused}2 → {after}", 4),
+                           ("sized-held", f"tie.After-place → {after}", 5))
+        out += "-- how many bytes the text has, where it begins, and in which bytes\n"
+        out += abbrev("text-size", f"{after} → ℕ", "c .before .size .given .0 .0")
+        out += abbrev("text-at", f"{after} → ℕ", "c .before .size .given .0 .1 .0")
+        out += abbrev("input", f"{after} → List ℕ", "start c .args .bytes .now")
+        return out + TEXT_READ.format(after=after, size=self.size)
+
+    def uses(self):
+        return [
+            "use Prim.Native.Nat.{ℕ, _+_, _-_, _≤_}", PATH, "use mathlib.Core.List.{List, _++_}", FITS, ARITH,
+            "use lib.ListN.{length, take, drop, replicate, length-take, length-drop}", "use lib.Seq.{length-take-le}", RESULTS,
+            "use Rattle.format.specs.Combinators.{checked-ok, checked-no, checked-bad, via-ok, via-no}", "use Rattle.format.specs.Copy.{length-zeros}",
+            "use Rattle.format.specs.Fill.{put-zeros}", "use Rattle.format.specs.Num.{pick}", "use Rattle.format.specs.Put.{put}", NUMBER,
+            "use Rattle.identity.specs.Text.{isUtf8}", f"use Rattle.records.specs.Blank.{{{self.blank}}}",
+            "use Rattle.records.specs.ValidationLaws.{failed, held}", f"use Rattle.layout.specs.Layout.{{require, sized, string, {self.codec}}}",
+            "use Rattle.layout.specs.LayoutLaws.{sized-small, part-is}", "use Rattle.layout.specs.Reading.{outcome, sizedRead, whySized}", LAWS,
+        ]
+
+    def refusals(self):
+        """The returns where the size or the text was refused."""
+        return {
+            "returns": (f"""
     let s = {back(6)} .args .bytes .now in
-    outcome-no _ (c .{refused} .ensures ∙ ap (λ a. outcome {blank} (no (numberOf a))) ({back(1)} .why-sized .ensures ∙ ap whySized ({told})))
-    (via-no _ _ _ _ _ (checked-no _ _ _ (got (λ r. sizedRead r s) ({back(4)} .read-sized .ensures) ({told}))))""", opened),
-        "add-end": "record { fits = lt-of-le-of-lt (fits c) (start c .good .0 .0) }",
-        "sub-text": "omega arith",
-        "part-text-start": "omega arith",
-        "part-text-end": "fits c",
-        "returns-2": (f"""
-    {names("sized-refused c")}
-    outcome-no _ (c .{refused}2 .ensures)
+    {passed(self.refused, self.blank, "why-sized", "whySized", TOLD)}
+    (via-no _ _ _ _ _ (checked-no _ _ _ (got (λ r. sizedRead r s) ({back(4)} .read-sized .ensures) ({TOLD}))))""", self.opened),
+            "returns-2": (f"""
+    {self.names("sized-refused c")}
+    outcome-no _ (c .{self.refused}2 .ensures)
     (via-no _ _ _ _ _ (checked-bad _ _ _ (is (sized-refused c))
-    (ap require (ap isUtf8 (sym (part-is n at s)) ∙ failed ({back(2)} .is-utf8 .ensures) ({back(1)} .if1 .taken)))))""", opened + " pick"),
-        "put-bytes-requires": f"""
-    {names("sized-held c")}
-    let z : length ({back(1)} .{zeros} .result) ≡ {size} = ap length ({back(1)} .{zeros} .ensures) ∙ length-zeros {size} in
-    omega (arith, length-take (at + n - at) (drop at s), z, sized-small {size} s (is (sized-held c)))""",
-        "returns-3": (f"""
+    (ap require (ap isUtf8 (sym (part-is n at s)) ∙ failed ({back(2)} .is-utf8 .ensures) ({back(1)} .if1 .taken)))))""", self.opened + " pick"),
+        }
+
+    def held(self):
+        """The text in its place: that it has room there, and the return with it."""
+        return {
+            "put-bytes-requires": f"""
+    {self.names("sized-held c")}
+    let z : length ({back(1)} .{self.zeros} .result) ≡ {self.size} = ap length ({back(1)} .{self.zeros} .ensures) ∙ length-zeros {self.size} in
+    omega (arith, length-take (at + n - at) (drop at s), z, sized-small {self.size} s (is (sized-held c)))""",
+            "returns-3": (f"""
     let k = sized-held ({back(2)}) in
-    {names("k")}
+    {self.names("k")}
     let l = take n (drop at s) in
     let h : length l ≡ n = length-take-le n (drop at s) (omega (arith, length-drop at s, fits k)) in
-    let p = {back(1)} .put-bytes .ensures .bytes ∙ (λ i. put (part-is n at s i) 0 ({back(3)} .{zeros} .ensures i)) ∙ put-zeros l {size} ∙ ap (λ m. l ++ replicate ({size} - m) 0) h in
-    outcome-ok {blank}
+    let p = {back(1)} .put-bytes .ensures .bytes ∙ (λ i. put (part-is n at s i) 0 ({back(3)} .{self.zeros} .ensures i)) ∙ put-zeros l {self.size} ∙ ap (λ m. l ++ replicate ({self.size} - m) 0) h in
+    outcome-ok {self.blank}
     (via-ok _ _ _ _ _ (checked-ok _ _ _ (is k)
     (ap require (ap isUtf8 (sym (part-is n at s)) ∙ held ({back(5)} .is-utf8 .ensures) ({back(4)} .if1 .left))))
-        ∙ ap (λ b. ok (record {{ len = n; bytes = b }}) (at + n)) (sym p))""", opened + " pick"),
-    })
+        ∙ ap (λ b. ok (record {{ len = n; bytes = b }}) (at + n)) (sym p))""", self.opened + " pick"),
+        }
+
+    def write(self):
+        refill("reader", f"read_{self.name}", self.uses(), self.defs(), {
+            "add-end": "record { fits = lt-of-le-of-lt (fits c) (start c .good .0 .0) }",
+            "sub-text": "omega arith",
+            "part-text-start": "omega arith",
+            "part-text-end": "fits c",
+            **self.refusals(),
+            **self.held(),
+        })
 
 
 def array(size):
@@ -796,12 +903,12 @@ def passed_on(module, name):
 
 
 TEMPLATES = {
-    "read_optional_result": lambda: optional("result", "result", "absentResult", "blankVoterReplacementResult", "read-result", "blank-voter-replacement-result"),
-    "read_optional_snapshot": lambda: optional("snapshot", "snapshot", "absentSnapshot", "blankVoterSnapshotEvidence", "read-snapshot", "blank-voter-snapshot-evidence"),
-    "read_members": lambda: places("members", "member", "blankVoterSlotMembers", "blankVoterSlotMember", "blank-voter-slot-members"),
-    "read_slots": lambda: places("slots", "slot", "blankVoterSlotRecords", "blankVoterSlotRecord", "blank-voter-slot-records"),
-    "read_spiffe_id": lambda: text("spiffe_id", "spiffeId", "blankSpiffeId", 2048),
-    "read_snapshot_id": lambda: text("snapshot_id", "snapshotId", "blankSnapshotId", 256),
+    "read_optional_result": Optional("result", "result", "absentResult", "blankVoterReplacementResult", "read-result", "blank-voter-replacement-result").write,
+    "read_optional_snapshot": Optional("snapshot", "snapshot", "absentSnapshot", "blankVoterSnapshotEvidence", "read-snapshot", "blank-voter-snapshot-evidence").write,
+    "read_members": Places("members", "member", "blankVoterSlotMembers", "blankVoterSlotMember", "blank-voter-slot-members").write,
+    "read_slots": Places("slots", "slot", "blankVoterSlotRecords", "blankVoterSlotRecord", "blank-voter-slot-records").write,
+    "read_spiffe_id": Text("spiffe_id", "spiffeId", "blankSpiffeId", 2048).write,
+    "read_snapshot_id": Text("snapshot_id", "snapshotId", "blankSnapshotId", 256).write,
     "read_array16": lambda: array(16),
     "read_array32": lambda: array(32),
     "read_array64": lambda: array(64),

@@ -63,6 +63,7 @@ class Field:
     def __init__(self, name, written, declared):
         written = ALIASES.get(written, written)
         self.name = name
+        self.struct = self.size = self.length = ''
         array = re.fullmatch(r'\[(\w+); (\w+)\]', written)
         size = int(CONSTANTS.get(array.group(2), array.group(2))) if array else 0
         if written in WIDTHS:
@@ -82,7 +83,15 @@ class Field:
         return '«%s»' % self.name if '_' in self.name else self.name
 
     def of(self, value):
+        """The field of a value."""
         return '(%s .%s)' % (value, self.quoted())
+
+    def say(self, templates):
+        """The template of its kind. In it {a} and {b} are the field of a and of b, {struct} is its
+        struct and {snake} the struct in the name of a function, {size} is an array's length and
+        {length} the same as the source writes it."""
+        return templates[self.kind].format(
+            a=self.of('a'), b=self.of('b'), struct=self.struct, snake=snake(self.struct), size=self.size, length=self.length, places=PLACES, places_name=PLACES_NAME)
 
 
 RECORDS = {}
@@ -163,15 +172,14 @@ def listed(before, entries):
 # ---- equality: definitions
 
 
-def test(field):
-    a, b = field.of('a'), field.of('b')
-    return {
-        'number': lambda: 'eqb %s %s' % (a, b),
-        'bool': lambda: 'Bool·beq %s %s' % (a, b),
-        'bytes': lambda: 'eqBytes %s %s' % (a, b),
-        'nine': lambda: 'eqList same%s %s %s' % (field.struct, a, b),
-        'struct': lambda: 'same%s %s %s' % (field.struct, a, b),
-    }[field.kind]()
+# The test of a field of a and b
+TEST = {
+    'number': 'eqb {a} {b}',
+    'bool': 'Bool·beq {a} {b}',
+    'bytes': 'eqBytes {a} {b}',
+    'nine': 'eqList same{struct} {a} {b}',
+    'struct': 'same{struct} {a} {b}',
+}
 
 
 def equality():
@@ -202,7 +210,7 @@ abbrev pub eqBytes : List ℕ → List ℕ → Bool
 eqBytes a b = eqList eqb a b
 ''']
     for name, fields in RECORDS.items():
-        tests = ''.join('%s\n    ∷ ' % test(field) for field in fields)
+        tests = ''.join('%s\n    ∷ ' % field.say(TEST) for field in fields)
         parts.append('''
 unfoldable pub same{0} : {0} → {0} → Bool
 same{0} a b =
@@ -215,29 +223,27 @@ same{0} a b =
 # ---- equality: laws
 
 
-def from_true(field):
-    return {
-        'number': lambda: 'eqb-true _ _',
-        'bool': lambda: 'beq-true _ _',
-        'bytes': lambda: 'eqBytes-true _ _',
-        'nine': lambda: 'eqList-true same{0} same{0}-true _ _'.format(field.struct),
-        'struct': lambda: 'same%s-true _ _' % field.struct,
-    }[field.kind]()
+# That the fields are the same where that test holds
+FROM_TRUE = {
+    'number': 'eqb-true _ _',
+    'bool': 'beq-true _ _',
+    'bytes': 'eqBytes-true _ _',
+    'nine': 'eqList-true same{struct} same{struct}-true _ _',
+    'struct': 'same{struct}-true _ _',
+}
 
 
-def of_itself(field):
-    a = field.of('a')
-    return {
-        'number': lambda: 'eqb-refl %s' % a,
-        'bool': lambda: 'beq-refl %s' % a,
-        'bytes': lambda: 'eqBytes-refl %s' % a,
-        'nine': lambda: 'eqList-refl same{0} same{0}-refl {1}'.format(field.struct, a),
-        'struct': lambda: 'same%s-refl %s' % (field.struct, a),
-    }[field.kind]()
+# That a field of a is the same as itself
+OF_ITSELF = {
+    'number': 'eqb-refl {a}',
+    'bool': 'beq-refl {a}',
+    'bytes': 'eqBytes-refl {a}',
+    'nine': 'eqList-refl same{struct} same{struct}-refl {a}',
+    'struct': 'same{struct}-refl {a}',
+}
 
 
-def equality_laws():
-    parts = ['''
+LAWS_HEAD = '''
 -- Laws of equality: a test that holds is a path, each value is the same as itself, and the steps of the loops over lists. %s
 -- Each name here is a step of a proof; what is right is said in Equality.
 -- Assumes nothing.
@@ -252,7 +258,9 @@ use lib.Seq.{take-all}
 use lib.Dec.{eqb}
 use borrow.Author.Tests.{eqb-true, eq-eqb}
 use Rattle.records.specs.Equality.{allTrue, eqList, eqBytes, %s}
-%s''' % (BY, all_of('same'), DECLARED), '''
+%s'''
+
+ANY_TEST_LAWS = '''
 -- ---- any test with the laws `-true` and `-refl`
 
 module _ {A : Type 0} (f : A → A → Bool) where
@@ -268,7 +276,9 @@ module _ {A : Type 0} (f : A → A → Bool) where
       not-true : (t : Bool) → (t ≡ true → ⊥) → t ≡ false
       not-true true h = absurd (h refl)
       not-true false h = refl
-''', '''
+'''
+
+TEST_LAWS = '''
 -- ---- numbers, bools and lists of tests
 
 eqb-refl : (n : ℕ) → eqb n n ≡ true
@@ -298,7 +308,9 @@ all-each (p ∷ (q ∷ ps)) h = let k = and-eq-true-iff p (allTrue (q ∷ ps)) .
 pub all-first : (p q : Bool) (ps : List Bool) → p ≡ false → allTrue (p ∷ (q ∷ ps)) ≡ false
 unfolding allTrue
 all-first p q ps h = rw h
-''', '''
+'''
+
+LIST_LAWS = '''
 -- ---- lists
 
 module _ {A : Type 0} (f : A → A → Bool) where
@@ -344,21 +356,17 @@ module _ {A : Type 0} (f : A → A → Bool) where
   pub eqList-end : (a b : List A) (i : ℕ) (same : Bool) → length a ≤ i → length b ≤ i
       → same ≡ eqList f (take i a) (take i b) → same ≡ eqList f a b
   eqList-end a b i same h k p = p ∙ (λ j. eqList f (take-all i a h j) (take-all i b k j))
-''', '''
+'''
+
+BYTES_LAWS = '''
 pub eqBytes-true : (a b : List ℕ) → eqBytes a b ≡ true → a ≡ b
 eqBytes-true a b h = eqList-true eqb eqb-true a b h
 
 pub eqBytes-refl : (a : List ℕ) → eqBytes a a ≡ true
 eqBytes-refl a = eqList-refl eqb eqb-refl a
-''', '-- ---- the records']
-    for name, fields in RECORDS.items():
-        lets, path = '', 'e'
-        for i, field in enumerate(fields):
-            lets += '    let e%d : a .%s ≡ b .%s = %s (%s .0) in\n' % (i, field.quoted(), field.quoted(), from_true(field), path)
-            path += ' .1'
-        paths = record(['%s = e%d i' % (field.quoted(), i) for i, field in enumerate(fields)], 'λ i. ')
-        selves = listed('rw', [of_itself(field) for field in fields])
-        parts.append('''
+'''
+
+RECORD_LAWS = '''
 pub same{0}-true : (a b : {0}) → same{0} a b ≡ true → a ≡ b
 unfolding same{0}
 same{0}-true a b h =
@@ -368,8 +376,24 @@ same{0}-true a b h =
 pub same{0}-refl : (a : {0}) → same{0} a a ≡ true
 unfolding allTrue same{0}
 {3}
-'''.format(name, lets, paths, clause('same%s-refl a' % name, selves)))
-    write('specs/EqualityLaws.antt', *parts)
+'''
+
+
+def record_laws(name, fields):
+    """That a test of a record that holds is a path, and that each value is the same as itself."""
+    lets, path = '', 'e'
+    for i, field in enumerate(fields):
+        lets += '    let e%d : a .%s ≡ b .%s = %s (%s .0) in\n' % (i, field.quoted(), field.quoted(), field.say(FROM_TRUE), path)
+        path += ' .1'
+    paths = record(['%s = e%d i' % (field.quoted(), i) for i, field in enumerate(fields)], 'λ i. ')
+    selves = listed('rw', [field.say(OF_ITSELF) for field in fields])
+    return RECORD_LAWS.format(name, lets, paths, clause('same%s-refl a' % name, selves))
+
+
+def equality_laws():
+    head = LAWS_HEAD % (BY, all_of('same'), DECLARED)
+    records = [record_laws(name, fields) for name, fields in RECORDS.items()]
+    write('specs/EqualityLaws.antt', head, ANY_TEST_LAWS, TEST_LAWS, LIST_LAWS, BYTES_LAWS, '-- ---- the records', *records)
 
 
 # ---- equality: code
@@ -381,8 +405,7 @@ def is_apart(fields):
     return [field.kind for field in fields[:3]] == ['bytes'] * 3
 
 
-def equality_code():
-    parts = ['''
+EQUALITY_HEAD = '''
 // Whether two records are the same, field by field. %s
 //
 // Stands for the `PartialEq` that openpacketcore-sdk derives in
@@ -392,7 +415,9 @@ def equality_code():
 // byte by byte.
 ghost use mathlib.Core.Path.{_≡_};
 ghost use Rattle.records.specs.Equality.{eqBytes, eqList, %s};
-%s''' % (BY, all_of('same'), use_rattle(NAMES)), '''
+%s'''
+
+SAME_BYTES = '''
 // Whether two slices hold the same bytes.
 pub fn same_bytes(a: &[u8], b: &[u8]) -> bool
     ensures { λ r. ⌜ r ≡ eqBytes (now (a .entry)) (now (b .entry)) ⌝ }
@@ -408,43 +433,25 @@ pub fn same_bytes(a: &[u8], b: &[u8]) -> bool
     }
     same
 }
-''']
-    for size in SIZES:
-        parts.append('''
+'''
+
+SAME_SIZE = '''
 pub fn same{0}(a: [u8; {0}], b: [u8; {0}]) -> bool
     ensures {{ λ r. ⌜ r ≡ eqBytes a b ⌝ }}
 {{
     same_bytes(&a, &b)
 }}
-'''.format(size))
-    for name, fields in RECORDS.items():
-        lets, tests = '', []
-        for field in fields:
-            if field.kind in ('number', 'bool'):
-                tests.append('(a.{0} == b.{0})'.format(field.name))
-                continue
-            pair = '&a.{0}, &b.{0}'
-            if field.kind != 'bytes':
-                lets += '    let a_{0} = a.{0};\n    let b_{0} = b.{0};\n'.format(field.name)
-                pair = 'a_{0}, b_{0}'
-            call = '%s(%s)' % (same_of(field), pair.format(field.name))
-            if field is fields[0] and is_apart(fields):
-                lets += '    if !%s {\n        return false;\n    }\n' % call
-            else:
-                lets += '    let %s = %s;\n' % (field.name, call)
-                tests.append(field.name)
-        answer = tests[-1]
-        for one in reversed(tests[:-1]):
-            answer = '%s & (%s)' % (one, answer) if ' & ' in answer else '%s & %s' % (one, answer)
-        parts.append('''
+'''
+
+SAME_RECORD = '''
 pub fn same_{0}(a: {1}, b: {1}) -> bool
     ensures {{ λ r. ⌜ r ≡ same{1} a b ⌝ }}
 {{
 {2}    {3}
 }}
-'''.format(snake(name), name, lets, answer))
-        if name in NINES:
-            parts.append('''
+'''
+
+SAME_NINE = '''
 // The nine places of a table or a configuration, whatever its count.
 pub fn same_{0}s(a: [{1}; {2}], b: [{1}; {2}]) -> bool
     ensures {{ λ r. ⌜ r ≡ eqList same{1} a b ⌝ }}
@@ -459,16 +466,57 @@ pub fn same_{0}s(a: [{1}; {2}], b: [{1}; {2}]) -> bool
     }}
     same
 }}
-'''.format(snake(name), name, PLACES_NAME))
+'''
+
+
+def joined(tests, operator):
+    """The tests with the operator between them, in brackets from the right."""
+    whole = tests[-1]
+    for one in reversed(tests[:-1]):
+        whole = ('%s%s(%s)' if operator in whole else '%s%s%s') % (one, operator, whole)
+    return whole
+
+
+def returns_early(call):
+    return '    if !%s {\n        return false;\n    }\n' % call
+
+
+def same_code(name, fields):
+    """The test of two records, field by field."""
+    lets, tests = '', []
+    for field in fields:
+        if field.kind in ('number', 'bool'):
+            tests.append('(a.{0} == b.{0})'.format(field.name))
+            continue
+        pair = '&a.{0}, &b.{0}'
+        if field.kind != 'bytes':
+            lets += '    let a_{0} = a.{0};\n    let b_{0} = b.{0};\n'.format(field.name)
+            pair = 'a_{0}, b_{0}'
+        call = '%s(%s)' % (field.say(SAME_CALL), pair.format(field.name))
+        if field is fields[0] and is_apart(fields):
+            lets += returns_early(call)
+        else:
+            lets += '    let %s = %s;\n' % (field.name, call)
+            tests.append(field.name)
+    return SAME_RECORD.format(snake(name), name, lets, joined(tests, ' & '))
+
+
+def equality_code():
+    parts = [EQUALITY_HEAD % (BY, all_of('same'), use_rattle(NAMES)), SAME_BYTES]
+    parts += [SAME_SIZE.format(size) for size in SIZES]
+    for name, fields in RECORDS.items():
+        parts.append(same_code(name, fields))
+        if name in NINES:
+            parts.append(SAME_NINE.format(snake(name), name, PLACES_NAME))
     write('src/equality.rt', *parts)
 
 
-def same_of(field):
-    return {
-        'bytes': lambda: 'same_bytes',
-        'nine': lambda: 'same_%ss' % snake(field.struct),
-        'struct': lambda: 'same_%s' % snake(field.struct),
-    }[field.kind]()
+# The function that tests two fields
+SAME_CALL = {
+    'bytes': 'same_bytes',
+    'nine': 'same_{snake}s',
+    'struct': 'same_{snake}',
+}
 
 
 # ---- proofs
@@ -504,6 +552,19 @@ def need(name, lines):
     return (name, 'Need-' + name, lines)
 
 
+def by_arith(*names):
+    """Needs that arithmetic answers."""
+    return [need(name, name + ' c = omega arith') for name in names]
+
+
+def loop_over(variables, invariant, measure):
+    """The invariant and the measure of a loop, over its variables."""
+    return [
+        ('Inv-loop', None, 'abbrev Inv-loop : tie.InvT-loop\nInv-loop %s = %s' % (variables, invariant)),
+        ('μ-loop', None, 'abbrev μ-loop : tie.MeasureT-loop\nμ-loop %s = %s' % (variables, measure)),
+    ]
+
+
 def requires(calls):
     """The need of each call, and the name under which the later code knows the call."""
     count, needs, known = {}, [], []
@@ -518,60 +579,75 @@ def requires(calls):
 
 def along(tests):
     """The tests, joined as in the code, each along its path to the definition."""
-    path = tests[-1]
-    for one in reversed(tests[:-1]):
-        path = '%s && (%s)' % (one, path) if ' && ' in path else '%s && %s' % (one, path)
+    path = joined(tests, ' && ')
     if len(path) + 9 > MOST:
         return '\n    ' + path.replace(' && ', '\n    && ')
     return ' ' + path
 
 
+class Steps:
+    """How many steps of the walk a function takes: for a call with lent arrays, for one with copied
+    structs, and for a comparison where no array is lent (with one there are none)."""
+
+    def __init__(self, lent, copied, comparison):
+        self.lent, self.copied, self.comparison = lent, copied, comparison
+
+    def back(self, fields, called):
+        """From the return back to the calls, of which there is one for each field in `called`.
+        Gives the lines that name their places, the name of each place, and the steps from the first
+        call to the start."""
+        lends = any(field.kind == 'bytes' for field in fields)
+        lets, at, steps, places = '', 'c', 0 if lends else self.comparison * (len(fields) - len(called)), []
+        for i in reversed(range(len(called))):
+            if i == 0 and is_apart(fields):
+                # one step more to a test by itself
+                lets += '    let e = %s%s in\n' % (at, ' .before' * steps)
+                at, steps = 'e', 1
+            if steps:
+                lets += '    let c%d = %s%s in\n' % (i, at, ' .before' * steps)
+                at = 'c%d' % i
+            places.insert(0, at)
+            steps = self.lent if called[i].kind == 'bytes' else self.copied
+        return lets, places, ' .before' * steps
+
+
+# of a test of two records
+SAME_STEPS = Steps(7, 3, 2)
+
+
+def same_returns(fields, compared, known):
+    """The proof of the last return, from what the calls ensure."""
+    if not compared:
+        return 'returns c = search needs'
+    lets, places, start = SAME_STEPS.back(fields, compared)
+    told = ['%s .%s .ensures' % pair for pair in zip(places, known)]
+    if not is_apart(fields):
+        return 'returns c =\n%s%s' % (lets, listed('simp', told))
+    # more calls than `simp` takes: the path from the code to the definition, field by field
+    lets += ''.join('    let %s = %s%s .args .%s in\n' % (name, places[0], start, arg) for name, arg in (('a', 't1'), ('b', 't2')))
+    told[0] = 'sym (held (%s) (e .if1 .left))' % told[0]
+    paths = ['%s i' % told.pop(0) if field in compared else field.say(TEST) for field in fields]
+    return 'returns-2 c =\n%s    λ i.%s' % (lets, along(paths))
+
+
+def same_proof(name, fields):
+    compared = [field for field in fields if field.kind not in ('number', 'bool')]
+    needs, known = requires([field.say(SAME_CALL) for field in compared])
+    returns = 'unfolding allTrue same%s\n%s' % (name, same_returns(fields, compared, known))
+    uses = [NEEDS, 'Rattle.records.specs.Equality.{allTrue, same%s}' % name]
+    if is_apart(fields):
+        first = 'returns c = sym (all-first _ _ _ (failed (c .before .%s .ensures) (c .if1 .taken)))' % known[0]
+        needs.insert(1, need('returns', 'unfolding same%s\n%s' % (name, first)))
+        needs.append(need('returns-2', returns))
+        uses = ['mathlib.Core.Path.{sym}', 'mathlib.Core.Bool.{_&&_}', 'lib.Dec.{eqb}'] + uses + APART
+    else:
+        needs.append(need('returns', returns))
+    write_proof('equality', 'same_' + snake(name), 'field by field', uses, needs)
+
+
 def equality_proofs():
     for name, fields in RECORDS.items():
-        function = 'same_' + snake(name)
-        compared = [field for field in fields if field.kind not in ('number', 'bool')]
-        calls = [same_of(field) for field in compared]
-        needs, known = requires(calls)
-        apart = is_apart(fields)
-        answer = 'returns-2' if apart else 'returns'
-        head = 'unfolding allTrue same%s\n' % name
-        uses = ['Rattle.records.specs.Equality.{allTrue, same%s}' % name]
-        if calls:
-            # from the return back to each call: two steps for each comparison, and none where an
-            # array is lent; then seven for a call with two lent arrays and three for one with two
-            # copied structs; one more to a test by itself
-            lends = any(field.kind == 'bytes' for field in fields)
-            lets, at, steps = '', 'c', 0 if lends else 2 * (len(fields) - len(calls))
-            told = []
-            for i in range(len(calls) - 1, -1, -1):
-                if apart and i == 0:
-                    lets += '    let e = %s%s in\n' % (at, ' .before' * steps)
-                    at, steps = 'e', 1
-                if steps:
-                    lets += '    let c%d = %s%s in\n' % (i, at, ' .before' * steps)
-                    at = 'c%d' % i
-                told.insert(0, '%s .%s .ensures' % (at, known[i]))
-                steps = 7 if compared[i].kind == 'bytes' else 3
-            if apart:
-                told[0] = 'held (%s) (e .if1 .left)' % told[0]
-            returns = head + '%s c =\n%s%s' % (answer, lets, listed('simp', told))
-            if apart:
-                # more calls than `simp` takes: the path from the code to the definition, field by
-                # field
-                lets += '    let a = c0%s .args .t1 in\n    let b = c0%s .args .t2 in\n' % ((' .before' * 7,) * 2)
-                told[0] = 'sym (%s)' % told[0]
-                returns = head + '%s c =\n%s    λ i.%s' % (answer, lets, along([
-                    '%s i' % told.pop(0) if field in compared else test(field) for field in fields]))
-        else:
-            returns = head + 'returns c = search needs'
-        needs.append(need(answer, returns))
-        if apart:
-            needs.insert(1, need('returns', '''unfolding same{0}
-returns c = sym (all-first _ _ _ (failed (c .before .{1} .ensures) (c .if1 .taken)))'''.format(name, known[0])))
-            uses = ['mathlib.Core.Path.{sym}', 'mathlib.Core.Bool.{_&&_}', 'lib.Dec.{eqb}', NEEDS] + uses + APART
-        else:
-            uses = [NEEDS] + uses
-        write_proof('equality', function, 'field by field', uses, needs)
+        same_proof(name, fields)
         if name in NINES:
             nine_proof(name)
     bytes_proof()
@@ -588,16 +664,11 @@ def nine_proof(name):
         'Rattle.records.specs.Equality.{eqList, same%s}' % name,
         'Rattle.records.specs.EqualityLaws.{eqList-more, eqList-end}',
     ], [
-        ('Inv-loop', None, 'abbrev Inv-loop : tie.InvT-loop\nInv-loop a b same₀ i₀ same i = (i ≤ %d) × (same ≡ eqList same%s (take i a) (take i b))' % (PLACES, name)),
-        ('μ-loop', None, 'abbrev μ-loop : tie.MeasureT-loop\nμ-loop a b same₀ i₀ same i = %d - i' % PLACES),
+        *loop_over('a b same₀ i₀ same i', '(i ≤ %d) × (same ≡ eqList same%s (take i a) (take i b))' % (PLACES, name), '%d - i' % PLACES),
         need('loop-holds', 'unfolding eqList\nloop-holds c = (omega arith, refl)'),
-        need('mul-x', 'mul-x c = omega arith'),
-        need('array-copy-out-x', 'array-copy-out-x c = omega arith'),
-        need('mul-y', 'mul-y c = omega arith'),
-        need('array-copy-out-y', 'array-copy-out-y c = omega arith'),
+        *by_arith('mul-x', 'array-copy-out-x', 'mul-y', 'array-copy-out-y'),
         need(call + '-requires', call + '-requires c κs = search needs'),
-        need('add-i', 'add-i c = omega arith'),
-        need('loop-less', 'loop-less c = omega arith'),
+        *by_arith('add-i', 'loop-less'),
         need('loop-again', '''loop-again c =
     let l = c .before .before .before .before in
     let good = l .before .good in
@@ -623,14 +694,10 @@ def bytes_proof():
         'Rattle.records.specs.Equality.{eqList, eqBytes}',
         'Rattle.records.specs.EqualityLaws.{eqList-lengths, eqList-more, eqList-end}',
     ], [
-        ('Inv-loop', None, 'abbrev Inv-loop : tie.InvT-loop\nInv-loop a b same₀ i₀ same i = ((i ≤ length a) × (length a ≡ length b)) × (same ≡ eqBytes (take i a) (take i b))'),
-        ('μ-loop', None, 'abbrev μ-loop : tie.MeasureT-loop\nμ-loop a b same₀ i₀ same i = length a - i'),
+        *loop_over('a b same₀ i₀ same i', '((i ≤ length a) × (length a ≡ length b)) × (same ≡ eqBytes (take i a) (take i b))', 'length a - i'),
         need('returns', 'returns c = sym (eqList-lengths eqb _ _ (c .if1 .taken))'),
         need('loop-holds', 'unfolding eqList\nloop-holds c = ((omega arith, c .if1 .left), refl)'),
-        need('shared-slice-read-same', 'shared-slice-read-same c = omega arith'),
-        need('shared-slice-read-same-2', 'shared-slice-read-same-2 c = omega arith'),
-        need('add-i', 'add-i c = omega arith'),
-        need('loop-less', 'loop-less c = omega arith'),
+        *by_arith('shared-slice-read-same', 'shared-slice-read-same-2', 'add-i', 'loop-less'),
         need('loop-again', '''loop-again c =
     let l = c .before .before .before in
     (omega arith, eqList-more eqb 0 _ _ (l .loop .i) _ _ (omega arith) (omega arith) (l .loop .inv .1) refl)'''),
@@ -641,24 +708,24 @@ def bytes_proof():
 # ---- blanks
 
 
-def blank_value(field):
-    return {
-        'number': lambda: '0',
-        'bool': lambda: 'false',
-        'bytes': lambda: 'replicate %d 0' % field.size,
-        'nine': lambda: 'replicate %d blank%s' % (PLACES, field.struct),
-        'struct': lambda: 'blank' + field.struct,
-    }[field.kind]()
+# The blank of a field, in the definition
+BLANK = {
+    'number': '0',
+    'bool': 'false',
+    'bytes': 'replicate {size} 0',
+    'nine': 'replicate {places} blank{struct}',
+    'struct': 'blank{struct}',
+}
 
 
-def blank_code_value(field):
-    return {
-        'number': lambda: '0',
-        'bool': lambda: 'false',
-        'bytes': lambda: '[0; %s]' % field.length,
-        'nine': lambda: '[%s; %s]' % (snake(field.struct), PLACES_NAME),
-        'struct': lambda: snake(field.struct),
-    }[field.kind]()
+# The blank of a field, in the code
+BLANK_CODE = {
+    'number': '0',
+    'bool': 'false',
+    'bytes': '[0; {length}]',
+    'nine': '[{snake}; {places_name}]',
+    'struct': '{snake}',
+}
 
 
 def blanks():
@@ -679,13 +746,13 @@ ghost use Rattle.records.specs.Blank.{%s};
 %s%s''' % (BY, all_of('blank'), use_rattle(NAMES), ''.join('use identity::text::%s;\n' % name for name in LENGTHS))]
     for name, fields in RECORDS.items():
         spec.append('unfoldable pub blank{0} : {0}\n{1}'.format(
-            name, clause('blank' + name, record(['%s = %s' % (field.quoted(), blank_value(field)) for field in fields]))))
+            name, clause('blank' + name, record(['%s = %s' % (field.quoted(), field.say(BLANK)) for field in fields]))))
         parts = []
         for field in fields:
             if field.kind in ('nine', 'struct') and field.struct not in parts:
                 parts.append(field.struct)
         lets = ''.join('    let {0} = blank_{0}();\n'.format(snake(part)) for part in parts)
-        values = ''.join('        %s: %s,\n' % (field.name, blank_code_value(field)) for field in fields)
+        values = ''.join('        %s: %s,\n' % (field.name, field.say(BLANK_CODE)) for field in fields)
         code.append('''
 pub fn blank_{0}() -> {1}
     ensures {{ λ r. ⌜ r ≡ blank{1} ⌝ }}
@@ -709,12 +776,12 @@ PARTS = [name for name in NAMES if any(field.kind in ('nine', 'struct') and fiel
 PART_NINES = [field.struct for name in PARTS for field in RECORDS[name] if field.kind == 'nine']
 
 
-def zero_of(field):
-    return {
-        'bytes': lambda: 'zeros',
-        'nine': lambda: 'is_blank_%ss' % snake(field.struct),
-        'struct': lambda: 'is_blank_%s' % snake(field.struct),
-    }[field.kind]()
+# The function that tests a field for its blank
+ZERO_CALL = {
+    'bytes': 'zeros',
+    'nine': 'is_blank_{snake}s',
+    'struct': 'is_blank_{snake}',
+}
 
 
 def zero_test(field):
@@ -725,11 +792,10 @@ def zero_test(field):
         return '!x.%s' % field.name, ''
     if field.kind == 'bytes':
         return field.name, '    let {0} = zeros(&x.{0});\n'.format(field.name)
-    return field.name, '    let x_{0} = x.{0};\n    let {0} = {1}(x_{0});\n'.format(field.name, zero_of(field))
+    return field.name, '    let x_{0} = x.{0};\n    let {0} = {1}(x_{0});\n'.format(field.name, field.say(ZERO_CALL))
 
 
-def zero_code():
-    parts = ['''
+ZERO_HEAD = '''
 // Whether a record is blank, field by field, with no blank made. %s
 //
 // The forms are those of equality.rt: no loop is left early, and the first of three arrays in front
@@ -740,7 +806,9 @@ ghost use Rattle.identity.specs.Text.{every};
 ghost use Rattle.records.specs.Blank.{%s};
 ghost use Rattle.records.specs.Equality.{eqList, %s};
 ghost use Rattle.records.specs.Representable.{isZero};
-%s''' % (BY, all_of('blank', PARTS), all_of('same', PARTS), use_rattle(PARTS)), '''
+%s'''
+
+ZEROS = '''
 // Whether every byte is zero.
 pub fn zeros(bytes: &[u8]) -> bool
     ensures { λ r. ⌜ r ≡ every isZero (now (bytes .entry)) ⌝ }
@@ -753,24 +821,17 @@ pub fn zeros(bytes: &[u8]) -> bool
     }
     all
 }
-''']
-    for name in PARTS:
-        fields = RECORDS[name]
-        tests, lets = zip(*(zero_test(field) for field in fields))
-        if is_apart(fields):
-            tests, lets = tests[1:], ('    if !zeros(&x.%s) {\n        return false;\n    }\n' % fields[0].name,) + lets[1:]
-        answer = tests[-1]
-        for one in reversed(tests[:-1]):
-            answer = '%s & (%s)' % (one, answer) if ' & ' in answer else '%s & %s' % (one, answer)
-        parts.append('''
+'''
+
+IS_BLANK = '''
 pub fn is_blank_{0}(x: {1}) -> bool
     ensures {{ λ r. ⌜ r ≡ same{1} x blank{1} ⌝ }}
 {{
 {2}    {3}
 }}
-'''.format(snake(name), name, ''.join(lets), answer))
-        if name in PART_NINES:
-            parts.append('''
+'''
+
+IS_BLANK_NINE = '''
 // The nine places of a configuration, whatever its count.
 pub fn is_blank_{0}s(x: [{1}; {3}]) -> bool
     ensures {{ λ r. ⌜ r ≡ eqList same{1} x (replicate {2} blank{1}) ⌝ }}
@@ -784,7 +845,23 @@ pub fn is_blank_{0}s(x: [{1}; {3}]) -> bool
     }}
     all
 }}
-'''.format(snake(name), name, PLACES, PLACES_NAME))
+'''
+
+
+def is_blank_code(name, fields):
+    """The test of a record for its blank, field by field."""
+    tests, lets = zip(*(zero_test(field) for field in fields))
+    if is_apart(fields):
+        tests, lets = tests[1:], (returns_early('zeros(&x.%s)' % fields[0].name),) + lets[1:]
+    return IS_BLANK.format(snake(name), name, ''.join(lets), joined(tests, ' & '))
+
+
+def zero_code():
+    parts = [ZERO_HEAD % (BY, all_of('blank', PARTS), all_of('same', PARTS), use_rattle(PARTS)), ZEROS]
+    for name in PARTS:
+        parts.append(is_blank_code(name, RECORDS[name]))
+        if name in PART_NINES:
+            parts.append(IS_BLANK_NINE.format(snake(name), name, PLACES, PLACES_NAME))
     write('src/zero.rt', *parts)
 
 
@@ -820,61 +897,65 @@ returns c =
 {1}    sym (all-first _ _ _ (failed e0 (c .if1 .taken)))'''.format(name, zero_path(field, ('e0', 'c0', 'zeros'))[1]))
 
 
+def zero_uses(name, fields, asked):
+    """What the proof of a record's test for its blank uses."""
+    kinds = [field.kind for field in fields]
+    blank, same = ['blank' + name], ['allTrue', 'same' + name]
+    for field in asked:
+        if field.kind == 'bytes':
+            same.append('eqBytes')
+        else:
+            blank.append('blank' + field.struct)
+            same += ['same' + field.struct] + ['eqList'] * (field.kind == 'nine')
+    laws = ['zeros-blank'] * ('bytes' in kinds) + ['beq-false'] * ('bool' in kinds)
+    uses = ['mathlib.Core.Path.{%s}' % ('_≡_, sym' if is_apart(fields) else '_≡_' if asked else 'refl')]
+    if asked:
+        uses += ['mathlib.Core.Bool.{_&&_}']
+        uses += ['lib.ListN.{replicate}'] * ('bytes' in kinds or 'nine' in kinds)
+        uses += ['lib.Dec.{eqb}'] * ('number' in kinds) + [NEEDS]
+    uses += ['Rattle.records.specs.Blank.{%s}' % ', '.join(dict.fromkeys(blank))]
+    uses += ['Rattle.records.specs.Equality.{%s}' % ', '.join(dict.fromkeys(same))]
+    uses += APART if is_apart(fields) else []
+    return uses + ['Rattle.records.specs.ZeroLaws.{%s}' % ', '.join(laws)] * bool(laws)
+
+
+# of a test for a blank
+ZERO_STEPS = Steps(4, 2, 1)
+
+
+def zero_returns(fields, asked, known):
+    """The proof of the last return: the path from the code to the definition, field by field."""
+    if not asked:
+        return 'returns c = refl'
+    lets, places, start = ZERO_STEPS.back(fields, asked)
+    lends = any(field.kind == 'bytes' for field in fields)
+    lets += '    let x = %s%s .args .%s in\n' % (places[0], start, 't1' if lends else 'x')
+    calls = [('e%d' % i, place, call) for i, (place, call) in enumerate(zip(places, known))]
+    tests = []
+    for field in fields:
+        value, line = zero_path(field, calls.pop(0) if field in asked else None)
+        tests.append(value)
+        lets += line
+    if is_apart(fields):
+        tests[0] = 'sym (held e0 (e .if1 .left)) i'
+    return '%s c =\n%s    λ i.%s' % ('returns-2' if is_apart(fields) else 'returns', lets, along(tests))
+
+
+def is_blank_proof(name, fields):
+    asked = [field for field in fields if field.kind not in ('number', 'bool')]
+    needs, known = requires([field.say(ZERO_CALL) for field in asked])
+    returns = 'unfolding allTrue same{0} blank{0}\n{1}'.format(name, zero_returns(fields, asked, known))
+    if is_apart(fields):
+        needs.insert(1, first_fails(name, fields[0]))
+        needs.append(need('returns-2', returns))
+    else:
+        needs.append(need('returns', returns))
+    write_proof('zero', 'is_blank_' + snake(name), 'field by field', zero_uses(name, fields, asked), needs)
+
+
 def zero_proofs():
     for name in PARTS:
-        function = 'is_blank_' + snake(name)
-        fields = RECORDS[name]
-        asked = [field for field in fields if field.kind not in ('number', 'bool')]
-        kinds = [field.kind for field in fields]
-        needs, known = requires([zero_of(field) for field in asked])
-        apart = is_apart(fields)
-        answer = 'returns-2' if apart else 'returns'
-        head = 'unfolding allTrue same%s blank%s\n' % (name, name)
-        blank, same = ['blank' + name], ['allTrue', 'same' + name]
-        for field in asked:
-            if field.kind == 'bytes':
-                same.append('eqBytes')
-            else:
-                blank.append('blank' + field.struct)
-                same += ['same' + field.struct] + ['eqList'] * (field.kind == 'nine')
-        uses = ['mathlib.Core.Path.{%s}' % ('_≡_, sym' if apart else '_≡_' if asked else 'refl')]
-        if asked:
-            uses += ['mathlib.Core.Bool.{_&&_}']
-            uses += ['lib.ListN.{replicate}'] * ('bytes' in kinds or 'nine' in kinds)
-            uses += ['lib.Dec.{eqb}'] * ('number' in kinds) + [NEEDS]
-        uses += ['Rattle.records.specs.Blank.{%s}' % ', '.join(dict.fromkeys(blank))]
-        uses += ['Rattle.records.specs.Equality.{%s}' % ', '.join(dict.fromkeys(same))]
-        laws = ['zeros-blank'] * ('bytes' in kinds) + ['beq-false'] * ('bool' in kinds)
-        uses += APART if apart else []
-        uses += ['Rattle.records.specs.ZeroLaws.{%s}' % ', '.join(laws)] * bool(laws)
-        if asked:
-            # from the return back to each call: a step for each comparison, unless a field was
-            # lent; four for a lent field, two for a copied one; one more to a test by itself
-            lets, at, steps, calls = '', 'c', 0 if 'bytes' in kinds else len(fields) - len(asked), []
-            for i in range(len(asked) - 1, -1, -1):
-                if apart and i == 0:
-                    lets += '    let e = %s%s in\n' % (at, ' .before' * steps)
-                    at, steps = 'e', 1
-                if steps:
-                    lets += '    let c%d = %s%s in\n' % (i, at, ' .before' * steps)
-                    at = 'c%d' % i
-                calls.append(('e%d' % i, at, known[i]))
-                steps = 4 if asked[i].kind == 'bytes' else 2
-            lets += '    let x = %s%s .args .%s in\n' % (at, ' .before' * steps, 't1' if 'bytes' in kinds else 'x')
-            tests = []
-            for field in fields:
-                value, line = zero_path(field, calls.pop() if field in asked else None)
-                tests.append(value)
-                lets += line
-            if apart:
-                tests[0] = 'sym (held e0 (e .if1 .left)) i'
-            returns = head + '%s c =\n%s    λ i.%s' % (answer, lets, along(tests))
-        else:
-            returns = head + 'returns c = refl'
-        needs.append(need(answer, returns))
-        if apart:
-            needs.insert(1, first_fails(name, fields[0]))
-        write_proof('zero', function, 'field by field', uses, needs)
+        is_blank_proof(name, RECORDS[name])
         if name in PART_NINES:
             zero_nine_proof(name)
     zeros_proof()
@@ -893,14 +974,11 @@ def zero_nine_proof(name):
         'Rattle.records.specs.EqualityLaws.{eqList-end}',
         'Rattle.records.specs.ZeroLaws.{blank-more}',
     ], [
-        ('Inv-loop', None, 'abbrev Inv-loop : tie.InvT-loop\nInv-loop x all₀ i₀ all i = (i ≤ {0}) × (all ≡ eqList same{1} (take i x) (take i (replicate {0} blank{1})))'.format(PLACES, name)),
-        ('μ-loop', None, 'abbrev μ-loop : tie.MeasureT-loop\nμ-loop x all₀ i₀ all i = %d - i' % PLACES),
+        *loop_over('x all₀ i₀ all i', '(i ≤ {0}) × (all ≡ eqList same{1} (take i x) (take i (replicate {0} blank{1})))'.format(PLACES, name), '%d - i' % PLACES),
         need('loop-holds', 'unfolding eqList\nloop-holds c = (omega arith, refl)'),
-        need('mul-place', 'mul-place c = omega arith'),
-        need('array-copy-out-place', 'array-copy-out-place c = omega arith'),
+        *by_arith('mul-place', 'array-copy-out-place'),
         need(call + '-requires', call + '-requires c κs = search needs'),
-        need('add-i', 'add-i c = omega arith'),
-        need('loop-less', 'loop-less c = omega arith'),
+        *by_arith('add-i', 'loop-less'),
         need('loop-again', '''loop-again c =
     let l = c .before .before .before in
     let good = l .before .good in
@@ -928,12 +1006,9 @@ def zeros_proof():
         'Rattle.identity.specs.TextLaws.{all-more}',
         'Rattle.records.specs.Representable.{isZero}',
     ], [
-        ('Inv-loop', None, 'abbrev Inv-loop : tie.InvT-loop\nInv-loop bytes all₀ i₀ all i = (i ≤ length bytes) × (all ≡ every isZero (take i bytes))'),
-        ('μ-loop', None, 'abbrev μ-loop : tie.MeasureT-loop\nμ-loop bytes all₀ i₀ all i = length bytes - i'),
+        *loop_over('bytes all₀ i₀ all i', '(i ≤ length bytes) × (all ≡ every isZero (take i bytes))', 'length bytes - i'),
         need('loop-holds', 'unfolding every\nloop-holds c = (omega arith, refl)'),
-        need('shared-slice-read-all', 'shared-slice-read-all c = omega arith'),
-        need('add-i', 'add-i c = omega arith'),
-        need('loop-less', 'loop-less c = omega arith'),
+        *by_arith('shared-slice-read-all', 'add-i', 'loop-less'),
         need('loop-again', '''loop-again c =
     let l = c .before .before in
     let i = l .loop .i in
@@ -948,8 +1023,7 @@ def zeros_proof():
 # ---- what every value holds
 
 
-def held():
-    spec = ['''
+HELD_HEAD = '''
 -- What every value that the program holds has: each number fits its type, each array has its
 -- length. %s
 -- From the types of voter_slots/records.rs and identity.rs: for theorems over all records.
@@ -959,7 +1033,9 @@ use mathlib.Core.Path.{_≡_}
 use mathlib.Core.List.{List, [], _∷_}
 use native.Mathlib.Omega.{arith}
 use lib.ListN.{length, getD, set, length-set}
-%s''' % (BY, DECLARED), '''
+%s'''
+
+HELD = '''
 -- P of every element
 abbrev pub AllOf : {A : Type 0} → (A → Type 0) → List A → Type 0
 AllOf P [] = Unit {0}
@@ -989,8 +1065,9 @@ Byte x = x < 2 ^ 8
 
 abbrev pub HeldBytes : ℕ → List ℕ → Type 0
 HeldBytes n l = HeldArray Byte n l
-''']
-    proof = ['''
+'''
+
+HELD_PROOF_HEAD = '''
 -- What the program logic says of a value that a function owns, as the `Held` records of specs/Held.antt. %s
 -- Assumes nothing.
 use Prim.Native.Nat.{ℕ}
@@ -1004,7 +1081,9 @@ use denote.Array.{each, inArray}
 use denote.Plain.{UInt}
 use denote.Shadow.{shadow}
 use Rattle.records.specs.Held.{AllOf, HeldArray, Byte, HeldBytes, %s}
-%s%s''' % (BY, all_of('Held'), DECLARED, ''.join(use_generated(name) for name in NAMES)), '''
+%s%s'''
+
+HELD_PROOF = '''
 module _ {D X : Type 0} (own : D → List Val → Fml) (into : X → D) (P : X → Type 0) (h : (x : X) (vs : List Val) → shadow (own (into x) vs) → P x) where
   held-list : (xs : List X) (us : List Val) → shadow (each D own (map into xs) us) → AllOf P xs
   held-list [] us g = tt
@@ -1016,37 +1095,48 @@ module _ {D X : Type 0} (own : D → List Val → Fml) (into : X → D) (P : X �
 
 pub held-bytes : (n : ℕ) (l : List ℕ) (vs : List Val) → shadow (inArray ℕ (UInt w8 .own) n (map (λ (x : ℕ). x) l) vs) → HeldBytes n l
 held-bytes n l vs g = held-array (UInt w8 .own) (λ (x : ℕ). x) Byte (λ x us h. h .1) n l vs g
-''']
-    for name, fields in RECORDS.items():
-        holds, values, path = '', '', 'f'
-        for field in fields:
-            at, path = path + ' .0', path + ' .1'
-            r = field.of('r')
-            if field.kind == 'bool':
-                continue
-            if field.kind == 'number':
-                what, value = 'r .%s < 2 ^ %d' % (field.quoted(), field.bits), at + ' .1'
-            elif field.kind == 'bytes':
-                what, value = 'HeldBytes %d %s' % (field.size, r), 'held-bytes %d %s _ (%s)' % (field.size, r, at)
-            elif field.kind == 'nine':
-                what = 'HeldArray Held%s %d %s' % (field.struct, PLACES, r)
-                value = 'held-array (the{0}.the-field .row .own) (the{0}.the-field .into)\n          Held{0} held-{1} {2} {3} _ ({4})'.format(
-                    field.struct, kebab(field.struct), PLACES, r, at)
-            else:
-                what, value = 'Held%s %s' % (field.struct, r), 'held-%s %s _ (%s)' % (kebab(field.struct), r, at)
-            holds += '  pub %s : %s\n' % (field.quoted(), what)
-            values += '      %s = %s;\n' % (field.quoted(), value)
-        spec.append('pub record Held{0} (r : {0}) : Type 0 where\n{1}'.format(name, holds))
-        proof.append('''
+'''
+
+HELD_RECORD = '''
 pub held-{0} : (r : {1}) (vs : List Val)
     → shadow (the{1}.the-field .row .own (the{1}.the-field .into r) vs) → Held{1} r
 held-{0} r vs g =
     let f = g .1 .1 in
     record {{
 {2}    }}
-'''.format(kebab(name), name, values))
-    write('specs/Held.antt', *spec)
-    write('proofs/Held.antt', *proof)
+'''
+
+
+def held_field(field, at):
+    """What a field of r holds, and the proof of it, from what the logic says at a place."""
+    r = field.of('r')
+    if field.kind == 'number':
+        return 'r .%s < 2 ^ %d' % (field.quoted(), field.bits), at + ' .1'
+    if field.kind == 'bytes':
+        return 'HeldBytes %d %s' % (field.size, r), 'held-bytes %d %s _ (%s)' % (field.size, r, at)
+    if field.kind == 'nine':
+        proof = 'held-array (the{0}.the-field .row .own) (the{0}.the-field .into)\n          Held{0} held-{1} {2} {3} _ ({4})'
+        return 'HeldArray Held%s %d %s' % (field.struct, PLACES, r), proof.format(field.struct, kebab(field.struct), PLACES, r, at)
+    return 'Held%s %s' % (field.struct, r), 'held-%s %s _ (%s)' % (kebab(field.struct), r, at)
+
+
+def held_record(name, fields):
+    """What a record holds, as a definition, and the lemma that the logic says so."""
+    holds, values = '', ''
+    for i, field in enumerate(fields):
+        # a bool holds nothing more
+        if field.kind != 'bool':
+            what, value = held_field(field, 'f%s .0' % (' .1' * i))
+            holds += '  pub %s : %s\n' % (field.quoted(), what)
+            values += '      %s = %s;\n' % (field.quoted(), value)
+    return 'pub record Held{0} (r : {0}) : Type 0 where\n{1}'.format(name, holds), HELD_RECORD.format(kebab(name), name, values)
+
+
+def held():
+    definitions, lemmas = zip(*(held_record(name, fields) for name, fields in RECORDS.items()))
+    generated = ''.join(use_generated(name) for name in NAMES)
+    write('specs/Held.antt', HELD_HEAD % (BY, DECLARED), HELD, *definitions)
+    write('proofs/Held.antt', HELD_PROOF_HEAD % (BY, all_of('Held'), DECLARED, generated), HELD_PROOF, *lemmas)
 
 
 def use_generated(name):
@@ -1054,14 +1144,18 @@ def use_generated(name):
     return 'use Rattle.{0}.proofs.{1}.{2} as the{2}\n'.format(crate, HOME[name], name)
 
 
-for module in ('equality', 'blank', 'zero'):
-    shutil.rmtree('%s/proofs/%s' % (CRATE, module), ignore_errors=True)
-equality()
-equality_laws()
-equality_code()
-equality_proofs()
-blanks()
-zero_code()
-zero_proofs()
-held()
-subprocess.run(['rt', 'fmt'], check=True)
+def main():
+    for module in ('equality', 'blank', 'zero'):
+        shutil.rmtree('%s/proofs/%s' % (CRATE, module), ignore_errors=True)
+    equality()
+    equality_laws()
+    equality_code()
+    equality_proofs()
+    blanks()
+    zero_code()
+    zero_proofs()
+    held()
+    subprocess.run(['rt', 'fmt'], check=True)
+
+
+main()

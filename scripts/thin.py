@@ -24,9 +24,12 @@ Of calls with the same makers all but the judge stands once, in FAMILIES: there 
 outcome, what a verdict that makes a table tells (`knows`) and that the verdict gives the outcome
 (`carries`) are variables of the law, and the call says what they are.
 """
-import re
 import subprocess
 import sys
+
+from context import SPEC, sub
+from gen_judged import law as judged_law, none_of
+from imports import pruned
 
 ROOM = 'h .revision ≡ full → ⊥'
 TARGET = '(h .revision ≡ full → ⊥) × ((h .count ≤ 9) × (targetIndex h < h .count))'
@@ -506,13 +509,6 @@ thin-meets : {{M : Type 1}} (𝓤 : URA M) (H : Heap 𝓤) (A : Atoms 𝓤) (W :
 thin-meets 𝓤 H A W at-mem run 𝓣 met-j {met-names} = walk-meets 𝓤 H A thin.ended stayed W (goes 𝓤 H A W at-mem run) (thin.clauses 𝓤 H A at-mem run) (WpFn 𝓤 H (𝓣 .C) (𝓣 .Λ) code.function) (WpFn-mono 𝓤 H (W .laws) 𝓣 code.function)
     (thin-walks 𝓤 H A W at-mem run (𝓣 .C) (𝓣 .Λ) (fmOf 𝓤 H (W .laws) 𝓣) met-j {met-names})
 
-pub {kebab}-spec : {{M : Type 1}} → stated.statement M
-unfolding code.routine tablesOf
-{kebab}-spec 𝓤 H 𝓜 𝓖 𝓡 =
-    entered 𝓤 H (tripleOf 𝓤 H (𝓖 .A) thin.signature (thin.spec 𝓤 H (𝓖 .A) (𝓜 .mem) (𝓡 .run)))
-    (tables 𝓤 H 𝓜 𝓡 code.env .C) (tables 𝓤 H 𝓜 𝓡 code.env .Λ) #thin code.function (code.unfolded 𝓤 H 𝓜 𝓡)
-    (thin-meets 𝓤 H (𝓖 .A) (givenOf 𝓤 H 𝓜 𝓖) (𝓜 .mem) (𝓡 .run) (tablesOf 𝓤 H 𝓜 (tables 𝓤 H 𝓜 𝓡 code.env))
-{cites})
 '''
 
 
@@ -525,6 +521,7 @@ def core(tag, path, is_law=True, is_call=True):
 
 
 def cite(contract, name, tag, path):
+    """That a core meets its contract, at the table of the functions that the call's code has."""
     called = path.replace('.', '·').replace('_', '-')
     return '(cited 𝓤 H (%s 𝓤 H (𝓖 .A) (𝓜 .mem) (𝓡 .run)) 𝓜 𝓡 code.env #%s %s-def.routine code.calls-control·%s (%s-thm.met 𝓤 H 𝓜 𝓖 𝓡))' % (contract, name, tag, called, tag)
 
@@ -535,177 +532,344 @@ def nest(parts):
 
 
 def nest_type(parts):
+    """The type of such a tuple."""
     return '%s × (%s)' % (parts[0], nest_type(parts[1:])) if parts else 'Unit {0}'
 
 
-def lent(elements):
+def fold(parts, last, pair):
+    """The parts and then the last, joined in pairs to the right."""
+    return pair % (parts[0], fold(parts[1:], last, pair)) if parts else last
+
+
+def component(tuple_, i):
+    """The i-th part of a tuple as the logic has it."""
+    return '(%s%s .0)' % (tuple_, ' .1' * i)
+
+
+def bound(names, kind):
+    """A binder of so many names of one type."""
+    return '(%s : %s) ' % (' '.join(names), kind) if names else ''
+
+
+# The separating conjunction, as an assertion and as an entry of a context
+SEP, STAR = '(sep 𝓤 %s %s)', '(%s ⊛ %s)'
+# Steps: the second entry comes to the front and is taken apart; an entry is joined to the first,
+# `f` as one formula
+UP = 'move ! (1 ∷ []) $ split ! $ '
+JOIN = 'move ! (%d ∷ 0 ∷ []) $ %sjoin ! $ '
+# A slice's ownership, twice
+TWICE = 'move ! (2 ∷ []) $ fsplit ! $ use1 W (‵ Own{s} ⊛ ‵ Own{s}) (shr-slice-copy 𝓤 H A W (named {i}) κ{s} {e} .twice s{s} (slice-vals s{s})) $ split ! $ '
+# From the three slices' ownership, each twice: Z is joined twice, and X once
+JOINED_TWICE = ('move ! (3 ∷ 0 ∷ []) $ join ! $ move ! (4 ∷ 0 ∷ []) $ join ! $ move ! (3 ∷ 1 ∷ []) $ join ! $ move ! (3 ∷ 0 ∷ []) $ join ! $ '
+                'move ! (5 ∷ 0 ∷ []) $ join ! $ move ! (6 ∷ 0 ∷ []) $ join ! $ move ! (6 ∷ 0 ∷ []) $ join ! $ keep ! (3 ∷ 4 ∷ 6 ∷ 0 ∷ 1 ∷ [])')
+OWN = '''
+  abbrev Own{s} : Fml
+  Own{s} = ShrSlice (named {i}) κ{s} {e} .own s{s} (slice-vals s{s})
+'''
+
+
+class Slices:
     """What the text says of the slices that are lent between the table and the last parameter, by
-    the types of their elements. The steps are written for three of them, and for none."""
-    at = ['₁', '₂', '₃'][:len(elements)]
-    lfts, shares, lists = (['%s%s' % (c, i) for i in at] for c in 'κqs')
-    row = ['(ShrSlice (named %d) %s %s)' % (i + 1, lfts[i], e) for i, e in enumerate(elements)]
-    many = lambda names, typ: '(%s : %s) ' % (' '.join(names), typ) if names else ''
-    path = lambda who, i: '(%s%s .0)' % (who, ' .1' * i)
-    fold = lambda first, last, op: op % (first[0], fold(first[1:], last, op)) if first else last
-    sep = '(sep 𝓤 %s %s)'
-    star = '(%s ⊛ %s)'
-    tokens = ['‵ (flft %s %s)' % pair for pair in zip(lfts, shares)]
-    owned = ['‵ Own' + i for i in at]
-    kept = fold(['(sem 𝓤 H A Own%s)' % i for i in at[:-1]], '(sem 𝓤 H A Own%s)' % at[-1], sep) if at else 'none'
-    kept_parts = fold(owned[:-1], owned[-1], star) if at else '‵ ftrue'
-    asks = ['(A .lft %s %s)' % pair for pair in zip(lfts, shares)]
-    n = len(at)
-    up = 'move ! (1 ∷ []) $ split ! $ '
-    to = 'move ! (%d ∷ 0 ∷ []) $ %sjoin ! $ '
-    twice = ''.join('move ! (2 ∷ []) $ fsplit ! $ use1 W (‵ Own{0} ⊛ ‵ Own{0}) (shr-slice-copy 𝓤 H A W (named {1}) κ{0} {2} .twice s{0} (slice-vals s{0})) $ split ! $ '.format(i, k + 1, elements[k]) for k, i in enumerate(at))
-    values = {
-        'lfts-are': many(lfts, 'Lft'), 'shares-are': many(shares, 'Share'), 'lists-are': many(lists, 'RefT (List ℕ)'),
-        'lft-names': ''.join(x + ' ' for x in lfts), 'list-names': ''.join(x + ' ' for x in lists),
-        'lists-held': ''.join('(%s-is : Is %s %s (slice-vals %s)) ' % (x, row[i], x, x) for i, x in enumerate(lists)),
-        'lfts': nest(lfts), 'shares': nest(shares), 'all-lfts': nest(['κ'] + lfts), 'all-shares': nest(['q'] + shares),
-        'args': nest(['h'] + lists + ['p']), 'arg-vals': nest(['tval h ∷ []'] + ['slice-vals ' + x for x in lists] + ['pval p ∷ []']),
-        'x': nest(['record { ptr = (b, o); name = γ; now = h }'] + lists + ['p']), 'at': nest(['vptr b o ∷ []'] + ['slice-vals ' + x for x in lists] + ['pval p ∷ []']),
-        'at-type': nest_type(['List Val'] * (n + 2)), 'units': nest(['tt'] * (n + 1)), 'lft-count': n + 1,
-        'stays-as': nest(['stay-ref (0 ∷ []) tt (plain (λ _. Tt.the-row))'] + ['stay-none-slice (%d ∷ []) tt (plain (λ _. %s)) yes' % (i + 1, e) for i, e in enumerate(elements)] + ['stay-none (λ _. P.the-row) yes']),
-        'all-go': nest(['goes-ref 𝓤 H A W %d 0 tt (plain (λ _. Tt.the-row))' % (n + 1)] + ['goes-none-slice 𝓤 H A W %d (%d ∷ []) tt (plain (λ _. %s)) yes' % (n + 1, i + 1, e) for i, e in enumerate(elements)]
-                       + ['goes-none 𝓤 H A W %d (λ _. P.the-row) yes (λ κs x f. refl)' % (n + 1)]),
-        'vals': nest(['ptr-vals'] + ['slice-vals'] * n + ['LL.vals P.the-type P′.the-laws']),
-        'tells': nest(['mut-tells (named 0) (κs .0) (Tt.the-row)'] + ['shr-slice-tells (named %d) %s %s' % (i + 1, path('κs', i + 1), e) for i, e in enumerate(elements)] + ['LL.tells P.the-type P′.the-laws']),
-        'entry-args': ' '.join([path('κs', i) for i in range(n + 1)] + [path('qs', i) for i in range(n + 1)] + ['(a .0 .ptr .0) (a .0 .ptr .1) (a .0 .name) (a .0 .now)']
-                               + [path('a', i + 1) for i in range(n + 1)] + [path('are', i + 1) for i in range(n + 1)]),
-        'owns': ''.join('\n  abbrev Own%s : Fml\n  Own%s = ShrSlice (named %d) κ%s %s .own s%s (slice-vals s%s)\n' % (i, i, k + 1, i, elements[k], i, i) for k, i in enumerate(at)),
-        'Z': kept, 'X': fold(asks, 'Z', sep), 'Y': fold(asks, 'none', sep),
-        'Z-parts': kept_parts, 'X-parts': fold(tokens, kept_parts, star), 'Y-parts': fold(tokens, '‵ ftrue', star),
-        'tokens': fold(['‵ (flft κ q)'] + tokens, '‵ ftrue', star),
-        'list-vals': ''.join('sliceVal (%s .ptr) (length (%s .now)) ∷ ' % (x, x) for x in lists), 'list-val-args': ''.join('(sliceVal (%s .ptr) (length (%s .now))) ' % (x, x) for x in lists),
-        'list-types': ''.join('ShrSlice (named %d) %s %s ∷ ' % (i + 1, lfts[i], e) for i, e in enumerate(elements)),
-        'list-mirs': ''.join('(sliceTy (tyRef (named %d) imm (tyInt w64))) ' % (i + 1) for i in range(n)),
-        'lists-lawful': ''.join('(shr-slice-lawful 𝓤 H A W (named %d) %s %s .typed %s _ %s-is .0) ' % (i + 1, lfts[i], e, lists[i], lists[i]) for i, e in enumerate(elements)),
-        # with slices: [Own₂; Own₃; Own₁; what else there is], from which they are joined again in
-        # their order
-        'Z-apart': 'move ! (1 ∷ []) $ split ! $ ' + up if n else 'move ! (1 ∷ []) $ drop ! $ ',
-        'Z-fjoined': (to % (2, 'f') + to % (1, 'f') * 2 if n else '') + to % (1, 'f'),
-        'X-apart': up * 5 if n else '',
-        'X-joined': to % (2, '') + to % (1, '') * 2 + to % (4, '') + 'nothing ! $ ' + to % (2, '') * 3 + 'join ! $ ' if n else to % (1, '') * 2,
-        # the tokens, the table's borrow and each slice twice, then Z, Z and X
-        'entry-apart': 'split ! $ ' + up * n + 'move ! (%d ∷ []) $ fsplit ! $ fsplit3 ! $ drop ! $ ' % (n + 2)
-        + (twice + 'move ! (3 ∷ 0 ∷ []) $ join ! $ move ! (4 ∷ 0 ∷ []) $ join ! $ move ! (3 ∷ 1 ∷ []) $ join ! $ move ! (3 ∷ 0 ∷ []) $ join ! $ move ! (5 ∷ 0 ∷ []) $ join ! $ move ! (6 ∷ 0 ∷ []) $ join ! $ '
-           'move ! (6 ∷ 0 ∷ []) $ join ! $ keep ! (3 ∷ 4 ∷ 6 ∷ 0 ∷ 1 ∷ [])' if n else 'nothing ! $ keep ! (1 ∷ 2 ∷ 4 ∷ 5 ∷ 0 ∷ [])'),
-        'list-is': ''.join(x + '-is ' for x in lists),
-        'slice-uses': 'use denote.Slice.{ShrSlice, sliceTy, sliceVal, slice-vals, shr-slice-tells, shr-slice-lawful, shr-slice-copy}\n' if n else '',
-        'syntax-uses': 'use lib.ListN.{length}\nuse mir.Syntax.{named, imm, tyRef, tyInt, w64}\n' if n else 'use mir.Syntax.{named}\n',
-        'fml': 'Fml, ' if n else '', 'use1': 'use1, ' if n else '', 'usize': ', usize' if n else '', 'stay-slice': 'stay-none-slice, ' if n else '', 'goes-slice': 'goes-none-slice, ' if n else '',
+    the types of their elements. The steps are written for three of them, and for none. Slice i has
+    the lifetime κᵢ, of which the share qᵢ is held; lifetime 0 is the table's."""
+
+    def __init__(self, elements):
+        self.elements, self.n = elements, len(elements)
+        self.marks = [sub(i + 1) for i in range(self.n)]
+        self.lfts, self.shares, self.lists = (['%s%s' % (letter, mark) for mark in self.marks] for letter in 'κqs')
+
+    def each(self, template):
+        """The template for each slice: {i} is its number, {s} the number as a subscript, {e} the
+        type of its elements."""
+        return [template.format(i=i, s=sub(i), e=e) for i, e in enumerate(self.elements, 1)]
+
+    def all(self, template):
+        """The same, as one text."""
+        return ''.join(self.each(template))
+
+    def names(self):
+        """The names of the slices and their lifetimes, by themselves and in binders."""
+        return {
+            'lfts-are': bound(self.lfts, 'Lft'),
+            'shares-are': bound(self.shares, 'Share'),
+            'lists-are': bound(self.lists, 'RefT (List ℕ)'),
+            'lft-names': self.all('κ{s} '),
+            'list-names': self.all('s{s} '),
+            'lists-held': self.all('(s{s}-is : Is (ShrSlice (named {i}) κ{s} {e}) s{s} (slice-vals s{s})) '),
+            'list-is': self.all('s{s}-is '),
+            'lft-count': self.n + 1,
+        }
+
+    def tuples(self):
+        """The lifetimes, shares and arguments of the call and of its judge."""
+        values = ['slice-vals ' + name for name in self.lists] + ['pval p ∷ []']
+        return {
+            'lfts': nest(self.lfts),
+            'shares': nest(self.shares),
+            'all-lfts': nest(['κ'] + self.lfts),
+            'all-shares': nest(['q'] + self.shares),
+            'args': nest(['h'] + self.lists + ['p']),
+            'arg-vals': nest(['tval h ∷ []'] + values),
+            'x': nest(['record { ptr = (b, o); name = γ; now = h }'] + self.lists + ['p']),
+            'at': nest(['vptr b o ∷ []'] + values),
+            'at-type': nest_type(['List Val'] * (self.n + 2)),
+            'units': nest(['tt'] * (self.n + 1)),
+        }
+
+    def signature(self):
+        """What the walk's laws say of each parameter."""
+        many = self.n + 1
+        goes_slice = 'goes-none-slice 𝓤 H A W %d ' % many + '({i} ∷ []) tt (plain (λ _. {e})) yes'
+        tells = ['shr-slice-tells (named %d) %s %s' % (i, component('κs', i), e) for i, e in enumerate(self.elements, 1)]
+        lists = [component('a', i) for i in range(1, many + 1)] + [component('are', i) for i in range(1, many + 1)]
+        return {
+            'stays-as': nest(['stay-ref (0 ∷ []) tt (plain (λ _. Tt.the-row))'] + self.each('stay-none-slice ({i} ∷ []) tt (plain (λ _. {e})) yes')
+                             + ['stay-none (λ _. P.the-row) yes']),
+            'all-go': nest(['goes-ref 𝓤 H A W %d 0 tt (plain (λ _. Tt.the-row))' % many] + self.each(goes_slice)
+                           + ['goes-none 𝓤 H A W %d (λ _. P.the-row) yes (λ κs x f. refl)' % many]),
+            'vals': nest(['ptr-vals'] + ['slice-vals'] * self.n + ['LL.vals P.the-type P′.the-laws']),
+            'tells': nest(['mut-tells (named 0) (κs .0) (Tt.the-row)'] + tells + ['LL.tells P.the-type P′.the-laws']),
+            'entry-args': ' '.join([component(who, i) for who in ('κs', 'qs') for i in range(many)]
+                                   + ['(a .0 .ptr .0) (a .0 .ptr .1) (a .0 .name) (a .0 .now)'] + lists),
+        }
+
+    def ownership(self):
+        """X, Y and Z, as assertions and as entries of a context: the judge asks the tokens and what
+        the slices own (X), and returns the tokens (Y); what the slices own is kept (Z) too."""
+        asks, tokens = self.each('(A .lft κ{s} q{s})'), self.each('‵ (flft κ{s} q{s})')
+        owned, entries = self.each('(sem 𝓤 H A Own{s})') or ['none'], self.each('‵ Own{s}') or ['‵ ftrue']
+        kept = fold(entries[:-1], entries[-1], STAR)
+        return {
+            'owns': self.all(OWN),
+            'Z': fold(owned[:-1], owned[-1], SEP),
+            'X': fold(asks, 'Z', SEP),
+            'Y': fold(asks, 'none', SEP),
+            'Z-parts': kept,
+            'X-parts': fold(tokens, kept, STAR),
+            'Y-parts': fold(tokens, '‵ ftrue', STAR),
+            'tokens': fold(['‵ (flft κ q)'] + tokens, '‵ ftrue', STAR),
+        }
+
+    def values(self):
+        """The machine values of the slices, their types, and that they have them."""
+        return {
+            'list-vals': self.all('sliceVal (s{s} .ptr) (length (s{s} .now)) ∷ '),
+            'list-val-args': self.all('(sliceVal (s{s} .ptr) (length (s{s} .now))) '),
+            'list-types': self.all('ShrSlice (named {i}) κ{s} {e} ∷ '),
+            'list-mirs': self.all('(sliceTy (tyRef (named {i}) imm (tyInt w64))) '),
+            'lists-lawful': self.all('(shr-slice-lawful 𝓤 H A W (named {i}) κ{s} {e} .typed s{s} _ s{s}-is .0) '),
+        }
+
+    def steps(self):
+        """The steps that take X and Z apart and join them again."""
+        entry = 'split ! $ ' + UP * self.n + 'move ! (%d ∷ []) $ fsplit ! $ fsplit3 ! $ drop ! $ ' % (self.n + 2)
+        if not self.n:
+            return {
+                'Z-apart': 'move ! (1 ∷ []) $ drop ! $ ',
+                'Z-fjoined': JOIN % (1, 'f'),
+                'X-apart': '',
+                'X-joined': JOIN % (1, '') * 2,
+                'entry-apart': entry + 'nothing ! $ keep ! (1 ∷ 2 ∷ 4 ∷ 5 ∷ 0 ∷ [])',
+            }
+        return {
+            # [Own₂; Own₃; Own₁; what else there is], from which they are joined in their order
+            'Z-apart': UP * 2,
+            'Z-fjoined': JOIN % (2, 'f') + JOIN % (1, 'f') * 3,
+            'X-apart': UP * 5,
+            'X-joined': JOIN % (2, '') + JOIN % (1, '') * 2 + JOIN % (4, '') + 'nothing ! $ ' + JOIN % (2, '') * 3 + 'join ! $ ',
+            # the tokens, the table's borrow and each slice twice, then Z, Z and X
+            'entry-apart': entry + self.all(TWICE) + JOINED_TWICE,
+        }
+
+    def uses(self):
+        """What is imported for the slices alone."""
+        if not self.n:
+            none = dict.fromkeys(('slice-uses', 'fml', 'use1', 'usize', 'stay-slice', 'goes-slice'), '')
+            return {**none, 'syntax-uses': 'use mir.Syntax.{named}\n'}
+        return {
+            'slice-uses': 'use denote.Slice.{ShrSlice, sliceTy, sliceVal, slice-vals, shr-slice-tells, shr-slice-lawful, shr-slice-copy}\n',
+            'syntax-uses': 'use lib.ListN.{length}\nuse mir.Syntax.{named, imm, tyRef, tyInt, w64}\n',
+            'fml': 'Fml, ',
+            'use1': 'use1, ',
+            'usize': ', usize',
+            'stay-slice': 'stay-none-slice, ',
+            'goes-slice': 'goes-none-slice, ',
+        }
+
+    def words(self):
+        """All of it."""
+        return {**self.names(), **self.tuples(), **self.signature(), **self.ownership(), **self.values(), **self.steps(), **self.uses()}
+
+
+def makers_of(call):
+    """The makers of a call or of a family, each with what its part of the text says."""
+    parts = ('tag', 'path', 'ctor', 'table', 'requires', 'shows')
+    return [dict(zip(parts, maker), Tag=maker[0].capitalize(), param=call['param'], pub=call['pub']) for maker in call['makers']]
+
+
+def cores_of(call, makers):
+    """The contract, the tag and the module of each core but the judge."""
+    route, answers = call['routing']
+    return [('Test', 'test', route), ('Answers', 'answer', answers)] + [(m['Tag'], m['tag'], m['path']) for m in makers]
+
+
+def arm(maker, meets):
+    """The premises of the law for a maker; `meets` is that it meets its contract."""
+    told = '(is-to r e y c %s on (λ z. absurd (omega arith)))' % maker['ctor']
+    shown = maker['shows'].format(move=maker['ctor'], told=told)
+    return ('      ({meets} to-{tag}) (λ r e y c on. goes-{tag} ({shown})) comes-{tag}\n'
+            '      (λ r e y c on n e′ w v is a. ends w v is n (right r e {ctor} {told} w a n e′))').format(shown=shown, told=told, meets=meets, **maker)
+
+
+def of_makers(call, makers, met):
+    """What stands in the text for each maker; `met` is that they meet their contracts."""
+    n, first = len(makers), call.get('first', 1)
+    off = ['(λ k. off%s .1 (c ∙ k))' % (' .0' * (n - j)) for j in range(1, n + 1)]
+    return {
+        'n': n,
+        'law': 'Judged%d' % n,
+        'none': '(%s)' % none_of(range(first, first + n)),
+        'offs': ' '.join(off),
+        'arms': '\n'.join(arm(*pair) for pair in zip(makers, met)),
+        'ctors': ', '.join(m['ctor'] for m in makers),
+        'psis': ' '.join('(λ n. n ≡ %s)' % m['table'] for m in makers),
+        'pres': ' '.join('({Tag} 𝓤 H A at-mem run .pre to-{tag})'.format(**m) for m in makers),
+        'posts': ' '.join('({Tag} 𝓤 H A at-mem run .post to-{tag})'.format(**m) for m in makers),
+        'names': ' '.join('#' + m['tag'] for m in makers),
     }
-    return values
+
+
+def of_cores(call, cores, met):
+    """What stands in the text for the cores: their modules, and that they meet their contracts. The
+    calls of a family take all but the judge from its law, as one premise."""
+    family = call.get('family')
+    judge = [] if call['is-law'] else [core('judges', call['judge'])]
+    asks = ' → '.join('Triple 𝓤 (C #%s) (%s 𝓤 H A at-mem run)' % (tag, contract) for contract, tag, path in cores)
+    contracts = ', '.join(contract for contract, tag, path in cores)
+    return {
+        'family-uses': 'use Rattle.control.proofs.%s.{pval, %s, Cores, walks}\n' % (family, contracts) if family else '',
+        'cores': '\n'.join(judge + [core(tag, path, not family, not call['is-law']) for contract, tag, path in cores]),
+        'cores-type': ' × '.join('Triple 𝓤 (C #%s) %s' % (tag, contract) for contract, tag, path in cores),
+        'asks': 'Cores 𝓤 H A at-mem run C' if family else asks,
+        'table-asks': 'Cores 𝓤 H A at-mem run (𝓣 .C)' if family else asks.replace('(C #', '(𝓣 .C #'),
+        'met-names': 'cores' if family else ' '.join(met),
+        'test-met': met[0],
+        'answer-met': met[1],
+        'walk-unfolding': '' if family else 'unfolding %s\n  ' % call['unfolding'],
+    }
+
+
+def of_judge(call):
+    """The judge: a variable in the law of a family."""
+    if call['is-law']:
+        return {'judge-pre': 'Pre', 'judge-post': 'Q', 'judge-name': 'f', 'judge-met': 'met-judge'}
+    return {
+        'judge-pre': '(Judge 𝓤 H A at-mem run .pre to-judge)',
+        'judge-post': '(Judge 𝓤 H A at-mem run .post to-judge)',
+        'judge-name': '#judge',
+        'judge-met': '(met-j to-judge)',
+    }
+
+
+def of_entry(call):
+    """What the contract requires at the entry: that the table is valid, or nothing."""
+    if not call.get('requires', True):
+        return {'valid-is': '', 'valid': '', 'entered': 'via 𝓤 _ (fst∗ 𝓤 _ (emp 𝓤))', 'entered-end': ''}
+    return {
+        'valid-is': ' (valid : validate h ≡ Accepted)',
+        'valid': ' valid',
+        'entered': 'asked 𝓤 (onEntry 𝓤 H A thin.signature κs qs a _) (validate (a .0 .now) ≡ Accepted) _ (λ valid.',
+        'entered-end': ')',
+    }
+
+
+def cites_of(call, cores):
+    """The theorems of the cores, in the order in which `thin-meets` takes them."""
+    judge = cite('Judge', 'judge', 'judges', call['judge'])
+    cites = [cite(contract, tag, tag, path) for contract, tag, path in cores]
+    if 'family' in call:
+        cites = ['(' + ',\n    '.join(c[1:-1] for c in cites) + ')']
+    return '\n'.join('    ' + c for c in [judge] + cites)
 
 
 def values_of(call):
     """What stands in the text of a call, or of the law of a family."""
     elements = call.get('slices', [])
-    call = dict(OBSERVED if elements else SHARED, **call)
-    route, answers = call['routing']
-    is_law, family = 'of-what' in call, call.get('family')
-    pub = 'pub ' if is_law else ''
-    makers = [dict(zip(('tag', 'path', 'ctor', 'table', 'requires', 'shows'), m), Tag=m[0].capitalize(), param=call['param'], pub=pub) for m in call['makers']]
-    n = len(makers)
-    # the cores but for the judge: their contracts, their tags, their modules
-    cores = [('Test', 'test', route), ('Answers', 'answer', answers)] + [(m['Tag'], m['tag'], m['path']) for m in makers]
-    met = ['cores .%d' % i for i in range(n + 2)] if is_law else ['met-t', 'met-a'] + ['met-' + m['tag'] for m in makers]
-    none = 'Unit {0}'
-    for j in range(1, n + 1):
-        none = '(%s) × (y ≡ %d → ⊥)' % (none, j + call.get('first', 1) - 1)
-    offs = ' '.join('(λ k. off%s .1 (c ∙ k))' % (' .0' * (n - j)) for j in range(1, n + 1))
-    arms = []
-    for m, meets in zip(makers, met[2:]):
-        told = '(is-to r e y c %s on (λ z. absurd (omega arith)))' % m['ctor']
-        out = m['shows'].format(move=m['ctor'], told=told)
-        arms.append('      ({meets} to-{tag}) (λ r e y c on. goes-{tag} ({shown})) comes-{tag}\n'
-                    '      (λ r e y c on n e′ w v is a. ends w v is n (right r e {ctor} {told} w a n e′))'.format(shown=out, told=told, meets=meets, **m))
-    triples = ['Triple 𝓤 (C #%s) (%s 𝓤 H A at-mem run)' % (tag, contract) for contract, tag, path in cores]
-    asks = 'Cores 𝓤 H A at-mem run C' if family else ' → '.join(triples)
-    cites = [cite(contract, tag, tag, path) for contract, tag, path in cores]
-    values = dict(
-        call, n=n, pub=pub, law='Judged%d' % n, none='(%s)' % none, offs=offs, arms='\n'.join(arms), uses='\n'.join(call['uses']), ctors=', '.join(m['ctor'] for m in makers),
-        psis=' '.join('(λ n. n ≡ %s)' % m['table'] for m in makers), pres=' '.join('({Tag} 𝓤 H A at-mem run .pre to-{tag})'.format(**m) for m in makers),
-        posts=' '.join('({Tag} 𝓤 H A at-mem run .post to-{tag})'.format(**m) for m in makers), names=' '.join('#' + m['tag'] for m in makers),
-        judgement=call['Move'] + (', Verdict' if is_law else '') + ', carried')
-    contracts = ', '.join(contract for contract, tag, path in cores)
-    values['family-uses'] = 'use Rattle.control.proofs.%s.{pval, %s, Cores, walks}\n' % (family, contracts) if family else ''
-    values['cores'] = '\n'.join(([] if is_law else [core('judges', call['judge'])]) + [core(tag, path, not family, not is_law) for contract, tag, path in cores])
-    values['cores-type'] = ' × '.join('Triple 𝓤 (C #%s) %s' % (tag, contract) for contract, tag, path in cores)
-    values['asks'] = asks
-    values['table-asks'] = asks.replace('(C #', '(𝓣 .C #') if not family else 'Cores 𝓤 H A at-mem run (𝓣 .C)'
-    values['met-names'] = 'cores' if family else ' '.join(met)
-    values['judge-pre'], values['judge-post'] = ('Pre', 'Q') if is_law else ('(Judge 𝓤 H A at-mem run .pre to-judge)', '(Judge 𝓤 H A at-mem run .post to-judge)')
-    values['judge-name'], values['judge-met'] = ('f', 'met-judge') if is_law else ('#judge', '(met-j to-judge)')
-    values['test-met'], values['answer-met'] = met[:2]
-    values.update(lent(elements))
-    values.setdefault('home', 'begin' if call['param'] == 'VoterBegin' else 'control')
+    is_law = 'of-what' in call
+    call = {'home': 'begin' if call['param'] == 'VoterBegin' else 'control', 'end': '', **(OBSERVED if elements else SHARED), **call,
+            'is-law': is_law, 'pub': 'pub ' if is_law else ''}
+    makers = makers_of(call)
+    cores = cores_of(call, makers)
+    met = ['cores .%d' % i for i in range(len(cores))] if is_law else ['met-t', 'met-a'] + ['met-' + m['tag'] for m in makers]
+    values = {**call, **of_makers(call, makers, met[2:]), **of_cores(call, cores, met), **of_judge(call), **of_entry(call), **Slices(elements).words()}
+    values['uses'] = '\n'.join(call['uses'])
+    values['judgement'] = call['Move'] + (', Verdict' if is_law else '') + ', carried'
     values['arg-type'] = nest_type(['RefT VoterSlotTable'] + ['RefT (List ℕ)'] * len(elements) + [call['param']])
-    required = call.get('requires', True)
-    values['end'] = call.get('end', '')
-    values['valid-is'] = ' (valid : validate h ≡ Accepted)' if required else ''
-    values['valid'] = ' valid' if required else ''
-    values['entered'] = 'asked 𝓤 (onEntry 𝓤 H A thin.signature κs qs a _) (validate (a .0 .now) ≡ Accepted) _ (λ valid.' if required else 'via 𝓤 _ (fst∗ 𝓤 _ (emp 𝓤))'
-    values['entered-end'] = ')' if required else ''
     if is_law:
         values['syntax-uses'] = values['syntax-uses'].replace('{named', '{Name, named')
-    values['walk-unfolding'] = '' if family else 'unfolding %s\n  ' % call['unfolding']
-    if not is_law:
-        judge = cite('Judge', 'judge', 'judges', call['judge'])
-        values['cites'] = '\n'.join('    ' + c for c in ([judge, '(' + ',\n    '.join(c[1:-1] for c in cites) + ')'] if family else [judge] + cites))
-    values['thin'] = (BY_FAMILY if family else THIN).format(**values)
+    else:
+        values['cites'] = cites_of(call, cores)
+    values['thin'] = (BY_FAMILY if 'family' in call else THIN).format(**values)
     return values, makers
 
 
 def made(makers, template):
+    """The template for each maker."""
     return ''.join(template.format(**m) for m in makers)
 
 
 def used(uses, body):
     """The uses of which the body has the names."""
-    names = set(re.split(r'[\s(){},.]+', body))
-    is_used = lambda name: name.replace('_', '') in names
-    kept = []
-    for line in uses.splitlines():
-        items = re.match(r'(use \S+\.\{)(.*)\}$', line)
-        if items:
-            some = [item for item in items.group(2).split(', ') if is_used(item.split(' as ')[-1])]
-            kept += [items.group(1) + ', '.join(some) + '}'] * bool(some)
-        elif is_used(line.split(' as ')[-1]):
-            kept.append(line)
-    return '\n'.join(kept) + '\n'
+    return '\n'.join(pruned(uses.splitlines(), body)) + '\n'
 
 
-def law_written(name):
+def law_of(name):
+    """The law of a family."""
     values, makers = values_of(FAMILIES[name])
-    body = (VALUES + CONTRACTS + CORES).format(**values) + made(makers, OF) + (MET + LAW_MIDDLE + RIGHT).format(**values) + made(makers, MAKER) + (TOLD + WALKS).format(**values)
+    body = (VALUES + CONTRACTS + CORES).format(**values) + made(makers, OF)
+    body += (MET + LAW_MIDDLE + RIGHT).format(**values) + made(makers, MAKER) + (TOLD + WALKS).format(**values)
     return LAW_HEAD.format(**values) + used(USES.format(**values), body) + body
 
 
-def written(name):
+def proof_by_family(call):
+    """The proof of a call that has the makers of a family: an instance of the family's law."""
+    family = FAMILIES[call['family']]
+    # the rest of a family's entry is of its law alone
+    shared = {part: family[part] for part in family if part not in ('of-what', 'verdict', 'outcome', 'end')}
+    values, _ = values_of({**shared, **call})
+    body = (STAYED + CONTRACTS + JUDGE + MIDDLE + RIGHT + JUDGED + WALK + MEETS + SPEC).format(**values)
+    return CALL_HEAD.format(**values) + used((USES + OWN_USES).format(**values), body) + body
+
+
+def proof_of(name):
+    """The proof of a call."""
     call = dict(CALLS[name], name=name, kebab=name.replace('_', '-'))
     if 'family' in call:
-        shared = {part: FAMILIES[call['family']][part] for part in FAMILIES[call['family']] if part not in ('of-what', 'verdict', 'outcome', 'end')}
-        values, makers = values_of(dict(shared, **call))
-        body = (STAYED + CONTRACTS + JUDGE + MIDDLE + RIGHT + JUDGED + WALK + MEETS).format(**values)
-        return CALL_HEAD.format(**values) + used((USES + OWN_USES).format(**values), body) + body
+        return proof_by_family(call)
     values, makers = values_of(call)
-    body = (STAYED + VALUES + CONTRACTS + JUDGE + '\n' + CORES).format(**values) + made(makers, OF) + (MIDDLE + RIGHT + JUDGED).format(**values) + made(makers, MAKER) + (TOLD + WALK + MEETS).format(**values)
-    return (HEAD + USES + OWN_USES).format(**values) + body
+    head = (HEAD + USES + OWN_USES + STAYED + VALUES + CONTRACTS + JUDGE + '\n' + CORES).format(**values)
+    judged = (MIDDLE + RIGHT + JUDGED).format(**values)
+    return head + made(makers, OF) + judged + made(makers, MAKER) + (TOLD + WALK + MEETS + SPEC).format(**values)
 
 
 # The laws, by how many tables there are to be made, with the number of the first and how many
 # parameters there are after the table.
 LAWS = {1: (6, 1), 3: (1, 4), 5: (1, 1), 6: (1, 1)}
 
-for tables, (first, parameters) in LAWS.items():
-    with open('crates/control/proofs/Judged%d.antt' % tables, 'w', encoding='utf-8') as file:
-        subprocess.run([sys.executable, 'scripts/gen_judged.py', str(tables), str(parameters), 'control', str(first)], stdout=file, check=True)
-for name in FAMILIES:
-    with open('crates/control/proofs/%s.antt' % name, 'w', encoding='utf-8') as file:
-        file.write(law_written(name))
-for name in sys.argv[1:] or CALLS:
-    with open('crates/control/proofs/%s/%s/Proof.antt' % (CALLS[name]['module'], name), 'w', encoding='utf-8') as file:
-        file.write(written(name))
-subprocess.run(['rt', 'fmt'], check=True)
+
+def write(path, text):
+    with open('crates/control/proofs/' + path, 'w', encoding='utf-8') as file:
+        file.write(text)
+
+
+def main():
+    for tables, (first, parameters) in LAWS.items():
+        write('Judged%d.antt' % tables, judged_law(tables, first, parameters))
+    for name in FAMILIES:
+        write(name + '.antt', law_of(name))
+    for name in sys.argv[1:] or CALLS:
+        write('%s/%s/Proof.antt' % (CALLS[name]['module'], name), proof_of(name))
+    subprocess.run(['rt', 'fmt'], check=True)
+
+
+main()

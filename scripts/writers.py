@@ -18,7 +18,8 @@ import re
 import subprocess
 import sys
 
-from fields import FIELDS, camel, format_of
+from fields import FIELDS, back, camel, format_of, kebab
+from imports import pruned
 
 PROOFS = 'crates/writer/proofs'
 BY = 'Written by scripts/writers.py.'
@@ -29,10 +30,6 @@ LENT = 3
 def q(text):
     """Names with `_` in them, as antt writes them."""
     return re.sub(r'\b[a-z]\w*_\w*\b', lambda m: '«' + m.group(0) + '»', text)
-
-
-def back(steps):
-    return ' '.join(['c'] + ['.before'] * steps)
 
 
 class Put:
@@ -184,110 +181,142 @@ FROM = [
 ]
 
 
-def used(name, text):
-    name = name.strip('_') if name.startswith('_') else name
-    return re.search(r'(?<![\w·.-])(?<!\. )' + re.escape(name) + r'(?![\w-])', text) is not None
-
-
 def written(name, says, record, body, needs):
     """The file: what it says, what it uses, the body, and the needs put together."""
-    text = re.sub(r' \.[\w«»]+', '', body)
-    out = [f'-- `writer::encode::{name}` meets its contract: {says}. {BY} Assumes nothing.']
-    for module, names in FROM:
-        found = [n for n in names.split() if used(n, text)]
-        if found:
-            out.append(f'use {module}.{{{", ".join(found)}}}')
-    if record:
-        out.append(f'use {TYPES.get(record, "Rattle.records.specs.declared.records." + record)}.{{{record}}}')
     own = f'use Rattle.writer.proofs.encode.{name}'
-    out += [own + '.Statement.{statement}', own + '.Tie as tie', '']
-    spec = name.replace('_', '-') + '-spec'
+    uses = pruned([f'use {module}.{{{names.replace(" ", ", ")}}}' for module, names in FROM], body)
+    if record:
+        uses.append(f'use {TYPES.get(record, "Rattle.records.specs.declared.records." + record)}.{{{record}}}')
+    uses += [own + '.Statement.{statement}', own + '.Tie as tie']
+    says = f'-- `writer::encode::{name}` meets its contract: {says}. {BY} Assumes nothing.'
+    spec = kebab(name) + '-spec'
     end = f'pub {spec} : {{M : Type 1}} → statement M\n{spec} =\n    tie.close\n    (tie.spec\n' + '\n'.join(f'    {n}' for n in needs) + ')\n'
     path = f'{PROOFS}/encode/{name}'
     os.makedirs(path, exist_ok=True)
     with open(f'{path}/Proof.antt', 'w') as file:
-        file.write('\n'.join(out) + '\n' + body + end)
+        file.write('\n'.join([says] + uses) + '\n\n' + body + end)
 
 
 # ---- a chain
 
-def chain(f):
-    n = len(f.puts)
-    body, needs, seen, marks, reached, at = '', [], {}, [], [], 2
-    for put in f.puts:
-        hyphened = put.call.replace('_', '-')
-        seen[hyphened] = seen.get(hyphened, 0) + 1
-        many = seen[hyphened]
-        marks.append((hyphened + ('' if many == 1 else str(many)), hyphened + '-requires' + ('' if many == 1 else f'-{many}')))
-        reached.append(at + put.steps)
-        at = reached[-1] + 4
-    x = ' x' if f.record else ''
-    to = f'{f.record} → ' if f.record else ''
+class ChainProof:
+    """The proof of a chain, put by put. Its lemmas are numbered by the puts, from 1. marks: how the
+    checker names each put's call, and the need of its premise; reached: how many steps the function
+    takes to each put."""
 
-    def whole(k, place):
-        return f'(e{k} ({place} .args .{f.arg}))' if f.record else f'e{k}'
+    def __init__(self, chain):
+        self.chain, self.puts, self.n = chain, chain.puts, len(chain.puts)
+        self.marks, self.reached, seen, at = [], [], {}, 2
+        for put in self.puts:
+            call = kebab(put.call)
+            many = seen[call] = seen.get(call, 0) + 1
+            self.marks.append((call, call + '-requires') if many == 1 else (f'{call}{many}', f'{call}-requires-{many}'))
+            self.reached.append(at + put.steps)
+            at = self.reached[-1] + 4
 
-    def said(put, place):
-        if not f.record:
+    def numbered(self):
+        return zip(range(1, self.n + 1), self.puts, self.marks)
+
+    def whole(self, k, place):
+        """What is written up to put k, by the arguments at a place where the function began."""
+        return f'(e{k} ({place} .args .{self.chain.arg}))' if self.chain.record else f'e{k}'
+
+    def said(self, put, place):
+        """What a put writes, by those arguments."""
+        if not self.chain.record:
             return put.written
-        arg = f'{place} .args .{f.arg}'
+        arg = f'{place} .args .{self.chain.arg}'
         return re.sub(r'\bx\b( \.)?', lambda m: arg + m.group(1) if m.group(1) else f'({arg})', put.written)
 
-    def rest(put):
-        return '_' if f.record else f'({put.written})'
+    def own(self, put):
+        """What a put writes, where the checker finds it for a record."""
+        return '_' if self.chain.record else f'({put.written})'
 
-    body += f.front + '-- what is written, put by put\n'
-    for k, put in enumerate(f.puts, 1):
-        body += f'abbrev e{k} : {to}List ℕ\ne{k}{x} = ' + (f'e{k - 1}{x} ++ ' if k > 1 else '') + put.written + '\n\n'
-    body += '-- there is room for all of it, and so for each part\n'
-    for k in range(n, 0, -1):
-        body += f'room{k} : (c : tie.Start) → c .args .at + length {whole(k, "c")} ≤ length (c .args .buffer .now)\n'
-        if k == n:
-            start = f'c {f.pre}'
-            if f.same:
-                start = f'room-is _ _ ({f.same} (c .args .{f.arg})) ({start})'
-            body += f'unfolding {f.shut}\nroom{k} c = {start}\n\n'
-        else:
-            body += f'room{k} c = room-left {whole(k, "c")} ({said(f.puts[k], "c")}) _ _ (room{k + 1} c)\n\n'
-    body += '-- where the function began, from after each put\n'
-    for k, (mark, _) in enumerate(marks, 1):
-        to_last = back(reached[k - 1] - reached[k - 2]) if k > 1 else back(reached[0] + 1)
-        body += f'abbrev start{k} : tie.After-{mark} → tie.Start\nstart{k} c = ' + (f'start{k - 1} ({to_last})' if k > 1 else to_last) + '\n\n'
-    body += '-- what was written after each put\n'
-    for k, (put, (mark, _)) in enumerate(zip(f.puts, marks), 1):
-        s = f'start{k} c'
-        body += f'wrote{k} : (c : tie.After-{mark}) → Put {whole(k, s)} ({s} .args .at) ({s} .args .buffer .now) (c .{mark} .last .0) (c .{mark} .result)\n'
-        ensured = f'c .{mark} .ensures'
-        if put.answer:
-            ensured = f'put-is (ap ({put.answer[1]}) ({back(put_step(put) + 1)} .{put.answer[0]} .ensures)) ({ensured})'
-        if k == 1:
-            body += f'wrote1 c = {ensured}\n\n'
-        else:
-            body += f'wrote{k} c = then {rest(put)} (wrote{k - 1} ({back(reached[k - 1] - reached[k - 2])})) (room{k} ({s})) ({ensured})\n\n'
-    for k, (put, (mark, need)) in enumerate(zip(f.puts, marks), 1):
-        last = back(reached[k - 1] - reached[k - 2] - 1) if k > 1 else ''
-        start = f'(start{k - 1} ({last}))' if k > 1 else f'({back(reached[0])})'
-        for asked in put.needs:
-            asked, by = asked if isinstance(asked, tuple) else (asked, 'search needs')
-            body += f'{asked} : tie.Need-{asked}\n{asked} c{" κs" if asked.endswith("requires") else ""} = {by.replace("START", start)}\n\n'
-            needs.append(asked)
-        has = f'room {rest(put)} (wrote{k - 1} ({last})) (room{k} {start})' if k > 1 else f'room1 {start}'
+    def since(self, k):
+        """The steps from the put before put k to put k."""
+        return self.reached[k - 1] - self.reached[k - 2]
+
+    def parts(self):
+        out = '-- what is written, put by put\n'
+        x, to = (' x', f'{self.chain.record} → ') if self.chain.record else ('', '')
+        for k, put, _ in self.numbered():
+            before = f'e{k - 1}{x} ++ ' if k > 1 else ''
+            out += f'abbrev e{k} : {to}List ℕ\ne{k}{x} = {before}{put.written}\n\n'
+        return out
+
+    def rooms(self):
+        out = '-- there is room for all of it, and so for each part\n'
+        for k in range(self.n, 0, -1):
+            out += f'room{k} : (c : tie.Start) → c .args .at + length {self.whole(k, "c")} ≤ length (c .args .buffer .now)\n'
+            if k == self.n:
+                out += f'unfolding {self.chain.shut}\nroom{k} c = {self.room_for_all()}\n\n'
+            else:
+                out += f'room{k} c = room-left {self.whole(k, "c")} ({self.said(self.puts[k], "c")}) _ _ (room{k + 1} c)\n\n'
+        return out
+
+    def room_for_all(self):
+        """The contract's premise, as the chain says the bytes."""
+        given = f'c {self.chain.pre}'
+        return f'room-is _ _ ({self.chain.same} (c .args .{self.chain.arg})) ({given})' if self.chain.same else given
+
+    def starts(self):
+        out = '-- where the function began, from after each put\n'
+        for k, _, (mark, _) in self.numbered():
+            began = f'start{k - 1} ({back(self.since(k))})' if k > 1 else back(self.reached[0] + 1)
+            out += f'abbrev start{k} : tie.After-{mark} → tie.Start\nstart{k} c = {began}\n\n'
+        return out
+
+    def wrotes(self):
+        out = '-- what was written after each put\n'
+        for k, put, (mark, _) in self.numbered():
+            start, wrote = f'start{k} c', f'c .{mark} .ensures'
+            if put.answer:
+                wrote = f'put-is (ap ({put.answer[1]}) ({back(put_step(put) + 1)} .{put.answer[0]} .ensures)) ({wrote})'
+            if k > 1:
+                wrote = f'then {self.own(put)} (wrote{k - 1} ({back(self.since(k))})) (room{k} ({start})) ({wrote})'
+            out += (f'wrote{k} : (c : tie.After-{mark}) → Put {self.whole(k, start)} ({start} .args .at) ({start} .args .buffer .now) '
+                    f'(c .{mark} .last .0) (c .{mark} .result)\nwrote{k} c = {wrote}\n\n')
+        return out
+
+    def premise(self, k, put, start):
+        """What put k requires: room, and what else its contract has; start is where the function
+        began, from its need."""
+        has = f'room{k} {start}'
+        if k > 1:
+            has = f'room {self.own(put)} (wrote{k - 1} ({back(self.since(k) - 1)})) ({has})'
         if put.answer:
             has = f'room-is _ _ (ap ({put.answer[1]}) (sym ({back(put_step(put))} .{put.answer[0]} .ensures))) ({has})'
         if put.also:
             has = f'({has}, {re.sub(r"(?<![^( ])s (?=[.])", start[1:-1] + " ", put.also)})'
-        body += f'{need} : tie.Need-{need}\n{need} c κs = {has}\n\n'
-        needs.append(need)
-    body += f'same-length : tie.Need-same-length\nsame-length c = ap length (wrote{n} (c .before .before) .bytes) ∙ length-put _ _ _ (room{n} (start{n} (c .before .before)))\n\n'
-    done = f'wrote{n} (c .before .before)'
-    if f.same:
-        done = f'put-is (sym ({f.same} (start{n} (c .before .before) .args .{f.arg}))) ({done})'
-    body += f'returns : tie.Need-returns\nunfolding {f.shut}\nreturns c = {done}\n\n'
-    written(f.name, 'one put after the other', f.record, body, needs + ['same-length', 'returns'])
+        return has
+
+    def requires(self):
+        """The needs up to the last put, each a name and its proof."""
+        for k, put, (_, need) in self.numbered():
+            start = f'(start{k - 1} ({back(self.since(k) - 1)}))' if k > 1 else f'({back(self.reached[0])})'
+            for asked in put.needs:
+                asked, by = asked if isinstance(asked, tuple) else (asked, 'search needs')
+                given = ' κs' if asked.endswith('requires') else ''
+                yield asked, f'{asked} : tie.Need-{asked}\n{asked} c{given} = {by.replace("START", start)}\n\n'
+            yield need, f'{need} : tie.Need-{need}\n{need} c κs = {self.premise(k, put, start)}\n\n'
+
+    def ends(self):
+        last = back(2)
+        done, start = f'wrote{self.n} ({last})', f'start{self.n} ({last})'
+        same_length = f'ap length ({done} .bytes) ∙ length-put _ _ _ (room{self.n} ({start}))'
+        if self.chain.same:
+            done = f'put-is (sym ({self.chain.same} ({start} .args .{self.chain.arg}))) ({done})'
+        return (f'same-length : tie.Need-same-length\nsame-length c = {same_length}\n\n'
+                f'returns : tie.Need-returns\nunfolding {self.chain.shut}\nreturns c = {done}\n\n')
+
+    def write(self):
+        names, proofs = zip(*self.requires())
+        body = self.chain.front + self.parts() + self.rooms() + self.starts() + self.wrotes() + ''.join(proofs) + self.ends()
+        written(self.chain.name, 'one put after the other', self.chain.record, body, [*names, 'same-length', 'returns'])
 
 
 def put_step(put):
-    """How far back of a put's need the call stands whose answer it writes."""
+    """How many steps a put's need is after the call whose answer the put writes."""
     return 0 if put.call == 'put_be' else 1
 
 
@@ -310,67 +339,93 @@ OPTIONALS = [
 ]
 
 
-def optional(f):
-    mark = f.call.replace('_', '-')
-    unfolding = f'unfolding {f.shut}\n' if f.shut else ''
-
-    def args(place):
-        return f'({place} .args .{f.flag})', f'({place} .args .{f.value})'
-
-    def law(name, place, told=None):
-        b, x = args(place)
-        return f'{name} {f.codec} {f.blank} {x} {b}' + (f' ({told})' if told else '')
-
-    def some(place):
-        b, x = args(place)
-        return f'flag .enc {b} ++ {f.codec} .enc {x}'
-
-    s, t, e, w = 'c', 'start1 c', 'start0 c', 'start2 c'
-    b, x = args(s)
-    has = f'room _ ({back(4 + f.steps)} .put-flag .ensures) (room2 ({back(1 + f.steps)}))'
-    if f.also:
-        has = f'({has}, start1 ({back(1 + f.steps)}) {f.also})'
-    body = f"""-- where the function began, from after a yes, a no and the value
+OPTIONAL = '''-- where the function began, from after a yes, a no and the value
 abbrev start1 : tie.Then1 → tie.Start
-start1 c = {back(6)}
+start1 c = {branched}
 
 abbrev start0 : tie.Else1 → tie.Start
-start0 c = {back(6)}
+start0 c = {branched}
 
 abbrev start2 : tie.After-{mark} → tie.Start
-start2 c = start1 ({back(2 + f.steps)})
+start2 c = start1 ({yes})
 
 -- there is room for the flag, and after a yes for the value
-room1 : (c : tie.Start) → c .args .at + length (flag .enc {b}) ≤ length (c .args .buffer .now)
-{unfolding}room1 c = room-left (flag .enc {b}) (either {b} {f.codec} (always {f.blank}) .enc {x}) _ _ (room-is _ _ ({law('opt-flag', s)}) (c {f.pre}))
+room1 : (c : tie.Start) → c .args .at + length (flag .enc {flag}) ≤ length (c .args .buffer .now)
+{unfolding}room1 c = room-left (flag .enc {flag}) (either {flag} {codec} (always {blank}) .enc {value}) _ _ (room-is _ _ ({flag-law}) (c {pre}))
 
-room2 : (c : tie.Then1) → {t} .args .at + length ({some(t)}) ≤ length ({t} .args .buffer .now)
-{unfolding}room2 c = room-is _ _ ({law('opt-some', t, 'c .if1 .taken')}) ({t} {f.pre})
+room2 : (c : tie.Then1) → start1 c .args .at + length ({some}) ≤ length (start1 c .args .buffer .now)
+{unfolding}room2 c = room-is _ _ ({some-law}) (start1 c {pre})
 
-wrote2 : (c : tie.After-{mark}) → Put ({some(w)}) ({w} .args .at) ({w} .args .buffer .now) (c .{mark} .last .0) (c .{mark} .result)
-wrote2 c = then _ ({back(5 + f.steps)} .put-flag .ensures) (room2 ({back(2 + f.steps)})) (c .{mark} .ensures)
+wrote2 : (c : tie.After-{mark}) → Put ({some-wrote}) (start2 c .args .at) (start2 c .args .buffer .now) (c .{mark} .last .0) (c .{mark} .result)
+wrote2 c = then _ ({flagged} .put-flag .ensures) (room2 ({yes})) (c .{mark} .ensures)
 
 put-flag-requires : tie.Need-put-flag-requires
 put-flag-requires c κs = room1 (c .before .before)
 
 {mark}-requires : tie.Need-{mark}-requires
-{mark}-requires c κs = {has}
+{mark}-requires c κs = {premise}
 
 same-length : tie.Need-same-length
-same-length c = ap length (wrote2 (c .before .before) .bytes) ∙ length-put _ _ _ (room2 ({back(4 + f.steps)}))
+same-length c = ap length (wrote2 (c .before .before) .bytes) ∙ length-put _ _ _ (room2 ({yes-returned}))
 
 returns : tie.Need-returns
-{unfolding}returns c = put-is (sym ({law('opt-some', 'start2 (c .before .before)', back(4 + f.steps) + ' .if1 .taken')})) (wrote2 (c .before .before))
+{unfolding}returns c = put-is (sym ({some-law-returned})) (wrote2 (c .before .before))
 
 same-length-2 : tie.Need-same-length-2
-same-length-2 c = ap length (c .before .before .before .put-flag .ensures .bytes) ∙ length-put _ _ _ (room1 ({e}))
+same-length-2 c = ap length (c .before .before .before .put-flag .ensures .bytes) ∙ length-put _ _ _ (room1 (start0 c))
 
 returns-2 : tie.Need-returns-2
-{unfolding}returns-2 c = put-is (sym ({law('opt-none', e, 'c .if1 .left')})) (c .before .before .before .put-flag .ensures)
+{unfolding}returns-2 c = put-is (sym ({none-law})) (c .before .before .before .put-flag .ensures)
 
-"""
-    written(f.name, 'the flag, and after a yes the value', None, body,
-            ['put-flag-requires', f'{mark}-requires', 'same-length', 'returns', 'same-length-2', 'returns-2'])
+'''
+
+
+class OptionalProof:
+    """The proof of an optional part. `start1` is where the function began, from after a yes,
+    `start0` from after a no, and `start2` from after the put of the value."""
+
+    def __init__(self, optional):
+        self.optional = optional
+        self.mark = kebab(optional.call)
+
+    def args(self, place):
+        """The flag and the value, at a place where the function began."""
+        return f'({place} .args .{self.optional.flag})', f'({place} .args .{self.optional.value})'
+
+    def law(self, name, place, told=None):
+        """A law of `opt` at the arguments; told is what the branch says of the flag."""
+        flag, value = self.args(place)
+        return f'{name} {self.optional.codec} {self.optional.blank} {value} {flag}' + (f' ({told})' if told else '')
+
+    def some(self, place):
+        """What is written after a yes."""
+        flag, value = self.args(place)
+        return f'flag .enc {flag} ++ {self.optional.codec} .enc {value}'
+
+    def premise(self):
+        """What the put of the value requires."""
+        steps, also = self.optional.steps, self.optional.also
+        has = f'room _ ({back(4 + steps)} .put-flag .ensures) (room2 ({back(1 + steps)}))'
+        return f'({has}, start1 ({back(1 + steps)}) {also})' if also else has
+
+    def write(self):
+        f, steps = self.optional, self.optional.steps
+        flag, value = self.args('c')
+        body = OPTIONAL.format(mark=self.mark, flag=flag, value=value, codec=f.codec, blank=f.blank, pre=f.pre, premise=self.premise(), **{
+            'unfolding': f'unfolding {f.shut}\n' if f.shut else '',
+            'branched': back(6),
+            'yes': back(2 + steps),
+            'flagged': back(5 + steps),
+            'yes-returned': back(4 + steps),
+            'some': self.some('start1 c'),
+            'some-wrote': self.some('start2 c'),
+            'flag-law': self.law('opt-flag', 'c'),
+            'some-law': self.law('opt-some', 'start1 c', 'c .if1 .taken'),
+            'some-law-returned': self.law('opt-some', f'start2 ({back(2)})', back(4 + steps) + ' .if1 .taken'),
+            'none-law': self.law('opt-none', 'start0 c', 'c .if1 .left'),
+        })
+        written(f.name, 'the flag, and after a yes the value', None, body,
+                ['put-flag-requires', f'{self.mark}-requires', 'same-length', 'returns', 'same-length-2', 'returns-2'])
 
 
 # ---- the places in use, one after the other
@@ -381,11 +436,7 @@ LOOPS = [
 ]
 
 
-def loop(name, call, record, codec, blank, none, law):
-    mark = call.replace('_', '-')
-    firsts = f'firsts {codec} {blank}'
-    a, again = 'start c', back(5)
-    body = f"""abbrev Inv-loop : tie.InvT-loop
+LOOP = '''abbrev Inv-loop : tie.InvT-loop
 Inv-loop buffer₀ at count places to₀ i₀ buffer to i = (i ≤ count) × Put ({firsts} i places) at buffer₀ buffer to × (length buffer ≡ length buffer₀)
 
 abbrev μ-loop : tie.MeasureT-loop
@@ -396,57 +447,57 @@ abbrev start : tie.In-loop Inv-loop μ-loop → tie.Start Inv-loop μ-loop
 start c = c .before .before .before
 
 -- a place as the code takes it
-taken-is : (c : tie.In-loop Inv-loop μ-loop) → getD ({a} .args .t3) (c .before .loop .i) {blank} ≡ getD ({a} .args .t3) (c .before .loop .i) {none}
+taken-is : (c : tie.In-loop Inv-loop μ-loop) → getD (start c .args .t3) (c .before .loop .i) {blank} ≡ getD (start c .args .t3) (c .before .loop .i) {none}
 taken-is c =
-    let l : length ({a} .args .t3) ≡ 9 = search needs in
-    getD-any ({a} .args .t3) (c .before .loop .i) {blank} {none} (omega (arith, l, {a} .pre .1))
+    let l : length (start c .args .t3) ≡ 9 = search needs in
+    getD-any (start c .args .t3) (c .before .loop .i) {blank} {none} (omega (arith, l, start c .pre .1))
 
 -- what is written with one more
-one-more : (c : tie.In-loop Inv-loop μ-loop) → {firsts} (c .before .loop .i + 1) ({a} .args .t3)
-    ≡ {firsts} (c .before .loop .i) ({a} .args .t3) ++ {codec} .enc (getD ({a} .args .t3) (c .before .loop .i) {none})
+one-more : (c : tie.In-loop Inv-loop μ-loop) → {firsts} (c .before .loop .i + 1) (start c .args .t3)
+    ≡ {firsts} (c .before .loop .i) (start c .args .t3) ++ {codec} .enc (getD (start c .args .t3) (c .before .loop .i) {none})
 one-more c =
-    firsts-more {codec} {blank} (c .before .loop .i) ({a} .args .t3)
-    ∙ ap (λ m. {firsts} (c .before .loop .i) ({a} .args .t3) ++ {codec} .enc m) (taken-is c)
+    firsts-more {codec} {blank} (c .before .loop .i) (start c .args .t3)
+    ∙ ap (λ m. {firsts} (c .before .loop .i) (start c .args .t3) ++ {codec} .enc m) (taken-is c)
 
 -- there is room for it
-more : (c : tie.In-loop Inv-loop μ-loop) → {a} .args .at + length ({firsts} (c .before .loop .i) ({a} .args .t3) ++ {codec} .enc (getD ({a} .args .t3) (c .before .loop .i) {none})) ≤ length ({a} .args .buffer .now)
+more : (c : tie.In-loop Inv-loop μ-loop) → start c .args .at + length ({firsts} (c .before .loop .i) (start c .args .t3) ++ {codec} .enc (getD (start c .args .t3) (c .before .loop .i) {none})) ≤ length (start c .args .buffer .now)
 more c =
-    let a = {a} .args in
+    let a = start c .args in
     let i = c .before .loop .i in
     omega (
       arith,
       firsts-within {codec} {blank} (i + 1) (a .count) (a .t3) (omega arith),
       ap length (one-more c),
       ap length ({law} (a .count) (a .t3)),
-      {a} .pre .0,
+      start c .pre .0,
     )
 
 loop-holds : tie.Need-loop-holds Inv-loop μ-loop
 loop-holds c = (omega arith, put-is (sym (firsts-none {codec} {blank} (c .before .args .t3))) (put-nothing _ _), refl)
 
 mul-place : tie.Need-mul-place Inv-loop μ-loop
-mul-place c = omega (arith, {a} .pre .1)
+mul-place c = omega (arith, start c .pre .1)
 
 array-copy-out-place : tie.Need-array-copy-out-place Inv-loop μ-loop
-array-copy-out-place c = omega (arith, {a} .pre .1)
+array-copy-out-place c = omega (arith, start c .pre .1)
 
 {mark}-requires : tie.Need-{mark}-requires Inv-loop μ-loop
 {mark}-requires c κs = room _ (c .before .before .before .loop .inv .1) (more (c .before .before))
 
 add-i : tie.Need-add-i Inv-loop μ-loop
-add-i c = omega (arith, {back(8)} .pre .1)
+add-i c = omega (arith, {began} .pre .1)
 
 loop-less : tie.Need-loop-less Inv-loop μ-loop
 loop-less c = omega arith
 
 loop-again : tie.Need-loop-again Inv-loop μ-loop
 loop-again c =
-    let l = {back(6)} .loop in
+    let l = {looped} .loop in
     let p = c .before .before .{mark} in
-    let w = then _ (l .inv .1) (more ({again})) (p .ensures) in (
+    let w = then _ (l .inv .1) (more ({turned})) (p .ensures) in (
       omega arith,
-      put-is (sym (one-more ({again}))) w,
-      ap length (w .bytes) ∙ length-put _ _ _ (more ({again})),
+      put-is (sym (one-more ({turned}))) w,
+      ap length (w .bytes) ∙ length-put _ _ _ (more ({turned})),
     )
 
 same-length : tie.Need-same-length Inv-loop μ-loop
@@ -459,9 +510,15 @@ returns c =
     let e : l .i ≡ a .count = omega arith in
     put-is (ap (λ n. {firsts} n (a .t3)) e ∙ sym ({law} (a .count) (a .t3))) (l .inv .1)
 
-"""
-    written(name, 'what is written so far are the places passed', record, body, ['Inv-loop', 'μ-loop', 'loop-holds', 'mul-place', 'array-copy-out-place', f'{mark}-requires', 'add-i', 'loop-less',
-                                 'loop-again', 'same-length', 'returns'])
+'''
+
+
+def loop(name, call, record, codec, blank, none, law):
+    mark = kebab(call)
+    # from the end of a turn, back to its start, to the loop and to where the function began
+    body = LOOP.format(mark=mark, firsts=f'firsts {codec} {blank}', codec=codec, blank=blank, none=none, law=law, turned=back(5), looped=back(6), began=back(8))
+    needs = ['loop-holds', 'mul-place', 'array-copy-out-place', f'{mark}-requires', 'add-i', 'loop-less', 'loop-again', 'same-length', 'returns']
+    written(name, 'what is written so far are the places passed', record, body, ['Inv-loop', 'μ-loop'] + needs)
 
 
 def main():
@@ -471,10 +528,10 @@ def main():
             sys.exit(f'writers.py: {name} is not among the functions that it writes')
     for f in CHAINS:
         if not only or f.name in only:
-            chain(f)
+            ChainProof(f).write()
     for f in OPTIONALS:
         if not only or f.name in only:
-            optional(f)
+            OptionalProof(f).write()
     for f in LOOPS:
         if not only or f[0] in only:
             loop(*f)
