@@ -44,14 +44,11 @@ const ID_SIZE: usize = 8;
 // Most sets: their count has 8 bits.
 pub const MOST_SETS: usize = 255;
 
-// Reads a body into the lent arrays. They have room for any, so that no test for it is needed.
-pub fn read_observation(
-    body: &[u8],
-    ids: &mut [u64; MOST_IDS],
-    counts: &mut [usize; MOST_SETS],
-) -> ObservationRead
-    requires { ⌜ length (now body) ≤ 65535 ⌝ }
-    ensures { λ r. ⌜ (observationAsking r (now (ids .exit)) (now (counts .exit)) ≡ asking Ob (now (body .entry))) × ((r .ids + r .nodes ≤ 8192) × (r .sets ≤ 255)) ⌝ }
+// Reads a body into the lent arrays. They have room for all that it can hold, so that no test for it
+// is needed: an id takes eight bytes of the body.
+pub fn read_observation(body: &[u8], ids: &mut [u64], counts: &mut [usize]) -> ObservationRead
+    requires { ⌜ (length (now body) ≤ 65535) × ((length (now body) ≤ 8 * length (now ids)) × (255 ≤ length (now counts))) ⌝ }
+    ensures { λ r. ⌜ (observationAsking r (now (ids .exit)) (now (counts .exit)) ≡ asking Ob (now (body .entry))) × ((8 * (r .ids + r .nodes) ≤ length (now (body .entry))) × (r .sets ≤ 255)) ⌝ }
 {
     let cut_read = read_log_id(body);
     let LogIdRead::Read(cut, at) = cut_read else {
@@ -79,7 +76,7 @@ pub fn read_observation(
 }
 
 fn not_formed() -> ObservationRead
-    ensures { λ r. ⌜ (r .formed ≡ false) × ((r .ids + r .nodes ≤ 8192) × (r .sets ≤ 255)) ⌝ }
+    ensures { λ r. ⌜ (r .formed ≡ false) × ((r .ids + r .nodes ≡ 0) × (r .sets ≡ 0)) ⌝ }
 {
     let cut = blank_voter_slot_log_id();
     ObservationRead {
@@ -103,7 +100,7 @@ pub struct Laid {
 
 // So many sets: their ids one after another, and the count of each.
 fn lay_sets(bytes: &[u8], sets: usize, ids: &mut [u64], counts: &mut [usize]) -> Laid
-    requires { ⌜ (length (now bytes) ≤ 65535) × (sets ≤ length (now counts)) × (8192 ≤ length (now ids)) ⌝ }
+    requires { ⌜ (length (now bytes) ≤ 65535) × (sets ≤ length (now counts)) × (length (now bytes) ≤ 8 * length (now ids)) ⌝ }
     ensures { λ r. ⌜ LaidSets r (now (bytes .entry)) sets (now (ids .exit)) (now (counts .exit)) ⌝ }
 {
     let mut taken = 0;
@@ -128,7 +125,7 @@ fn lay_sets(bytes: &[u8], sets: usize, ids: &mut [u64], counts: &mut [usize]) ->
 
 // One set: its count, and the ids, which are laid from a place on.
 fn lay_set(bytes: &[u8], ids: &mut [u64], from: usize) -> Laid
-    requires { ⌜ (8 * from + length (now bytes) ≤ 65535) × (8192 ≤ length (now ids)) ⌝ }
+    requires { ⌜ (8 * from + length (now bytes) ≤ 65535) × (8 * from + length (now bytes) ≤ 8 * length (now ids)) ⌝ }
     ensures { λ r. ⌜ LaidSet r (now (bytes .entry)) from (now (ids .entry)) (now (ids .exit)) ⌝ }
 {
     let count_read = read_u16(bytes);

@@ -162,7 +162,7 @@ pub fn judge_observation_body(
 }
 
 // What was read, from the front of the ids and of the counts.
-fn weigh_read(
+pub fn weigh_read(
     table: VoterSlotTable,
     read: ObservationRead,
     ids: &[u64],

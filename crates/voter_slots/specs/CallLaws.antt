@@ -5,7 +5,7 @@ use mathlib.Core.Path.{_≡_, refl, sym, ap, _∙_}
 use mathlib.Core.Bool.{Bool, true, false, cond, false≢true}
 use mathlib.Core.List.{List}
 use native.Mathlib.Omega.{arith}
-use lib.ListN.{length}
+use lib.ListN.{length, take, drop}
 use lib.Dec.{eqb, leb}
 use borrow.Author.Tests.{le-leb, lt-leb, ne-eqb}
 use Rattle.identity.specs.Answer.{isAccepted, numberOf}
@@ -25,13 +25,16 @@ use Rattle.control.specs.Judgement.Verdict.{kept, moves}
 use Rattle.control.specs.Judgement.Verdict.{refused as refuses}
 use Rattle.control.specs.ObserveSight.{answerOfObserved, verdictOfObserved}
 use Rattle.control.specs.Verdicts.{answerOf, verdictOf}
+use Rattle.journal.specs.declared.observation.ObservationRead.{ObservationRead}
 use Rattle.journal.specs.declared.replay.Mark.{Mark}
 use Rattle.journal.specs.declared.replay.Mark.the-variants.{Tb, Mk, Ad, Bg, Ob, Unknown}
 use Rattle.journal.specs.declared.step.Called.{Called}
 use Rattle.journal.specs.declared.step.Called.the-variants.{Command, Observation}
+use Rattle.journal.specs.Bodies.{observationAsking}
 use Rattle.journal.specs.Records.{beginBody, markerBody, advanceBody, observationBody}
 use Rattle.journal.specs.RefusalLaws.{attestation-refused}
 use Rattle.journal.specs.Replay.{Asked, Asking, Standing, advanceAsked, answered, asking, attested, badRecord, beginAsked, called, formed, markerAsked, observationAsked, step}
+use Rattle.journal.specs.Replay.Asked.{observation}
 use Rattle.journal.specs.Replay.Asking.{bad, refused, asks}
 use Rattle.journal.specs.Replay.Entry.{framed}
 use Rattle.journal.specs.Replay.Standing.{absent, stands}
@@ -195,3 +198,23 @@ too-long bs body out h = ap (λ (m : Mark). askedOf (asking m body) bs out) (sym
 pub formed-is : (b : Bool) (a : Asked) {x : Asking} → cond b (asks a) bad ≡ x → b ≡ isFormed x
 formed-is true a e = ap isFormed e
 formed-is false a e = ap isFormed e
+
+-- ---- an observation, from its reader's answer
+
+module _ (r : ObservationRead) (ids counts body : List ℕ) (e : observationAsking r ids counts ≡ asking Ob body) where
+  pub asks-nothing : r .formed ≡ false → bad ≡ asking Ob body
+  asks-nothing h =
+      sym (cond-false (r .formed) (asks (observation (take (r .ids) ids) (take (r .sets) counts) (take (r .nodes) (drop (r .ids) ids)) (r .cut))) bad h) ∙ e
+
+  module _ (bs out : List ℕ) where
+    -- 33
+    pub unformed-is : r .formed ≡ false → leaves badRecord out ≡ askedOf (asking Ob body) bs out
+    unfolding askedOf
+    unformed-is h = ap (λ (x : Asking). askedOf x bs out) (asks-nothing h)
+
+    -- of the form, at a table that is refused
+    pub formed-refused : r .formed ≡ true → (answer : Answer) → decodeVoterSlotTable bs ≡ no (numberOf answer)
+        → leaves (numberOf answer) out ≡ askedOf (asking Ob body) bs out
+    formed-refused h answer d =
+        ap (λ (b : Bool). leaves (numberOf (cond b answer BadRecord)) out) (sym h ∙ formed-is (r .formed) _ e)
+        ∙ refused-is (asking Ob body) bs out answer d

@@ -48,7 +48,7 @@ use Rattle.journal.specs.Step.{Judges, answerOfCalled, madeBy}
 use Rattle.journal.specs.StepLaws.{fits-advance, fits-begin, fits-marker, no-observation, observes, step-called}
 use Rattle.voter_slots.specs.declared.result.VoterSlotsResult.{VoterSlotsResult}
 use Rattle.voter_slots.specs.Calls.{mostBody}
-use Rattle.voter_slots.specs.CallLaws.{never-zero, observation-long, same-table}
+use Rattle.voter_slots.specs.CallLaws.{asks-nothing, never-zero, observation-long, same-table}
 use Rattle.voter_slots.specs.Export.{ReadAs, leaves, refusedResult, resultOf, writtenBy}
 use Rattle.voter_slots.specs.ExportLaws.{read-as}
 use Rattle.voter_slots.specs.Lent.{askedAt, readOver, refusalAt, stays, tableObserveOf, tableReadOf, tableWriteOf, told}
@@ -209,9 +209,7 @@ module _ (t : VoterSlotTable) (r : ObservationRead) (ids counts body : List ℕ)
 
   pub observed-bad : r .formed ≡ false → stays badRecord t ≡ askedAt (asking Ob body) t
   unfolding askedAt
-  observed-bad h =
-      ap (λ (x : Asking). askedAt x t)
-      (sym (cond-false (r .formed) (asks (observation (take (r .ids) ids) (take (r .sets) counts) (take (r .nodes) (drop (r .ids) ids)) (r .cut))) bad h) ∙ e)
+  observed-bad h = ap (λ (x : Asking). askedAt x t) (asks-nothing r ids counts body e h)
 
 -- one that no record has room for
 pub long-observation : (t : VoterSlotTable) (body : List ℕ) → mostBody < length body → stays badRecord t ≡ tableObserveOf t body

@@ -3,7 +3,7 @@
 // Nobody has read a table that is lent, so it may be any value. A command asks first whether it is
 // valid: a valid one goes the way of the calls over bytes, and of any other only the refusal is left to
 // find. An observation and the retired test are document 01's entry points.
-ghost use Prim.Native.Nat.{_+_, _≤_};
+ghost use Prim.Native.Nat.{_+_, _*_, _≤_};
 ghost use mathlib.Core.Bool.{cond, true};
 ghost use mathlib.Core.Path.{_≡_};
 ghost use lib.ListN.{length, take, drop};
@@ -190,19 +190,23 @@ pub fn observe_at(table: VoterSlotTable, body: &[u8]) -> Afterwards
     if MOST_BODY < body.len() {
         return stay(table, Answer::BadRecord);
     }
-    let mut ids = [0u64; MOST_IDS];
-    let mut counts = [0usize; MOST_SETS];
+    let mut counts = no_counts();
+    if body.len() <= USUAL_BODY {
+        let mut ids = usual_ids();
+        return observe_body(table, body, &mut ids, &mut counts);
+    }
+    let mut ids = most_ids();
     observe_body(table, body, &mut ids, &mut counts)
 }
 
-// With room for the ids and the counts of any body.
+// With room for the ids and the counts of the body.
 fn observe_body(
     table: VoterSlotTable,
     body: &[u8],
-    ids: &mut [u64; MOST_IDS],
-    counts: &mut [usize; MOST_SETS],
+    ids: &mut [u64],
+    counts: &mut [usize],
 ) -> Afterwards
-    requires { ⌜ length (now body) ≤ 65535 ⌝ }
+    requires { ⌜ (length (now body) ≤ 65535) × ((length (now body) ≤ 8 * length (now ids)) × (255 ≤ length (now counts))) ⌝ }
     ensures { λ r. ⌜ (r .result, r .table) ≡ askedAt (asking Ob (now (body .entry))) table ⌝ }
 {
     let read = read_observation(body, ids, counts);

@@ -13,12 +13,7 @@ use control::retired::is_retired_in;
 use identity::answer::Answer;
 use identity::answer::accepted;
 use identity::answer::number;
-use journal::observation::MOST_IDS;
-use journal::observation::MOST_SETS;
-use journal::observation::read_observation;
 use journal::record::MOST_BODY;
-use journal::step::Called;
-use journal::step::judge_observation_body;
 
 pub mod call;
 pub mod lent;
@@ -88,17 +83,13 @@ pub extern "C" fn voter_slots_observe(table: &[u8], body: &[u8], out: &mut [u8])
     if MOST_BODY < body.len() {
         return refused(Answer::BadRecord);
     }
-    let mut ids = [0u64; MOST_IDS];
-    let mut counts = [0usize; MOST_SETS];
-    let decoded = decode_voter_slot_table(table);
-    let answer = decoded.answer;
-    if !accepted(answer) {
-        let read = read_observation(body, &mut ids, &mut counts);
-        return refused(later(read.formed, answer));
+    let mut counts = no_counts();
+    if body.len() <= USUAL_BODY {
+        let mut ids = usual_ids();
+        return observe_bytes(table, body, &mut ids, &mut counts, out);
     }
-    let before = decoded.table;
-    let observed = judge_observation_body(before, body, &mut ids, &mut counts);
-    finish(table, before, body, Called::Observation(observed), out)
+    let mut ids = most_ids();
+    observe_bytes(table, body, &mut ids, &mut counts, out)
 }
 
 // Whether a table says that a node must not count any more: `NOT_RETIRED`, `RETIRED`, or the number of

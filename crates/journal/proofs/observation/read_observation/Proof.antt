@@ -17,9 +17,33 @@ use borrow.Author.Needs.{needs}
 use Rattle.journal.proofs.observation.read_observation.Statement.{statement}
 use Rattle.journal.proofs.observation.read_observation.Tie as tie
 
+-- the places, each by one step to the place before: the start, after the cut, after the count of the
+-- sets, after the sets, where they are known to be of the form, after the nodes
+abbrev start : tie.After-known-told → tie.Start
+start c = c .before .before .before .before .before .before .before
+
+abbrev cut-read : tie.After-known-told2 → tie.After-known-told
+cut-read c = c .before .before .before .before .before
+
+-- its `.pre` is what is required of the call
+abbrev required : tie.After-known-told2 → tie.Start
+required c = start (cut-read c)
+
+abbrev counted : tie.After-lay-sets → tie.After-known-told2
+counted c = c .before .before .before .before
+
+abbrev sets-read : tie.After-struct-known2 → tie.After-lay-sets
+sets-read c = c .before .before .before .before .before .before .before
+
+abbrev told : tie.After-struct-known2 → tie.After-known-told2
+told c = counted (sets-read c)
+
+abbrev sets : tie.After-lay-set → tie.After-struct-known2
+sets c = c .before .before .before
+
 -- after the cut: the body, and the place after it
 abbrev body1 : tie.After-known-told → List ℕ
-body1 c = c .before .before .before .before .before .args .body .now
+body1 c = start c .args .body .now
 
 abbrev at1 : tie.After-known-told → ℕ
 at1 c = c .before .cut-read .given .0 .1 .0
@@ -29,37 +53,31 @@ got-1 c = got logIdRead (c .before .before .before .read-log-id .ensures) (c .be
 
 -- after the count of the sets
 abbrev body2 : tie.After-known-told2 → List ℕ
-body2 c = body1 (c .before .before .before .before .before)
+body2 c = body1 (cut-read c)
 
 abbrev count : tie.After-known-told2 → ℕ
 count c = c .before .count-read .given .0 .0
 
 abbrev at2 : tie.After-known-told2 → ℕ
-at2 c = at1 (c .before .before .before .before .before) + c .before .count-read .given .0 .1 .0
+at2 c = at1 (cut-read c) + c .before .count-read .given .0 .1 .0
 
-got-2 : (c : tie.After-known-told2) → uint 1 .dec (drop (at1 (c .before .before .before .before .before)) (body2 c)) ≡ ok (count c) (c .before .count-read .given .0 .1 .0)
-got-2 c = got u8Read (c .before .before .before .read-u8 .ensures ∙ ap (uint 1 .dec) (rest (body2 c) (at1 (c .before .before .before .before .before)))) (c .before .count-read .given .1)
+got-2 : (c : tie.After-known-told2) → uint 1 .dec (drop (at1 (cut-read c)) (body2 c)) ≡ ok (count c) (c .before .count-read .given .0 .1 .0)
+got-2 c = got u8Read (c .before .before .before .read-u8 .ensures ∙ ap (uint 1 .dec) (rest (body2 c) (at1 (cut-read c)))) (c .before .count-read .given .1)
 
 -- after the sets
-laid : (c : tie.After-lay-sets) → LaidSets (c .lay-sets .result) (drop (at2 (c .before .before .before .before)) (body2 (c .before .before .before .before))) (count (c .before .before .before .before)) (c .lay-sets .last .1 .1 .0) (c .lay-sets .last .1 .1 .1 .0)
-laid c = sets-rest (body2 (c .before .before .before .before)) (at2 (c .before .before .before .before)) (c .lay-sets .ensures)
-
-abbrev told : tie.After-struct-known2 → tie.After-known-told2
-told c = c .before .before .before .before .before .before .before
+laid : (c : tie.After-lay-sets) → LaidSets (c .lay-sets .result) (drop (at2 (counted c)) (body2 (counted c))) (count (counted c)) (c .lay-sets .last .1 .1 .0) (c .lay-sets .last .1 .1 .1 .0)
+laid c = sets-rest (body2 (counted c)) (at2 (counted c)) (c .lay-sets .ensures)
 
 abbrev at3 : tie.After-struct-known2 → ℕ
-at3 c = at2 (told c) + c .before .before .before .lay-sets .result .taken
+at3 c = at2 (told c) + sets-read c .lay-sets .result .taken
 
 so : (c : tie.After-struct-known2)
-    → SetsSo (drop (at2 (told c)) (body2 (told c))) (count (told c)) (c .before .before .before .lay-sets .result .taken) (c .before .before .before .lay-sets .result .ids) (c .before .before .before .lay-sets .last .1 .1 .0) (c .before .before .before .lay-sets .last .1 .1 .1 .0)
-so c = laid (c .before .before .before) .formed (held refl (c .before .if1 .left))
+    → SetsSo (drop (at2 (told c)) (body2 (told c))) (count (told c)) (sets-read c .lay-sets .result .taken) (sets-read c .lay-sets .result .ids) (sets-read c .lay-sets .last .1 .1 .0) (sets-read c .lay-sets .last .1 .1 .1 .0)
+so c = laid (sets-read c) .formed (held refl (c .before .if1 .left))
 
 -- after the nodes
-abbrev sets : tie.After-lay-set → tie.After-struct-known2
-sets c = c .before .before .before
-
 nodes : (c : tie.After-lay-set)
-    → LaidSet (c .lay-set .result) (drop (at3 (sets c)) (body2 (told (sets c)))) (sets c .before .before .before .lay-sets .result .ids) (sets c .before .before .before .lay-sets .last .1 .1 .0) (c .lay-set .last .1 .0)
+    → LaidSet (c .lay-set .result) (drop (at3 (sets c)) (body2 (told (sets c)))) (sets-read (sets c) .lay-sets .result .ids) (sets-read (sets c) .lay-sets .last .1 .1 .0) (c .lay-set .last .1 .0)
 nodes c = set-rest (body2 (told (sets c))) (at3 (sets c)) (c .lay-set .ensures)
 
 -- no part ends after the body
@@ -67,7 +85,7 @@ within-1 : (c : tie.After-known-told) → at1 c ≤ length (body1 c)
 within-1 c = logId .within _ (got-1 c)
 
 within-2 : (c : tie.After-known-told2) → at2 c ≤ length (body2 c)
-within-2 c = omega (arith, within-1 (c .before .before .before .before .before), uint 1 .within _ (got-2 c), length-drop (at1 (c .before .before .before .before .before)) (body2 c))
+within-2 c = omega (arith, within-1 (cut-read c), uint 1 .within _ (got-2 c), length-drop (at1 (cut-read c)) (body2 c))
 
 within-3 : (c : tie.After-struct-known2) → at3 c ≤ length (body2 (told c))
 within-3 c = omega (arith, within-2 (told c), so c .within, length-drop (at2 (told c)) (body2 (told c)))
@@ -86,8 +104,8 @@ not-formed-requires c κs = search needs
 
 returns : tie.Need-returns
 returns c =
-    let s = c .before .before .before .before .before .args in
-    (unformed (c .not-formed .result) (s .ids .now) (s .counts .now) (c .not-formed .ensures .0) (observation-cutless (s .body .now) (got logIdRead (c .before .before .before .read-log-id .ensures) (c .before .enum-told .given .1))), c .not-formed .ensures .1)
+    let s = c .before .before .before .before .before .before .before .args in
+    (unformed (c .not-formed .result) (s .ids .now) (s .counts .now) (c .not-formed .ensures .0) (observation-cutless (s .body .now) (got logIdRead (c .before .before .before .read-log-id .ensures) (c .before .enum-told .given .1))), (omega (arith, c .not-formed .ensures .1 .0), omega (arith, c .not-formed .ensures .1 .1)))
 
 sub-read-u8 : tie.Need-sub-read-u8
 sub-read-u8 c = within-1 c
@@ -112,11 +130,11 @@ not-formed-requires-2 c κs = search needs
 
 returns-2 : tie.Need-returns-2
 returns-2 c =
-    let s = c .before .before .before .before .before .before .before .before .before .before .args in
-    let p = c .before .before .before .before .before in (
+    let p = c .before .before .before .before .before in
+    let s = start p .args in (
       unformed (c .not-formed2 .result) (s .ids .now) (s .counts .now) (c .not-formed2 .ensures .0)
           (observation-countless (s .body .now) (got-1 p) (got u8Read (c .before .before .before .read-u8 .ensures ∙ ap (uint 1 .dec) (rest (body1 p) (at1 p))) (c .before .enum-told2 .given .1))),
-      c .not-formed2 .ensures .1,
+      (omega (arith, c .not-formed2 .ensures .1 .0), omega (arith, c .not-formed2 .ensures .1 .1)),
     )
 
 cast-sets : tie.Need-cast-sets
@@ -135,17 +153,24 @@ part-lay-sets-end : tie.Need-part-lay-sets-end
 part-lay-sets-end c = search needs
 
 lay-sets-requires : tie.Need-lay-sets-requires
-lay-sets-requires c κs = search needs
+lay-sets-requires c κs = simp (length-take, length-drop) (omega arith)
 
 not-formed-requires-3 : tie.Need-not-formed-requires-3
 not-formed-requires-3 c κs = search needs
 
+same-length : tie.Need-same-length
+same-length c = search needs
+
+same-length-2 : tie.Need-same-length-2
+same-length-2 c = search needs
+
 returns-3 : tie.Need-returns-3
 returns-3 c =
-    let p = c .before .before .before .before .before .before .before in (
-      unformed (c .not-formed3 .result) (c .before .before .before .lay-sets .last .1 .1 .0) (c .before .before .before .lay-sets .last .1 .1 .1 .0) (c .not-formed3 .ensures .0)
-          (observation-setless (body2 p) (got-1 (p .before .before .before .before .before)) (got-2 p) (laid (c .before .before .before) .refused (failed refl (c .before .if1 .taken)))),
-      c .not-formed3 .ensures .1,
+    let q = c .before .before .before .before .before .before .before in
+    let p = counted q in (
+      unformed (c .not-formed3 .result) (q .lay-sets .last .1 .1 .0) (q .lay-sets .last .1 .1 .1 .0) (c .not-formed3 .ensures .0)
+          (observation-setless (body2 p) (got-1 (cut-read p)) (got-2 p) (laid q .refused (failed refl (c .before .if1 .taken)))),
+      (omega (arith, c .not-formed3 .ensures .1 .0), omega (arith, c .not-formed3 .ensures .1 .1)),
     )
 
 add-at-2 : tie.Need-add-at-2
@@ -162,20 +187,32 @@ part-lay-set-end c = search needs
 
 lay-set-requires : tie.Need-lay-set-requires
 lay-set-requires c κs =
-    simp (length-take, length-drop) (omega (arith, so (c .before .before) .few, within-3 (c .before .before)))
+    let p = c .before .before in
+    let t = told p in
+    let r = required t .pre in
+    simp (length-take, length-drop)
+    (omega (arith, r .0, r .1 .0, so p .few, so p .within, within-3 p, length-drop (at2 t) (body2 t)))
 
 add-t16 : tie.Need-add-t16
 add-t16 c =
-    let p = c .before .before .before .before in
-    omega (arith, c .before .before .before .before .before .before .before .before .before .before .before .before .before .before .before .before .before .before .before .before .before .pre, within-3 p, nodes (c .before) .within, length-drop (at3 p) (body2 (told p)))
+    let n = c .before .before .before in
+    let p = sets n in
+    omega (arith, required (told p) .pre .0, within-3 p, nodes n .within, length-drop (at3 p) (body2 (told p)))
+
+same-length-3 : tie.Need-same-length-3
+same-length-3 c = search needs
+
+same-length-4 : tie.Need-same-length-4
+same-length-4 c = search needs
 
 returns-4 : tie.Need-returns-4
 returns-4 c =
-    let p = c .before .before .before .before .before in
+    let n = c .before .before .before .before in
+    let p = sets n in
     let t = told p in
-    let l = nodes (c .before .before) in (
-      observation-end (body2 t) (got-1 (t .before .before .before .before .before)) (got-2 t) (so p) l,
-      (omega (arith, c .before .before .before .before .before .before .before .before .before .before .before .before .before .before .before .before .before .before .before .before .before .before .pre, l .few, l .within, so p .few, within-3 p, length-drop (at3 p) (body2 t)), omega arith),
+    let l = nodes n in (
+      observation-end (body2 t) (got-1 (cut-read t)) (got-2 t) (so p) l,
+      (omega (arith, required t .pre .0, l .few, l .within, so p .few, within-3 p, length-drop (at3 p) (body2 t)), omega arith),
     )
 
 pub read-observation-spec : {M : Type 1} → statement M
@@ -202,6 +239,8 @@ read-observation-spec =
     part-lay-sets-end
     lay-sets-requires
     not-formed-requires-3
+    same-length
+    same-length-2
     returns-3
     add-at-2
     sub-lay-set
@@ -209,4 +248,6 @@ read-observation-spec =
     part-lay-set-end
     lay-set-requires
     add-t16
+    same-length-3
+    same-length-4
     returns-4)
