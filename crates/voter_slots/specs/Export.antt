@@ -27,8 +27,8 @@ abbrev pub refusedResult : ℕ → VoterSlotsResult
 refusedResult n = record { answer = n; slots = 0; count = 0; revision = 0; epoch = 0; «open_slot» = 0; «open_phase» = noPhase }
 
 -- accepted: what a service asks of the table, and how many bytes it takes
-abbrev pub resultOf : VoterSlotTable → ℕ → VoterSlotsResult
-resultOf t n =
+abbrev pub numbersOf : VoterSlotTable → ℕ → VoterSlotsResult
+numbersOf t n =
     record {
       answer = 0;
       slots = t .count;
@@ -47,7 +47,7 @@ ReadAs bs t = _≡_ {A = ℕ × VoterSlotTable} (decoded blankVoterSlotTable (de
 
 -- by what the table's reader gives
 unfoldable pub readBy : ℕ → Res VoterSlotTable → VoterSlotsResult
-readBy len (ok t n) = resultOf t len
+readBy len (ok t n) = numbersOf t len
 readBy len (no k) = refusedResult k
 
 -- `voter_slots_read`
@@ -62,7 +62,7 @@ leaves k out = (refusedResult k, out)
 
 -- by what the writer gives
 unfoldable pub writtenBy : VoterSlotTable → List ℕ → Res (List ℕ) → VoterSlotsResult × List ℕ
-writtenBy t out (ok after n) = (resultOf t n, after)
+writtenBy t out (ok after n) = (numbersOf t n, after)
 writtenBy t out (no k) = leaves k out
 
 -- a table, as `encode_voter_slot_table` writes it

@@ -32,7 +32,7 @@ use Rattle.control.specs.RetiredLaws.{test-says}
 use Rattle.control.specs.declared.retired.Retirement.the-variants.{NotRetired, Retired}
 use Rattle.journal.specs.RefusalLaws.{table-refused}
 use Rattle.voter_slots.specs.declared.result.VoterSlotsResult.{VoterSlotsResult}
-use Rattle.voter_slots.specs.Export.{ReadAs, leaves, readBy, readOf, refusedResult, resultOf, retiredBy, retiredOf, withTable, writeOf, writtenBy, written}
+use Rattle.voter_slots.specs.Export.{ReadAs, leaves, readBy, readOf, refusedResult, numbersOf, retiredBy, retiredOf, withTable, writeOf, writtenBy, written}
 
 -- ---- what was read
 
@@ -69,7 +69,7 @@ module _ (bs : List ℕ) (t : VoterSlotTable) (z : Bytes bs) (e : ReadAs bs t) w
 
 -- ---- reading
 
-pub read-ok : (bs : List ℕ) (t : VoterSlotTable) → ReadAs bs t → resultOf t (length bs) ≡ readOf bs
+pub read-ok : (bs : List ℕ) (t : VoterSlotTable) → ReadAs bs t → numbersOf t (length bs) ≡ readOf bs
 unfolding readBy
 read-ok bs t e = ap (readBy (length bs)) (sym (read-as bs t e .1))
 
@@ -84,7 +84,7 @@ unfolding writtenBy
 written-short t out v l = ap (writtenBy t out) (sym (encode-short t out v l))
 
 pub written-ok : (t : VoterSlotTable) (out : List ℕ) {after : List ℕ} {n : ℕ} {r : VoterSlotsResult} → validate t ≡ Accepted → length (table .enc t) ≤ length out
-    → Put (table .enc t) 0 out after n → r ≡ resultOf t n → _≡_ {A = VoterSlotsResult × List ℕ} (r, after) (written t out)
+    → Put (table .enc t) 0 out after n → r ≡ numbersOf t n → _≡_ {A = VoterSlotsResult × List ℕ} (r, after) (written t out)
 unfolding tableBytes writtenBy
 written-ok t out {after} {n} v l p e =
     let q : encodeVoterSlotTable t out ≡ ok after n =
@@ -95,7 +95,7 @@ module _ (bs : List ℕ) (t : VoterSlotTable) (out : List ℕ) (z : Bytes bs) (e
   pub again-short : length out < length bs → leaves 32 out ≡ written t out
   again-short l = written-short t out (read-accepted bs t z e) (omega (arith, ap length (read-written bs z (read-as bs t e .1))))
 
-  pub again-ok : {after : List ℕ} {n : ℕ} {r : VoterSlotsResult} → length bs ≤ length out → Put bs 0 out after n → r ≡ resultOf t n
+  pub again-ok : {after : List ℕ} {n : ℕ} {r : VoterSlotsResult} → length bs ≤ length out → Put bs 0 out after n → r ≡ numbersOf t n
       → _≡_ {A = VoterSlotsResult × List ℕ} (r, after) (written t out)
   unfolding writtenBy
   again-ok {after} {n} l p f =

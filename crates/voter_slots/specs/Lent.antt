@@ -23,7 +23,7 @@ use Rattle.journal.specs.Replay.Asked.{command, observation}
 use Rattle.journal.specs.Replay.Asking.{bad, refused, asks}
 use Rattle.voter_slots.specs.declared.result.VoterSlotsResult.{VoterSlotsResult}
 use Rattle.voter_slots.specs.Calls.{commandOf, observationOf}
-use Rattle.voter_slots.specs.Export.{refusedResult, resultOf, written}
+use Rattle.voter_slots.specs.Export.{refusedResult, numbersOf, written}
 
 -- refused: the table stays as it was lent
 abbrev pub stays : ℕ → VoterSlotTable → VoterSlotsResult × VoterSlotTable
@@ -33,7 +33,7 @@ stays k t = (refusedResult k, t)
 
 -- by what the table's reader gives
 unfoldable pub readOver : VoterSlotTable → ℕ → Res VoterSlotTable → VoterSlotsResult × VoterSlotTable
-readOver t len (ok read n) = (resultOf read len, read)
+readOver t len (ok read n) = (numbersOf read len, read)
 readOver t len (no k) = stays k t
 
 -- `voter_slots_table_read`: the table that was read stands in the place of the one lent
@@ -50,7 +50,7 @@ tableWriteOf t out = written t out
 
 -- what a call gives, with its table; `count` is 0: no byte of a table is read or written
 abbrev pub told : Answer × VoterSlotTable → VoterSlotsResult × VoterSlotTable
-told r = (cond (isAccepted (r .0)) (resultOf (r .1) 0) (refusedResult (numberOf (r .0))), r .1)
+told r = (cond (isAccepted (r .0)) (numbersOf (r .1) 0) (refusedResult (numberOf (r .0))), r .1)
 
 -- 33; the attestation reader's number; the call
 unfoldable pub askedAt : Asking → VoterSlotTable → VoterSlotsResult × VoterSlotTable

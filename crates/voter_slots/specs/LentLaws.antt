@@ -49,7 +49,7 @@ use Rattle.journal.specs.StepLaws.{fits-advance, fits-begin, fits-marker, no-ob
 use Rattle.voter_slots.specs.declared.result.VoterSlotsResult.{VoterSlotsResult}
 use Rattle.voter_slots.specs.Calls.{mostBody}
 use Rattle.voter_slots.specs.CallLaws.{asks-nothing, never-zero, observation-long, same-table}
-use Rattle.voter_slots.specs.Export.{ReadAs, leaves, refusedResult, resultOf, writtenBy}
+use Rattle.voter_slots.specs.Export.{ReadAs, leaves, refusedResult, numbersOf, writtenBy}
 use Rattle.voter_slots.specs.ExportLaws.{read-as}
 use Rattle.voter_slots.specs.Lent.{askedAt, readOver, refusalAt, stays, tableObserveOf, tableReadOf, tableWriteOf, told}
 
@@ -59,7 +59,7 @@ Outcome = VoterSlotsResult × VoterSlotTable
 
 -- ---- reading and writing
 
-pub over-ok : (t : VoterSlotTable) (bs : List ℕ) (read : VoterSlotTable) → ReadAs bs read → _≡_ {A = Outcome} (resultOf read (length bs), read) (tableReadOf t bs)
+pub over-ok : (t : VoterSlotTable) (bs : List ℕ) (read : VoterSlotTable) → ReadAs bs read → _≡_ {A = Outcome} (numbersOf read (length bs), read) (tableReadOf t bs)
 unfolding readOver
 over-ok t bs read e = ap (readOver t (length bs)) (sym (read-as bs read e .1))
 
@@ -73,17 +73,17 @@ unwritten t out h = ap (writtenBy t out) (sym (encode-refused t out h))
 
 -- ---- what a caller is told
 
-pub tells : (a : Answer) (u : VoterSlotTable) → isAccepted a ≡ true → _≡_ {A = Outcome} (resultOf u 0, u) (told (a, u))
-tells a u h = ap (λ (r : VoterSlotsResult). (r, u)) (sym (cond-true (isAccepted a) (resultOf u 0) (refusedResult (numberOf a)) h))
+pub tells : (a : Answer) (u : VoterSlotTable) → isAccepted a ≡ true → _≡_ {A = Outcome} (numbersOf u 0, u) (told (a, u))
+tells a u h = ap (λ (r : VoterSlotsResult). (r, u)) (sym (cond-true (isAccepted a) (numbersOf u 0) (refusedResult (numberOf a)) h))
 
 pub tells-not : (a : Answer) (u : VoterSlotTable) → isAccepted a ≡ false → stays (numberOf a) u ≡ told (a, u)
-tells-not a u h = ap (λ (r : VoterSlotsResult). (r, u)) (sym (cond-false (isAccepted a) (resultOf u 0) (refusedResult (numberOf a)) h))
+tells-not a u h = ap (λ (r : VoterSlotsResult). (r, u)) (sym (cond-false (isAccepted a) (numbersOf u 0) (refusedResult (numberOf a)) h))
 
 -- a refusal by its number
 told-no : (a : Answer) (t u : VoterSlotTable) (k : ℕ) → k ≡ numberOf a → (k ≡ 0 → ⊥) → t ≡ u → told (a, u) ≡ stays k t
 told-no a t u k e h s =
-    ap (λ (n : ℕ). (cond (eqb n 0) (resultOf u 0) (refusedResult n), u)) (sym e)
-    ∙ (ap (λ (r : VoterSlotsResult). (r, u)) (cond-false (eqb k 0) (resultOf u 0) (refusedResult k) (ne-eqb k 0 h)) ∙ ap (stays k) (sym s))
+    ap (λ (n : ℕ). (cond (eqb n 0) (numbersOf u 0) (refusedResult n), u)) (sym e)
+    ∙ (ap (λ (r : VoterSlotsResult). (r, u)) (cond-false (eqb k 0) (numbersOf u 0) (refusedResult k) (ne-eqb k 0 h)) ∙ ap (stays k) (sym s))
 
 -- ---- a valid table
 

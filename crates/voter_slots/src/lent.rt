@@ -67,7 +67,7 @@ pub fn read_over(table: VoterSlotTable, bytes: &[u8]) -> Afterwards
     let count = bytes.len();
     let read = decoded.table;
     Afterwards {
-        result: result_of(read, count),
+        result: numbers_of(read, count),
         table: read,
     }
 }
@@ -103,7 +103,7 @@ fn carry_out_at(table: VoterSlotTable, body: &[u8], called: Called) -> Afterward
     if is_change(called) {
         let next = make_record(table, body, called);
         return Afterwards {
-            result: result_of(next, 0),
+            result: numbers_of(next, 0),
             table: next,
         };
     }
@@ -112,7 +112,7 @@ fn carry_out_at(table: VoterSlotTable, body: &[u8], called: Called) -> Afterward
         return stay(table, answer);
     }
     Afterwards {
-        result: result_of(table, 0),
+        result: numbers_of(table, 0),
         table,
     }
 }
@@ -128,7 +128,7 @@ fn tell(controlled: Controlled) -> Afterwards
         return stay(table, answer);
     }
     Afterwards {
-        result: result_of(table, 0),
+        result: numbers_of(table, 0),
         table,
     }
 }

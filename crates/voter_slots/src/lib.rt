@@ -37,7 +37,7 @@ pub extern "C" fn voter_slots_read(table: &[u8]) -> VoterSlotsResult
     }
     let count = table.len();
     let table = decoded.table;
-    result_of(table, count)
+    numbers_of(table, count)
 }
 
 // Reads a table and writes it again: the bytes of a table that was read are those that were read.

@@ -6,7 +6,7 @@ ghost use Rattle.identity.specs.declared.answer.Answer.the-variants.{Accepted};
 ghost use Rattle.records.specs.Blank.{blankVoterSlotTable};
 ghost use Rattle.records.specs.Validation.{validate};
 ghost use Rattle.codec.specs.Codec.{decoded, decodeVoterSlotTable};
-ghost use Rattle.voter_slots.specs.Export.{refusedResult, resultOf, written};
+ghost use Rattle.voter_slots.specs.Export.{refusedResult, numbersOf, written};
 use identity::answer::Answer;
 use identity::answer::number;
 use layout::put::put_bytes;
@@ -46,9 +46,10 @@ pub fn refused(answer: Answer) -> VoterSlotsResult
     }
 }
 
-pub fn result_of(table: VoterSlotTable, count: usize) -> VoterSlotsResult
+// What a service asks of a table, and how many bytes it takes.
+pub fn numbers_of(table: VoterSlotTable, count: usize) -> VoterSlotsResult
     requires { ⌜ table .count ≤ 9 ⌝ }
-    ensures { λ r. ⌜ r ≡ resultOf table count ⌝ }
+    ensures { λ r. ⌜ r ≡ numbersOf table count ⌝ }
 {
     let mut open_slot: u32 = 0;
     let mut open_phase = NO_PHASE;
@@ -76,7 +77,7 @@ pub fn write_table(table: VoterSlotTable, out: &mut [u8]) -> VoterSlotsResult
         return refused(Answer::BufferTooShort);
     }
     let count = put_table(out, 0, table);
-    result_of(table, count)
+    numbers_of(table, count)
 }
 
 // Writes the table that these bytes were read as: they are its bytes.
@@ -88,5 +89,5 @@ pub fn write_again(bytes: &[u8], table: VoterSlotTable, out: &mut [u8]) -> Voter
         return refused(Answer::BufferTooShort);
     }
     let count = put_bytes(out, 0, bytes);
-    result_of(table, count)
+    numbers_of(table, count)
 }

@@ -22,11 +22,11 @@ returns c =
     c .refused .ensures
     ∙ read-no (c .before .before .before .before .before .args .table .now) (is-refused (c .before .before .before .before .before .args .table .now) (c .before .before .before .decode-voter-slot-table .result .answer) (c .before .before .before .decode-voter-slot-table .result .table) (c .before .before .before .decode-voter-slot-table .ensures) (failed (c .before .before .accepted .ensures) (c .before .if1 .taken)))
 
-result-of-requires : tie.Need-result-of-requires
-result-of-requires c κs = read-fits _ _ (bytes (c .before .before .before .before)) (read (c .before)) .count
+numbers-of-requires : tie.Need-numbers-of-requires
+numbers-of-requires c κs = read-fits _ _ (bytes (c .before .before .before .before)) (read (c .before)) .count
 
 returns-2 : tie.Need-returns-2
-returns-2 c = c .result-of .ensures ∙ read-ok _ _ (read (c .before .before))
+returns-2 c = c .numbers-of .ensures ∙ read-ok _ _ (read (c .before .before))
 
 decode-voter-slot-table-requires : tie.Need-decode-voter-slot-table-requires
 decode-voter-slot-table-requires c κs = search needs
@@ -45,5 +45,5 @@ voter-slots-read-spec =
     accepted-requires
     refused-requires
     returns
-    result-of-requires
+    numbers-of-requires
     returns-2)

@@ -28,13 +28,13 @@ returns c =
     c .stay .ensures
     ∙ over-no (s .table) (s .bytes .now) (is-refused (s .bytes .now) (d .result .answer) (d .result .table) (d .ensures) (failed (c .before .before .accepted .ensures) (c .before .if1 .taken)))
 
-result-of-requires : tie.Need-result-of-requires
-result-of-requires c κs = read-fits _ _ (bytes (c .before .before .before .before)) (read (c .before)) .count
+numbers-of-requires : tie.Need-numbers-of-requires
+numbers-of-requires c κs = read-fits _ _ (bytes (c .before .before .before .before)) (read (c .before)) .count
 
 returns-2 : tie.Need-returns-2
 returns-2 c =
     let t = c .before .before .before .before .decode-voter-slot-table .result .table in
-    ap (λ (r : VoterSlotsResult). (r, t)) (c .result-of .ensures) ∙ over-ok (c .before .before .before .before .before .before .args .table) _ t (read (c .before .before))
+    ap (λ (r : VoterSlotsResult). (r, t)) (c .numbers-of .ensures) ∙ over-ok (c .before .before .before .before .before .before .args .table) _ t (read (c .before .before))
 
 decode-voter-slot-table-requires : tie.Need-decode-voter-slot-table-requires
 decode-voter-slot-table-requires c κs = search needs
@@ -53,5 +53,5 @@ read-over-spec =
     accepted-requires
     stay-requires
     returns
-    result-of-requires
+    numbers-of-requires
     returns-2)

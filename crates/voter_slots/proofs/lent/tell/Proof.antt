@@ -12,13 +12,13 @@ returns c =
     let s = c .before .before .before .before .args .controlled in
     c .stay .ensures ∙ tells-not (s .answer) (s .table) (failed (c .before .before .accepted .ensures) (c .before .if1 .taken))
 
-result-of-requires : tie.Need-result-of-requires
-result-of-requires c κs = c .before .before .before .pre (held (c .before .accepted .ensures) (c .if1 .left))
+numbers-of-requires : tie.Need-numbers-of-requires
+numbers-of-requires c κs = c .before .before .before .pre (held (c .before .accepted .ensures) (c .if1 .left))
 
 returns-2 : tie.Need-returns-2
 returns-2 c =
     let s = c .before .before .before .before .args .controlled in
-    ap (λ (r : VoterSlotsResult). (r, s .table)) (c .result-of .ensures) ∙ tells (s .answer) (s .table) (held (c .before .before .accepted .ensures) (c .before .if1 .left))
+    ap (λ (r : VoterSlotsResult). (r, s .table)) (c .numbers-of .ensures) ∙ tells (s .answer) (s .table) (held (c .before .before .accepted .ensures) (c .before .if1 .left))
 
 accepted-requires : tie.Need-accepted-requires
 accepted-requires c κs = search needs
@@ -33,5 +33,5 @@ tell-spec =
     accepted-requires
     stay-requires
     returns
-    result-of-requires
+    numbers-of-requires
     returns-2)

@@ -18,13 +18,13 @@ returns c =
     ap (λ (r : VoterSlotsResult). (r, s .args .out .now)) (c .refused .ensures)
     ∙ again-short (s .args .bytes .now) (s .args .table) (s .args .out .now) (bytes (c .before .before .before)) (s .pre) (omega arith)
 
-result-of-requires : tie.Need-result-of-requires
-result-of-requires c κs = let s = c .before .before .before .before .before .before .before in read-fits (s .args .bytes .now) (s .args .table) (bytes (c .before .before .before .before .before .before)) (s .pre) .count
+numbers-of-requires : tie.Need-numbers-of-requires
+numbers-of-requires c κs = let s = c .before .before .before .before .before .before .before in read-fits (s .args .bytes .now) (s .args .table) (bytes (c .before .before .before .before .before .before)) (s .pre) .count
 
 returns-2 : tie.Need-returns-2
 returns-2 c =
     let s = c .before .before .before .before .before .before .before .before in
-    again-ok (s .args .bytes .now) (s .args .table) (s .args .out .now) (bytes (c .before .before .before .before .before .before .before)) (s .pre) (omega arith) (c .before .before .before .put-bytes .ensures) (c .result-of .ensures)
+    again-ok (s .args .bytes .now) (s .args .table) (s .args .out .now) (bytes (c .before .before .before .before .before .before .before)) (s .pre) (omega arith) (c .before .before .before .put-bytes .ensures) (c .numbers-of .ensures)
 
 refused-requires : tie.Need-refused-requires
 refused-requires c κs = search needs
@@ -38,4 +38,4 @@ same-length c = search needs
 pub write-again-spec : {M : Type 1} → statement M
 write-again-spec =
     tie.close
-    (tie.spec refused-requires returns put-bytes-requires result-of-requires same-length returns-2)
+    (tie.spec refused-requires returns put-bytes-requires numbers-of-requires same-length returns-2)

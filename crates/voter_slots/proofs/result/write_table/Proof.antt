@@ -30,13 +30,13 @@ returns c =
 put-table-requires : tie.Need-put-table-requires
 put-table-requires c κs = (omega (arith, c .before .before .table-size .ensures), fits (c .before .before .before .before))
 
-result-of-requires : tie.Need-result-of-requires
-result-of-requires c κs = fits (c .before .before .before .before .before .before .before) .count
+numbers-of-requires : tie.Need-numbers-of-requires
+numbers-of-requires c κs = fits (c .before .before .before .before .before .before .before) .count
 
 returns-2 : tie.Need-returns-2
 returns-2 c =
     let s = c .before .before .before .before .before .before .before .before in
-    written-ok (s .args .table) (s .args .out .now) (s .pre) (omega (arith, c .before .before .before .before .before .before .table-size .ensures)) (c .before .before .before .put-table .ensures) (c .result-of .ensures)
+    written-ok (s .args .table) (s .args .out .now) (s .pre) (omega (arith, c .before .before .before .before .before .before .table-size .ensures)) (c .before .before .before .put-table .ensures) (c .numbers-of .ensures)
 
 refused-requires : tie.Need-refused-requires
 refused-requires c κs = search needs
@@ -52,6 +52,6 @@ write-table-spec =
     refused-requires
     returns
     put-table-requires
-    result-of-requires
+    numbers-of-requires
     same-length
     returns-2)

@@ -1,4 +1,4 @@
--- `voter_slots::result::result_of` meets its contract. Assumes nothing.
+-- `voter_slots::result::numbers_of` meets its contract. Assumes nothing.
 use mathlib.Core.Path.{_≡_, sym, _∙_}
 use mathlib.Core.Bool.{cond}
 use mathlib.Core.Logic.{⊎-elim}
@@ -6,8 +6,8 @@ use Rattle.records.specs.TestLaws.{cond-true, cond-false}
 use Rattle.records.specs.declared.records.VoterSlotTable.{VoterSlotTable}
 use Rattle.voter_slots.specs.Export.{noPhase}
 use borrow.Author.Needs.{needs}
-use Rattle.voter_slots.proofs.result.result_of.Statement.{statement}
-use Rattle.voter_slots.proofs.result.result_of.Tie as tie
+use Rattle.voter_slots.proofs.result.numbers_of.Statement.{statement}
+use Rattle.voter_slots.proofs.result.numbers_of.Tie as tie
 
 abbrev t : tie.Joined1 → VoterSlotTable
 t c = c .before .args .table
@@ -47,5 +47,5 @@ returns c =
       «open_phase» = phase-is (c .before) i;
     }
 
-pub result-of-spec : {M : Type 1} → statement M
-result-of-spec = tie.close (tie.spec cast-open-slot cast-open-phase cast-t6 returns)
+pub numbers-of-spec : {M : Type 1} → statement M
+numbers-of-spec = tie.close (tie.spec cast-open-slot cast-open-phase cast-t6 returns)
