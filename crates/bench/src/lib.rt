@@ -1,5 +1,8 @@
 // What the benchmark times: calls of the layers below, exported to Rust with nothing around them.
 // `bench_reading` has reading.
+
+#![tactic(auto)]
+
 ghost use Rattle.std.specs.Prelude.{◌≡◌};
 ghost use Rattle.identity.specs.Text.{is_utf8, is_name, is_snapshot_id};
 

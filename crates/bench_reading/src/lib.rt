@@ -1,4 +1,7 @@
 // What the benchmark times of reading a table, exported to Rust with nothing around it.
+
+#![tactic(auto)]
+
 use codec::codec::{DecodedTable, decode_voter_slot_table};
 use identity::answer::{Answer, accepted, number};
 use records::blank::blank_voter_slot_table;

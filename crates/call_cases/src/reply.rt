@@ -66,7 +66,7 @@ fn called(body: &[u8], is_observation: bool) -> Reply {
 }
 
 // The records that call something.
-#[derive(Drop)]
+#[derive(Clone, Copy)]
 enum Record {
     Begin,
     Advance,

@@ -3,6 +3,9 @@
 // questions by the original. `call_cases` has the questions about commands, observations and the
 // retired test: a check loads the proofs of all that is called, and those of one program for all
 // are too many.
+
+#![tactic(auto)]
+
 mod bytes;
 mod reply;
 

@@ -26,14 +26,14 @@ use writer::encode::{put_table, table_size};
 pub const MAX_VOTER_SLOT_TABLE_BYTES: usize = 65536;
 
 // An answer, and the table that was read: the blank one with a refusal.
-#[derive(Drop)]
+#[derive(Clone, Copy)]
 pub struct DecodedTable {
     pub answer: Answer,
     pub table: VoterSlotTable,
 }
 
 // An answer, and the attestation that was read: the blank one with a refusal.
-#[derive(Drop)]
+#[derive(Clone, Copy)]
 pub struct DecodedAttestation {
     pub answer: Answer,
     pub attestation: LostVoterAttestationV1,

@@ -26,7 +26,7 @@ use records::representable::is_representable;
 use records::validation::validate_representable;
 
 // An answer, and the table: the next one, or the one that was given.
-#[derive(Drop)]
+#[derive(Clone, Copy)]
 pub struct Controlled {
     pub answer: Answer,
     pub table: VoterSlotTable,

@@ -29,7 +29,7 @@ use records::evidence::{latest_cut, log_id_follows};
 use records::records::*;
 
 // A Begin with the cut at which it is committed: what its judge, its maker and its thin call take.
-#[derive(Drop)]
+#[derive(Clone, Copy)]
 pub struct VoterBegin {
     // The request.
     pub request: VoterReplacementRequest,

@@ -32,7 +32,7 @@ pub const FENCE: u8 = 3;
 pub const FINALIZE: u8 = 4;
 
 // A request, and the two values that the caller supplies.
-#[derive(Drop)]
+#[derive(Clone, Copy)]
 pub struct VoterReplacementRequest {
     // Exact compare-and-set table revision.
     pub expected_revision: u64,
@@ -49,7 +49,7 @@ pub struct VoterReplacementRequest {
 }
 
 // A step of an Advance: the snapshot of RecordSnapshot, the mark of RecordCaughtUp.
-#[derive(Drop)]
+#[derive(Clone, Copy)]
 pub struct VoterReplacementStep {
     // `RECORD_SNAPSHOT` to `FINALIZE`.
     pub kind: u8,
@@ -61,7 +61,7 @@ pub struct VoterReplacementStep {
 
 // A command: the request of a Begin; the request's id and digest of an Advance or a Marker; the
 // step of an Advance.
-#[derive(Drop)]
+#[derive(Clone, Copy)]
 pub struct VoterSlotControl {
     // `BEGIN`, `ADVANCE` or `MARKER`.
     pub kind: u8,
@@ -77,7 +77,7 @@ pub struct VoterSlotControl {
 
 // An Advance with the cut at which it is committed: what its judge, its makers and its thin call
 // take.
-#[derive(Drop)]
+#[derive(Clone, Copy)]
 pub struct VoterAdvance {
     // Original caller-stable request identity.
     pub request_id: ConsensusRequestId,
@@ -90,7 +90,7 @@ pub struct VoterAdvance {
 }
 
 // A command with the cut at which it is committed: what its judge, its makers and its calls take.
-#[derive(Drop)]
+#[derive(Clone, Copy)]
 pub struct VoterCommand {
     // The command.
     pub control: VoterSlotControl,

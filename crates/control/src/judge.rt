@@ -25,7 +25,7 @@ use records::evidence::{is_in_order, is_valid_snapshot_id, log_id_follows};
 use records::records::*;
 
 // Refused; accepted and unchanged; or the change that is to be made.
-#[derive(Drop)]
+#[derive(Clone, Copy)]
 pub enum Judged {
     Refuse(Answer),
     Keep,

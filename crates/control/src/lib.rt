@@ -1,4 +1,7 @@
 // Layer four: commands, observations and the retired test, on values and on a table that is lent.
+
+#![tactic(auto)]
+
 pub mod apply;
 pub mod begin;
 pub mod command;

@@ -30,7 +30,7 @@ use records::representable::is_representable;
 use records::validation::{target_phase, validate_representable};
 
 // What sets and nodes are to the open request.
-#[derive(Drop)]
+#[derive(Clone, Copy)]
 pub enum Seen {
     // Not what this phase allows.
     Strange,
@@ -45,7 +45,7 @@ pub enum Seen {
 }
 
 // Refused; accepted and unchanged; or the change that is to be made.
-#[derive(Drop)]
+#[derive(Clone, Copy)]
 pub enum Observed {
     Refuse(Answer),
     Keep,
@@ -55,7 +55,7 @@ pub enum Observed {
 }
 
 // The tests of the sets and the nodes.
-#[derive(Drop)]
+#[derive(Clone, Copy)]
 pub struct SetTests {
     // The successor has no id that the predecessor lacks.
     pub no_candidate: bool,

@@ -91,7 +91,7 @@ fn are_valid_claims(request: VoterReplacementRequest) -> bool
 }
 
 // What the slots' receipts say of a request.
-#[derive(Drop)]
+#[derive(Clone, Copy)]
 pub struct Receipt {
     // A slot has a receipt of that request.
     pub found: bool,
@@ -160,7 +160,7 @@ pub fn slot_check(table: VoterSlotTable, request: VoterReplacementRequest) -> An
 }
 
 // The first slot of a number.
-#[derive(Drop)]
+#[derive(Clone, Copy)]
 pub struct Named {
     // There is such a slot.
     pub found: bool,

@@ -9,7 +9,7 @@ ghost use Rattle.std.specs.Prelude.{◌≡◌};
 ghost use Rattle.identity.specs.Answer.{number_of, is_accepted};
 
 // What a call answers: success, or the reason of its refusal.
-#[derive(Drop)]
+#[derive(Clone, Copy)]
 pub enum Answer {
     // No refusal.
     Accepted,

@@ -42,7 +42,7 @@ pub const MAX_VOTER_INCARNATION: VoterIncarnation = 140737488355328;
 const NODE_ID_SPAN: ConsensusNodeId = 65536;
 
 // The scope of a configuration: its cluster, its digest and its epoch.
-#[derive(Drop)]
+#[derive(Clone, Copy)]
 pub struct ConsensusIdentity {
     // Cluster identity digest.
     pub cluster_id: ConsensusClusterId,
@@ -54,7 +54,7 @@ pub struct ConsensusIdentity {
 
 // Incarnation-qualified identity, scoped by the enclosing installation id.
 #[repr(C)]
-#[derive(Drop)]
+#[derive(Clone, Copy)]
 pub struct VoterSlotIdentity {
     // Stable ordinal assigned by the immutable installation manifest, 1 to 65,535.
     pub slot: SlotId,
@@ -63,14 +63,14 @@ pub struct VoterSlotIdentity {
 }
 
 // A number (a node id, an incarnation), or why there is none.
-#[derive(Drop)]
+#[derive(Clone, Copy)]
 pub enum NumberResult {
     Ok(u64),
     Err(Answer),
 }
 
 // An identity, or why there is none.
-#[derive(Drop)]
+#[derive(Clone, Copy)]
 pub enum VoterSlotIdentityResult {
     Ok(VoterSlotIdentity),
     Err(Answer),

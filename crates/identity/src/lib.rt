@@ -1,4 +1,7 @@
 // Layer one: text and identifiers. No other crate of the repository lies below it.
+
+#![tactic(auto)]
+
 pub mod answer;
 pub mod identity;
 pub mod text;

@@ -30,7 +30,7 @@ const WHITE_SPACE: [u32; 25] = [
 ];
 
 // Which characters a text may hold.
-#[derive(Drop)]
+#[derive(Clone, Copy)]
 pub enum Allowed {
     Any,
     NoControl,
@@ -38,7 +38,7 @@ pub enum Allowed {
 }
 
 // The part of a strict name that is being read.
-#[derive(Drop)]
+#[derive(Clone, Copy)]
 struct Part {
     // Whether all was right so far.
     good: bool,

@@ -4,7 +4,7 @@ ghost use Rattle.std.specs.Prelude.{◌<◌, ◌≡◌, [], ◌∷◌, get_or};
 ghost use Rattle.identity.specs.Utf8.{octets, within, utf8_tail, led_by, decoded_char};
 
 // What stands at the front of some bytes.
-#[derive(Drop)]
+#[derive(Clone, Copy)]
 pub enum Decoded {
     // A character: its code point, and how many bytes it takes.
     Char { code: u32, width: usize },

@@ -36,7 +36,7 @@ use records::records::*;
 // ---- MK
 
 // A cut, and the request that is named at it.
-#[derive(Drop)]
+#[derive(Clone, Copy)]
 pub struct MarkerBody {
     // Engine cut of the command.
     pub cut: VoterSlotLogId,
@@ -46,7 +46,7 @@ pub struct MarkerBody {
     pub request_digest: [u8; 32],
 }
 
-#[derive(Drop)]
+#[derive(Clone, Copy)]
 pub struct MarkerBodyRead {
     pub answer: Extent,
     pub value: MarkerBody,
@@ -106,7 +106,7 @@ fn blank_marker_body() -> MarkerBody
 }
 
 // Whether the body is of the form, to its last byte, and what it holds then.
-#[derive(Drop)]
+#[derive(Clone, Copy)]
 pub struct MarkerRead {
     pub formed: bool,
     pub value: MarkerBody,
@@ -196,7 +196,7 @@ fn read_snapshot_part(bytes: &[u8]) -> SnapshotRead
     }
 }
 
-#[derive(Drop)]
+#[derive(Clone, Copy)]
 pub struct StepRead {
     pub answer: Extent,
     pub value: VoterReplacementStep,
@@ -284,7 +284,7 @@ fn refused_step(answer: Answer) -> StepRead
     }
 }
 
-#[derive(Drop)]
+#[derive(Clone, Copy)]
 pub struct AdvanceRead {
     pub formed: bool,
     pub value: VoterAdvance,
@@ -370,7 +370,7 @@ fn read_candidate(bytes: &[u8]) -> MemberRead
     }
 }
 
-#[derive(Drop)]
+#[derive(Clone, Copy)]
 pub struct ExpectedRead {
     pub answer: Extent,
     pub value: ConsensusIdentity,
@@ -427,7 +427,7 @@ fn blank_expected() -> ConsensusIdentity
 }
 
 // What stands before the attestation.
-#[derive(Drop)]
+#[derive(Clone, Copy)]
 pub struct BeginHead {
     // Engine cut of the command.
     pub cut: VoterSlotLogId,
@@ -439,7 +439,7 @@ pub struct BeginHead {
     pub candidate: VoterSlotMember,
 }
 
-#[derive(Drop)]
+#[derive(Clone, Copy)]
 pub struct BeginHeadRead {
     pub answer: Extent,
     pub value: BeginHead,
@@ -506,7 +506,7 @@ fn blank_begin_head() -> BeginHead
 }
 
 // What a BG asks.
-#[derive(Drop)]
+#[derive(Clone, Copy)]
 pub enum Asks {
     // Its body is not of the form.
     Bad,
@@ -516,7 +516,7 @@ pub enum Asks {
     Begin,
 }
 
-#[derive(Drop)]
+#[derive(Clone, Copy)]
 pub struct BeginRead {
     pub asks: Asks,
     pub value: VoterBegin,

@@ -17,7 +17,7 @@ use records::records::VoterSlotLogId;
 
 // What a body holds. The ids of the sets stand at the front of the lent ids, the nodes after them,
 // and the counts of the sets at the front of the lent counts.
-#[derive(Drop)]
+#[derive(Clone, Copy)]
 pub struct ObservationRead {
     // The body is of the form.
     pub formed: bool,
@@ -86,7 +86,7 @@ fn not_formed() -> ObservationRead
 }
 
 // What was laid of one set or of several.
-#[derive(Drop)]
+#[derive(Clone, Copy)]
 pub struct Laid {
     // All was of the form.
     pub formed: bool,

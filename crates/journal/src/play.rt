@@ -27,7 +27,7 @@ use records::records::VoterSlotTable;
 use records::validation::validate_table;
 
 // Where a log stands.
-#[derive(Drop)]
+#[derive(Clone, Copy)]
 pub struct Journal {
     // There is a table.
     pub stands: bool,
@@ -40,7 +40,7 @@ pub struct Journal {
 }
 
 // What was played. A start whose table is not valid is refused, and nothing is played.
-#[derive(Drop)]
+#[derive(Clone, Copy)]
 pub struct Played {
     // Accepted, or why the start is refused.
     pub answer: Answer,
@@ -53,7 +53,7 @@ pub struct Played {
 }
 
 // How far the records are played.
-#[derive(Drop)]
+#[derive(Clone, Copy)]
 struct Place {
     // How many bytes of the input were read.
     read: usize,
@@ -68,7 +68,7 @@ struct Place {
 }
 
 // A place, and the table, if one stands.
-#[derive(Drop)]
+#[derive(Clone, Copy)]
 struct Opened {
     // How far it was played.
     place: Place,

@@ -16,7 +16,7 @@ pub const MOST_BODY: usize = 65535;
 
 // What stands at a place of the bytes: a whole record, one that ends the reading, or none, which
 // takes no bytes.
-#[derive(Drop)]
+#[derive(Clone, Copy)]
 pub struct Record {
     // The mark that is printed.
     pub mark: Mark,

@@ -6,7 +6,7 @@ ghost use Rattle.journal.specs.Records.{is_known_mark, mark_of, mark_text};
 
 // The mark of a record, as its two bytes say; any other two are `Unknown`, and so is a mark that is
 // cut short.
-#[derive(Drop)]
+#[derive(Clone, Copy)]
 pub enum Mark {
     Tb,
     Mk,

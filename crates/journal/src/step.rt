@@ -35,7 +35,7 @@ pub const MAKER_JOINT: u64 = 8;
 pub const MAKER_UNIFORM: u64 = 9;
 
 // What a record comes to at a table that stands, before anything is made.
-#[derive(Drop)]
+#[derive(Clone, Copy)]
 pub enum Called {
     Command(Judged),
     Observation(Observed),

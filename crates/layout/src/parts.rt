@@ -15,7 +15,7 @@ use records::blank::*;
 use records::records::*;
 
 // What follows an identity in a member.
-#[derive(Drop)]
+#[derive(Clone, Copy)]
 pub struct Binding {
     pub key_digest: [u8; 32],
     pub descriptor_digest: [u8; 32],
@@ -23,7 +23,7 @@ pub struct Binding {
 }
 
 // The front of a receipt.
-#[derive(Drop)]
+#[derive(Clone, Copy)]
 pub struct ResultHead {
     pub request_id: ConsensusRequestId,
     pub request_digest: [u8; 32],
@@ -32,14 +32,14 @@ pub struct ResultHead {
 }
 
 // The front of a slot: the retired number stands between the member's identity and its binding.
-#[derive(Drop)]
+#[derive(Clone, Copy)]
 pub struct SlotMember {
     pub member: VoterSlotMember,
     pub retired_through: u64,
 }
 
 // Three of the six cuts that end an open request's evidence.
-#[derive(Drop)]
+#[derive(Clone, Copy)]
 pub struct ThreeCuts {
     pub first: OptionalLogId,
     pub second: OptionalLogId,
@@ -53,14 +53,14 @@ pub const MAX_LOST_VOTER_ATTESTATION_BYTES: usize = 8192;
 pub const VERSION: u64 = 1;
 
 // The four groups of an attestation: which request,
-#[derive(Drop)]
+#[derive(Clone, Copy)]
 pub struct ClaimsRequest {
     pub request_id: ConsensusRequestId,
     pub request_digest: [u8; 32],
 }
 
 // of which slot and for which candidate,
-#[derive(Drop)]
+#[derive(Clone, Copy)]
 pub struct ClaimsSlot {
     pub cluster_instance: ConsensusClusterId,
     pub identity: VoterSlotIdentity,
@@ -69,7 +69,7 @@ pub struct ClaimsSlot {
 }
 
 // who is admitted, and by whom,
-#[derive(Drop)]
+#[derive(Clone, Copy)]
 pub struct ClaimsNames {
     pub admission_generation: u64,
     pub candidate_spiffe_id: SpiffeId,
@@ -78,7 +78,7 @@ pub struct ClaimsNames {
 }
 
 // and why and when; last the signature.
-#[derive(Drop)]
+#[derive(Clone, Copy)]
 pub struct ClaimsEnd {
     pub reason: u8,
     pub policy_digest: [u8; 32],
@@ -87,7 +87,7 @@ pub struct ClaimsEnd {
 }
 
 // The times of an attestation, in milliseconds.
-#[derive(Drop)]
+#[derive(Clone, Copy)]
 pub struct Times {
     pub observation_start_ms: u64,
     pub decision_ms: u64,
@@ -96,7 +96,7 @@ pub struct Times {
 }
 
 // What an open request changes, and how far it is.
-#[derive(Drop)]
+#[derive(Clone, Copy)]
 pub struct Change {
     pub predecessor: VoterConfiguration,
     pub successor: VoterConfiguration,
@@ -104,7 +104,7 @@ pub struct Change {
 }
 
 // The front of a table, after the magic and the version.
-#[derive(Drop)]
+#[derive(Clone, Copy)]
 pub struct TableHead {
     pub cluster_instance: ConsensusClusterId,
     pub manifest_digest: [u8; 32],

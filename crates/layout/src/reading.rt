@@ -17,233 +17,233 @@ use records::blank::*;
 use records::records::*;
 
 // How far was read, or written; or why not.
-#[derive(Drop)]
+#[derive(Clone, Copy)]
 pub enum Extent {
     To(usize),
     Refused(Answer),
 }
 
 // A number, and the count of its bytes.
-#[derive(Drop)]
+#[derive(Clone, Copy)]
 pub enum U64Read {
     Read(u64, usize),
     Refused(Answer),
 }
 
-#[derive(Drop)]
+#[derive(Clone, Copy)]
 pub enum U16Read {
     Read(u16, usize),
     Refused(Answer),
 }
 
-#[derive(Drop)]
+#[derive(Clone, Copy)]
 pub enum U8Read {
     Read(u8, usize),
     Refused(Answer),
 }
 
-#[derive(Drop)]
+#[derive(Clone, Copy)]
 pub enum BoolRead {
     Read(bool, usize),
     Refused(Answer),
 }
 
 // How many bytes stand after their size, and the place where they begin.
-#[derive(Drop)]
+#[derive(Clone, Copy)]
 pub enum SizedRead {
     Read(usize, usize),
     Refused(Answer),
 }
 
-#[derive(Drop)]
+#[derive(Clone, Copy)]
 pub enum IdentityRead {
     Read(VoterSlotIdentity, usize),
     Refused(Answer),
 }
 
-#[derive(Drop)]
+#[derive(Clone, Copy)]
 pub enum LogIdRead {
     Read(VoterSlotLogId, usize),
     Refused(Answer),
 }
 
-#[derive(Drop)]
+#[derive(Clone, Copy)]
 pub enum OptionalLogIdRead {
     Read(OptionalLogId, usize),
     Refused(Answer),
 }
 
-#[derive(Drop)]
+#[derive(Clone, Copy)]
 pub enum ThreeCutsRead {
     Read(ThreeCuts, usize),
     Refused(Answer),
 }
 
-#[derive(Drop)]
+#[derive(Clone, Copy)]
 pub enum TimesRead {
     Read(Times, usize),
     Refused(Answer),
 }
 
-#[derive(Drop)]
+#[derive(Clone, Copy)]
 pub struct Array16Read {
     pub answer: Extent,
     pub value: [u8; 16],
 }
 
-#[derive(Drop)]
+#[derive(Clone, Copy)]
 pub struct Array32Read {
     pub answer: Extent,
     pub value: [u8; 32],
 }
 
-#[derive(Drop)]
+#[derive(Clone, Copy)]
 pub struct Array64Read {
     pub answer: Extent,
     pub value: [u8; 64],
 }
 
-#[derive(Drop)]
+#[derive(Clone, Copy)]
 pub struct SpiffeIdRead {
     pub answer: Extent,
     pub value: SpiffeId,
 }
 
-#[derive(Drop)]
+#[derive(Clone, Copy)]
 pub struct SnapshotIdRead {
     pub answer: Extent,
     pub value: SnapshotId,
 }
 
-#[derive(Drop)]
+#[derive(Clone, Copy)]
 pub struct BindingRead {
     pub answer: Extent,
     pub value: Binding,
 }
 
-#[derive(Drop)]
+#[derive(Clone, Copy)]
 pub struct MemberRead {
     pub answer: Extent,
     pub value: VoterSlotMember,
 }
 
-#[derive(Drop)]
+#[derive(Clone, Copy)]
 pub struct MembersRead {
     pub answer: Extent,
     pub value: [VoterSlotMember; MAX_FIXED_VOTER_SLOTS],
 }
 
-#[derive(Drop)]
+#[derive(Clone, Copy)]
 pub struct ConfigurationRead {
     pub answer: Extent,
     pub value: VoterConfiguration,
 }
 
-#[derive(Drop)]
+#[derive(Clone, Copy)]
 pub struct ResultHeadRead {
     pub answer: Extent,
     pub value: ResultHead,
 }
 
-#[derive(Drop)]
+#[derive(Clone, Copy)]
 pub struct ResultRead {
     pub answer: Extent,
     pub value: VoterReplacementResult,
 }
 
-#[derive(Drop)]
+#[derive(Clone, Copy)]
 pub struct OptionalResultRead {
     pub answer: Extent,
     pub is_some: bool,
     pub value: VoterReplacementResult,
 }
 
-#[derive(Drop)]
+#[derive(Clone, Copy)]
 pub struct SlotMemberRead {
     pub answer: Extent,
     pub value: SlotMember,
 }
 
-#[derive(Drop)]
+#[derive(Clone, Copy)]
 pub struct SlotRead {
     pub answer: Extent,
     pub value: VoterSlotRecord,
 }
 
-#[derive(Drop)]
+#[derive(Clone, Copy)]
 pub struct SlotsRead {
     pub answer: Extent,
     pub value: [VoterSlotRecord; MAX_FIXED_VOTER_SLOTS],
 }
 
-#[derive(Drop)]
+#[derive(Clone, Copy)]
 pub struct ClaimsRequestRead {
     pub answer: Extent,
     pub value: ClaimsRequest,
 }
 
-#[derive(Drop)]
+#[derive(Clone, Copy)]
 pub struct ClaimsSlotRead {
     pub answer: Extent,
     pub value: ClaimsSlot,
 }
 
-#[derive(Drop)]
+#[derive(Clone, Copy)]
 pub struct ClaimsNamesRead {
     pub answer: Extent,
     pub value: ClaimsNames,
 }
 
-#[derive(Drop)]
+#[derive(Clone, Copy)]
 pub struct ClaimsEndRead {
     pub answer: Extent,
     pub value: ClaimsEnd,
 }
 
-#[derive(Drop)]
+#[derive(Clone, Copy)]
 pub struct AttestationRead {
     pub answer: Extent,
     pub value: LostVoterAttestationV1,
 }
 
-#[derive(Drop)]
+#[derive(Clone, Copy)]
 pub struct SnapshotRead {
     pub answer: Extent,
     pub value: VoterSnapshotEvidence,
 }
 
-#[derive(Drop)]
+#[derive(Clone, Copy)]
 pub struct OptionalSnapshotRead {
     pub answer: Extent,
     pub is_some: bool,
     pub value: VoterSnapshotEvidence,
 }
 
-#[derive(Drop)]
+#[derive(Clone, Copy)]
 pub struct EvidenceRead {
     pub answer: Extent,
     pub value: VoterReplacementEvidence,
 }
 
-#[derive(Drop)]
+#[derive(Clone, Copy)]
 pub struct ChangeRead {
     pub answer: Extent,
     pub value: Change,
 }
 
-#[derive(Drop)]
+#[derive(Clone, Copy)]
 pub struct ReplacementRead {
     pub answer: Extent,
     pub value: VoterReplacementRecord,
 }
 
-#[derive(Drop)]
+#[derive(Clone, Copy)]
 pub struct TableHeadRead {
     pub answer: Extent,
     pub value: TableHead,
 }
 
-#[derive(Drop)]
+#[derive(Clone, Copy)]
 pub struct TableFrontRead {
     pub answer: Extent,
     pub head: TableHead,
@@ -251,7 +251,7 @@ pub struct TableFrontRead {
     pub slots: [VoterSlotRecord; MAX_FIXED_VOTER_SLOTS],
 }
 
-#[derive(Drop)]
+#[derive(Clone, Copy)]
 pub struct TableRead {
     pub answer: Extent,
     pub value: VoterSlotTable,

@@ -9,7 +9,7 @@ pub const LONGEST_BODY: usize = 70000;
 // The bytes of a mark and a size.
 const HEAD: usize = 2 + 4;
 
-#[derive(Drop)]
+#[derive(Clone, Copy)]
 pub enum Next {
     // A whole question: its mark, and the size of its body.
     Asked(Mark, usize),

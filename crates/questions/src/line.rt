@@ -7,7 +7,7 @@ const LINE_SIZE: usize = 96;
 const MOST_DIGITS: usize = 20;
 
 // A line of output, put together before it is written.
-#[derive(Drop)]
+#[derive(Clone, Copy)]
 pub struct Line {
     pub bytes: [u8; LINE_SIZE],
     pub at: usize,

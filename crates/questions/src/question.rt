@@ -2,13 +2,13 @@
 use crate::line::Line;
 
 // The two bytes that name a question's kind.
-#[derive(Drop)]
+#[derive(Clone, Copy)]
 pub struct Mark {
     pub first: u8,
     pub second: u8,
 }
 
-#[derive(Drop)]
+#[derive(Clone, Copy)]
 pub enum Question {
     Utf8,
     Name,

@@ -4,7 +4,7 @@ use crate::line::Line;
 use crate::question::{Mark, put_mark};
 use identity::answer::Answer;
 
-#[derive(Drop)]
+#[derive(Clone, Copy)]
 pub enum Reply {
     YesNo(bool),
     // An answer alone, with one number, and with two.

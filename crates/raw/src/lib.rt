@@ -1,4 +1,7 @@
 // Table values in the raw form of oracle/FORMAT.md, for the programs that test and time the port.
+
+#![tactic(auto)]
+
 pub mod crc;
 pub mod number;
 pub mod offsets;

@@ -12,7 +12,7 @@ use records::blank::{blank_voter_slot_member, blank_voter_slot_record};
 use records::records::*;
 
 // How far the pieces of a raw table are laid.
-#[derive(Drop)]
+#[derive(Clone, Copy)]
 pub struct Place {
     // No piece so far was malformed.
     pub whole: bool,
@@ -265,7 +265,7 @@ fn attestation_at(raw: &[u8], at: usize) -> LostVoterAttestationV1
 
 // The numbers of an attestation. They are read apart from its bytes, since the check finds what it
 // needs by itself only in a function with few calls.
-#[derive(Drop)]
+#[derive(Clone, Copy)]
 struct AttestationNumbers {
     slot: u16,
     expected_incarnation: u64,

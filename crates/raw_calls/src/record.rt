@@ -219,7 +219,7 @@ fn no_step() -> VoterReplacementStep {
 }
 
 // How far the sets of an observation are laid.
-#[derive(Drop)]
+#[derive(Clone, Copy)]
 pub struct Laid {
     // Everything so far is of the form.
     pub whole: bool,

@@ -1,4 +1,7 @@
 // Layer two: the records, the representability check, validity and the successor check.
+
+#![tactic(auto)]
+
 pub mod blank;
 pub mod equality;
 pub mod evidence;

@@ -25,7 +25,7 @@ const NEIGHBOURS: usize = MAX_FIXED_VOTER_SLOTS - 1;
 
 // What the open request claims of the slots. The record has 6.3 KB, so the tests of a slot get
 // these alone: six fields of its attestation, its phase, and the cut of its prepare.
-#[derive(Drop)]
+#[derive(Clone, Copy)]
 pub struct Claims {
     // Caller-stable idempotency identity.
     pub request_id: ConsensusRequestId,

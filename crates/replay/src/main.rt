@@ -4,6 +4,9 @@
 // by the crate `journal`, which is proved; this program moves the bytes. It reads what there is,
 // plays the whole records in it, and writes what is due before it reads again, so that it works
 // through a pipe by hand. Memory is constant: the buffers below hold the longest record.
+
+#![tactic(auto)]
+
 ghost use Rattle.std.specs.Prelude.{◌+◌, ◌-◌, ◌≤◌, ◌≡◌, length, take, drop};
 ghost use Rattle.journal.specs.Play.{play_of};
 
@@ -11,7 +14,7 @@ use journal::play::*;
 
 // The bytes that are read and not played yet lie from `start` to `held`; `last`: no more will come;
 // `failed`: a read failed, so that what is cut short by it is not played.
-#[derive(Drop)]
+#[derive(Clone, Copy)]
 struct Input {
     start: usize,
     held: usize,
@@ -20,7 +23,7 @@ struct Input {
 }
 
 // How many bytes a read brought, and whether it failed.
-#[derive(Drop)]
+#[derive(Clone, Copy)]
 struct Got {
     more: usize,
     failed: bool,

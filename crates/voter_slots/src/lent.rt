@@ -32,7 +32,7 @@ use records::representable::is_representable;
 use records::validation::validate_table;
 
 // The law of a call on a lent table goes by the order of these fields.
-#[derive(Drop)]
+#[derive(Clone, Copy)]
 pub struct Afterwards {
     pub result: VoterSlotsResult,
     pub table: VoterSlotTable,

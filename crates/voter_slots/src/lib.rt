@@ -3,6 +3,9 @@
 // A table crosses as its bytes; a command or an observation as the body of document 01's replay
 // record; an answer as its number. No part of the original has these functions: its callers hand over
 // values. Each reads the table, so that what follows works on a valid one, and writes at the end.
+
+#![tactic(auto)]
+
 ghost use Rattle.std.specs.Prelude.{◌≡◌};
 ghost use Rattle.voter_slots.specs.Calls.{apply_of, observe_of};
 ghost use Rattle.voter_slots.specs.Export.{read_of, retired_of, write_of};

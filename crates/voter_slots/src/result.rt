@@ -17,7 +17,7 @@ pub const NO_PHASE: u32 = 255;
 
 // What a call gives. Refused: the answer's number, `NO_PHASE`, and every other number is 0.
 #[repr(C)]
-#[derive(Drop)]
+#[derive(Clone, Copy)]
 pub struct VoterSlotsResult {
     pub answer: u32,
     // How many slots the table has.

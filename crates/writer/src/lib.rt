@@ -1,2 +1,5 @@
 // Layer three, the writers of the records, and how many bytes each takes.
+
+#![tactic(auto)]
+
 pub mod encode;
