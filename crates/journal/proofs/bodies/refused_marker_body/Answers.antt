@@ -1,0 +1,10 @@
+-- `journal::bodies::refused_marker_body` meets its contract. Written by scripts/readers.py. Assumes nothing.
+use Rattle.format.specs.Res.Res.{no}
+use Rattle.identity.specs.Answer.{number_of}
+use Rattle.layout.specs.Reading.{outcome}
+use mathlib.Core.Path.{ap}
+use Rattle.journal.proofs.bodies.refused_marker_body.Goals as goal
+
+pub returns : goal.returns
+unfolding outcome
+returns c = ap (λ v. (no (number_of c.args.answer), v)) c.blank_marker_body.ensures

@@ -1,0 +1,10 @@
+-- `layout::reading::refused_configuration` meets its contract. Written by scripts/readers.py. Assumes nothing.
+use Rattle.format.specs.Res.Res.{no}
+use Rattle.identity.specs.Answer.{number_of}
+use Rattle.layout.specs.Reading.{outcome}
+use mathlib.Core.Path.{ap}
+use Rattle.layout.proofs.reading.refused_configuration.Goals as goal
+
+pub returns : goal.returns
+unfolding outcome
+returns c = ap (λ v. (no (number_of c.args.answer), v)) c.blank_voter_configuration.ensures

@@ -1,0 +1,16 @@
+-- `reader::decode::read_slots` meets its contract. Written by scripts/readers.py. Assumes nothing.
+use Prim.Native.Nat.{◌-◌, ◌≤◌}
+use Rattle.format.specs.List.{vec}
+use Rattle.format.specs.Res.Res.{ok}
+use Rattle.layout.specs.Layout.{slot}
+use Rattle.records.specs.Blank.{blank_voter_slot_record}
+use lib.ListN.{length, take, drop}
+use mathlib.Core.Path.{◌≡◌}
+use Rattle.reader.proofs.decode.read_slots.Given as goal
+
+abbrev pub invariant-loop-i : goal.invariant-loop-i
+invariant-loop-i l =
+    (l.i ≤ l.count) × ((vec slot blank_voter_slot_record l.i).dec l.bytes ≡ ok (take l.i l.value) l.at) × (drop l.i l.value ≡ drop l.i l.initial.value) × (length l.value ≡ 9)
+
+abbrev pub decreases-loop-i : goal.decreases-loop-i
+decreases-loop-i l = l.count - l.i

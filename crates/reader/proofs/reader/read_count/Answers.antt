@@ -1,0 +1,31 @@
+-- `reader::reader::read_count` meets its contract. Assumes nothing.
+use mathlib.Core.Path.{◌≡◌, sym, ap, ◌∙◌}
+use Rattle.format.specs.Res.Res.{ok}
+use Rattle.format.specs.Combinators.{checked-ok, checked-no, checked-bad}
+use Rattle.format.specs.Num.{uint, pick}
+use Rattle.records.specs.ValidationLaws.{failed, held}
+use Rattle.layout.specs.Layout.{require, slot_count}
+use Rattle.layout.specs.Reading.{u8_read}
+use Rattle.layout.specs.ReadingLaws.{got}
+use borrow.Author.Rules.{rules}
+use Rattle.reader.proofs.reader.read_count.Goals as goal
+use Rattle.reader.proofs.reader.read_count.Goals.{In-Read}
+
+-- what was read
+is : (c : In-Read) → (uint 1).dec c.args.bytes.now ≡ ok c.in-Read.value c.in-Read.n
+is c = got u8_read c.read_u8-number.ensures c.in-Read.is
+
+pub enum_told-1 : goal.enum_told-1
+enum_told-1 c = search rules
+
+pub returns-in_default : goal.returns-in_default
+unfolding slot_count
+returns-in_default c = ap u8_read c.in_default.is ∙ sym (checked-no _ _ _ (got u8_read c.read_u8-number.ensures c.in_default.is))
+
+pub returns-then-not-is_valid_count : goal.returns-then-not-is_valid_count
+unfolding slot_count pick
+returns-then-not-is_valid_count c = sym (checked-bad _ _ _ (is (record { before = c.before.before.before; type_inv = record { bytes = c.type_inv.bytes } })) (ap require (failed c.is_valid_count.ensures c.if-not-is_valid_count.true-raw)))
+
+pub returns : goal.returns
+unfolding slot_count pick
+returns c = sym (checked-ok _ _ _ (is (record { before = c.before.before.before; type_inv = record { bytes = c.type_inv.bytes } })) (ap require (held c.is_valid_count.ensures c.if-not-is_valid_count.false-raw)))

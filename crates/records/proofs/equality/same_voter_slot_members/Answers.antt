@@ -1,0 +1,24 @@
+-- `records::equality::same_voter_slot_members` meets its contract: the answer so far is that of the places passed. Written by scripts/records.py. Assumes nothing.
+use mathlib.Core.Path.{refl}
+use Prim.Native.Nat.{◌-◌}
+use native.Mathlib.Omega.{arith}
+use Rattle.records.specs.Equality.{eq_list, same_voter_slot_member}
+use Rattle.records.specs.EqualityLaws.{eq_list-more, eq_list-end}
+use Rattle.records.proofs.equality.same_voter_slot_members.Goals as goal
+
+pub loop-i-init : goal.loop-i-init
+unfolding eq_list
+loop-i-init c = (omega arith, refl)
+
+pub loop-i-preserved : goal.loop-i-preserved
+loop-i-preserved c =
+    let good = c.well_formed in (
+      omega arith,
+      eq_list-more same_voter_slot_member _ _ _ c.loop-i.i _ _ (omega (arith, good.0.1.0.1)) (omega (arith, good.1.0.1.0.1))
+          c.loop-i.invariant.1 c.same_voter_slot_member-same.ensures,
+    )
+
+pub returns : goal.returns
+returns c =
+    let good = c.well_formed in
+    eq_list-end same_voter_slot_member _ _ c.loop-i.i _ (omega (arith, good.0.1.0.1)) (omega (arith, good.1.0.1.0.1)) c.loop-i.invariant.1
