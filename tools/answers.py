@@ -383,11 +383,9 @@ def turn(crate, rel, table, text, path):
             word, _, after = body.partition(' ')
             params, eq, value = after.partition('=')
             params = params.split()
-            wanted = [v for v, c in zip(variables, changed) if not c] if False else None
-            # the unchanged variables, then the first values of the changed ones, then those of now
-            fixed = [v for v, c in zip(variables, changed) if not c]
-            moving = [v for v, c in zip(variables, changed) if c]
-            order = ['l.' + v for v in fixed] + ['l.initial.' + v for v in moving] + ['l.' + v for v in moving]
+            # every variable, the changed ones as they were first, and then the changed ones
+            order = [('l.initial.' if c else 'l.') + v for v, c in zip(variables, changed)]
+            order += ['l.' + v for v, c in zip(variables, changed) if c]
             label = '%s-%s' % (kind.split('-')[0], new)
             if len(order) != len(params):
                 t.say('%s has %d parameters, and %d variables' % (label, len(params), len(order)))

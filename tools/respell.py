@@ -53,7 +53,18 @@ def kit_turned(name, taken):
     return snake(name) if is_camel(name) and snake(name) in taken else name
 
 
+def format_of_results():
+    """`result` is what a function returns in a clause of today: the format of that name gets another."""
+    bare = r"(?<![A-Za-z0-9_'.\-])result(?![A-Za-z0-9_'\-])"
+    cites = re.compile(r'layout\.specs\.Layout\.\{[^}]*' + bare)
+    for path in antt_files() + glob.glob('crates/*/src/**/*.rt', recursive=True):
+        text = open(path, encoding='utf-8').read()
+        if cites.search(text) or path == 'crates/layout/specs/Layout.antt':
+            open(path, 'w', encoding='utf-8').write(re.sub(bare, 'replacement_result', text))
+
+
 def main():
+    format_of_results()
     table = names()
     new = {}
     for name, to in table.items():

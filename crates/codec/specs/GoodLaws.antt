@@ -44,7 +44,7 @@ use Rattle.records.specs.declared.records.VoterReplacementEvidence.{VoterReplace
 use Rattle.records.specs.declared.records.VoterReplacementRecord.{VoterReplacementRecord}
 use Rattle.records.specs.declared.records.VoterSlotTable.{VoterSlotTable}
 use Rattle.layout.specs.Parts.{binding_of, result_head_of, slot_member_of, claims_request_of, claims_slot_of, claims_names_of, claims_end_of, times_of, change_of, table_head_of}
-use Rattle.layout.specs.Layout.{require, slot_id, incarnation, epoch, slot_count, choice, identity, log_id, optional_log_id, sized, string, placed, spiffe_id, snapshot_id, binding, member, members, configuration, result_head, result, slot_member, slot, slots, version, claims_request, claims_slot, claims_names, times, claims_end, claims, attestation, snapshot, three_cuts, evidence, change, replacement, magic, head_test, magic_and_version, table_head, table}
+use Rattle.layout.specs.Layout.{require, slot_id, incarnation, epoch, slot_count, choice, identity, log_id, optional_log_id, sized, string, placed, spiffe_id, snapshot_id, binding, member, members, configuration, result_head, replacement_result, slot_member, slot, slots, version, claims_request, claims_slot, claims_names, times, claims_end, claims, attestation, snapshot, three_cuts, evidence, change, replacement, magic, head_test, magic_and_version, table_head, table}
 use Rattle.records.specs.RepresentableParts.{text-is, member_is, result-is, slot_is, configuration-is, attestation-is, evidence-is, replacement-is, table_is}
 use Rattle.records.specs.TestLaws.{and_both, says, cond-true, cond-false}
 use Rattle.codec.specs.FitsLaws.{text-fits, attestation-fits, configuration-count}
@@ -246,8 +246,8 @@ result_head-good r h t = (
 )
 
 -- a receipt that passes its test
-pub result-good : (r : VoterReplacementResult) → HeldVoterReplacementResult r → representable_result r ≡ true → result.Good r
-unfolding result via dep
+pub result-good : (r : VoterReplacementResult) → HeldVoterReplacementResult r → representable_result r ≡ true → replacement_result.Good r
+unfolding replacement_result via dep
 result-good r h t = (
   (
     (
@@ -278,7 +278,7 @@ slot-good s h r =
     let k = says (slot_is s) r in (
       (
         (slot_member-good s h k.0, up-to-good 2 s.phase h.phase k.1.0),
-        opt-good result blank_voter_replacement_result s.last_result (representable_result s.last_result) (same_voter_replacement_result s.last_result blank_voter_replacement_result)
+        opt-good replacement_result blank_voter_replacement_result s.last_result (representable_result s.last_result) (same_voter_replacement_result s.last_result blank_voter_replacement_result)
             (result-good s.last_result h.last_result)
             (same_voter_replacement_result-true s.last_result blank_voter_replacement_result)
             s.has_last_result k.1.1,

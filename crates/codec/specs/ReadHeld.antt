@@ -34,7 +34,7 @@ use Rattle.records.specs.declared.records.VoterReplacementEvidence.{VoterReplace
 use Rattle.records.specs.declared.records.VoterReplacementRecord.{VoterReplacementRecord}
 use Rattle.records.specs.declared.records.VoterSlotTable.{VoterSlotTable}
 use Rattle.layout.specs.Parts.{binding_of}
-use Rattle.layout.specs.Layout.{require-is, slot_id, incarnation, epoch, slot_count, choice, identity, log_id, optional_log_id, sized, string, string-long, placed, spiffe_id, snapshot_id, binding, member, members, configuration, result_head, result, slot_member, slot, slots, claims_request, claims_slot, claims_names, times, claims_end, claims, attestation, snapshot, three_cuts, evidence, change, replacement, table_head, table}
+use Rattle.layout.specs.Layout.{require-is, slot_id, incarnation, epoch, slot_count, choice, identity, log_id, optional_log_id, sized, string, string-long, placed, spiffe_id, snapshot_id, binding, member, members, configuration, result_head, replacement_result, slot_member, slot, slots, claims_request, claims_slot, claims_names, times, claims_end, claims, attestation, snapshot, three_cuts, evidence, change, replacement, table_head, table}
 use Rattle.layout.specs.declared.parts.Binding.{Binding}
 
 -- ---- lists
@@ -181,8 +181,8 @@ configuration-held c g = record {
 
 -- ---- slots
 
-result-held : (r : VoterReplacementResult) → result.Good r → HeldVoterReplacementResult r
-unfolding result result_head via dep
+result-held : (r : VoterReplacementResult) → replacement_result.Good r → HeldVoterReplacementResult r
+unfolding replacement_result result_head via dep
 result-held r g = record {
   request_id = raw-held 16 r.request_id g.0.0.0.0.0.0.0.0;
   request_digest = raw-held 32 r.request_digest g.0.0.0.0.0.0.0.1;
@@ -199,7 +199,7 @@ slot_held s g = record {
   member = bound-held s.member (identity-held s.member.identity g.0.0.0.0.0.0) (binding-held (binding_of s.member) g.0.0.0.0.1);
   retired_through = uint-held 8 s.retired_through g.0.0.0.0.0.1;
   phase = choice-held 0 2 s.phase g.0.0.1;
-  last_result = opt-held result HeldVoterReplacementResult blank_voter_replacement_result blank-result-held result-held s.has_last_result s.last_result g.0.1;
+  last_result = opt-held replacement_result HeldVoterReplacementResult blank_voter_replacement_result blank-result-held result-held s.has_last_result s.last_result g.0.1;
 }
 
 -- ---- an attestation

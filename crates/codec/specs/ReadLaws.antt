@@ -39,7 +39,7 @@ use Rattle.records.specs.declared.records.LostVoterAttestationV1.{LostVoterAttes
 use Rattle.records.specs.declared.records.VoterReplacementEvidence.{VoterReplacementEvidence}
 use Rattle.records.specs.declared.records.VoterReplacementRecord.{VoterReplacementRecord}
 use Rattle.records.specs.declared.records.VoterSlotTable.{VoterSlotTable}
-use Rattle.layout.specs.Layout.{require-is, slot_id, incarnation, epoch, slot_count, choice, identity, optional_log_id, log_id, sized, string, string-long, placed, spiffe_id, snapshot_id, member, members, configuration, result_head, result, slot_member, slot, slots, claims_slot, claims_names, claims_end, claims, attestation, snapshot, three_cuts, evidence, change, replacement, table_head, table}
+use Rattle.layout.specs.Layout.{require-is, slot_id, incarnation, epoch, slot_count, choice, identity, optional_log_id, log_id, sized, string, string-long, placed, spiffe_id, snapshot_id, member, members, configuration, result_head, replacement_result, slot_member, slot, slots, claims_slot, claims_names, claims_end, claims, attestation, snapshot, three_cuts, evidence, change, replacement, table_head, table}
 use Rattle.records.specs.RepresentableParts.{text-is, member_is, result-is, slot_is, configuration-is, attestation-is, evidence-is, replacement-is, table_is}
 use Rattle.records.specs.TestLaws.{passes}
 use Rattle.writer.specs.SizeLaws.{get_d_any}
@@ -184,8 +184,8 @@ configuration-tests c g =
 -- ---- slots
 
 -- a receipt
-result-tests : (r : VoterReplacementResult) → result.Good r → representable_result r ≡ true
-unfolding result result_head via dep
+result-tests : (r : VoterReplacementResult) → replacement_result.Good r → representable_result r ≡ true
+unfolding replacement_result result_head via dep
 result-tests r g =
     passes (result-is r) (
       incarnation-tests r.incarnation g.0.0.0.0.0.0.1,
@@ -200,7 +200,7 @@ slot-tests s g =
       passes (member_is s.member) (identity-tests s.member.identity g.0.0.0.0.0.0),
       (
         up-to-tests 2 s.phase g.0.0.1,
-        opt-tests result blank_voter_replacement_result s.last_result (representable_result s.last_result)
+        opt-tests replacement_result blank_voter_replacement_result s.last_result (representable_result s.last_result)
             (λ r. same_voter_replacement_result r blank_voter_replacement_result) (result-tests s.last_result)
             (same_voter_replacement_result-refl blank_voter_replacement_result) s.has_last_result g.0.1,
       ),

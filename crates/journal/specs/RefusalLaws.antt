@@ -14,7 +14,7 @@ use Rattle.format.specs.Through.{whole, boxed, boxed-ok, boxed-no-1, boxed-no-2}
 use Rattle.records.specs.Blank.{blank_voter_slot_member, blank_voter_replacement_result, blank_voter_slot_record, blank_voter_snapshot_evidence, blank_voter_replacement_record}
 use Rattle.records.specs.Validation.{validity}
 use Rattle.records.specs.declared.records.VoterSlotTable.{VoterSlotTable}
-use Rattle.layout.specs.Layout.{slot_id, incarnation, epoch, slot_count, choice, identity, log_id, optional_log_id, sized, string, spiffe_id, snapshot_id, binding, member, members, configuration, result_head, result, slot_member, slot, slots, version, claims_request, claims_slot, claims_names, times, claims_end, claims, max_attestation_bytes, attestation, snapshot, three_cuts, evidence, change, replacement, magic_and_version, table_head, table_front, table}
+use Rattle.layout.specs.Layout.{slot_id, incarnation, epoch, slot_count, choice, identity, log_id, optional_log_id, sized, string, spiffe_id, snapshot_id, binding, member, members, configuration, result_head, replacement_result, slot_member, slot, slots, version, claims_request, claims_slot, claims_names, times, claims_end, claims, max_attestation_bytes, attestation, snapshot, three_cuts, evidence, change, replacement, magic_and_version, table_head, table_front, table}
 use Rattle.codec.specs.Codec.{max_table_bytes, bounded, decode_voter_slot_table, decode_lost_voter_attestation}
 
 -- ---- results
@@ -210,8 +210,8 @@ configuration-never : Never configuration
 unfolding configuration members padded
 configuration-never = via-never _ _ _ _ (dep-never _ _ (dep-never _ _ epoch-never (λ a. count-never)) (λ p. via-never _ _ _ _ (vec-never member blank_voter_slot_member member-never p.1)))
 
-result-never : Never result
-unfolding result result_head
+result-never : Never replacement_result
+unfolding replacement_result result_head
 result-never =
     via-never _ _ _ _
     (four _ _ _ _ (via-never _ _ _ _ (four _ _ _ _ (raw-never 16) (raw-never 32) incarnation-never (uint-never 8))) epoch-never (choice-never _ _) log-id-never)
@@ -220,7 +220,7 @@ slot-never : Never slot
 unfolding slot slot_member
 slot-never =
     via-never _ _ _ _
-    (three _ _ _ (via-never _ _ _ _ (three _ _ _ identity-never (uint-never 8) binding-never)) (choice-never _ _) (opt-never result blank_voter_replacement_result result-never))
+    (three _ _ _ (via-never _ _ _ _ (three _ _ _ identity-never (uint-never 8) binding-never)) (choice-never _ _) (opt-never replacement_result blank_voter_replacement_result result-never))
 
 slots-never : (n : ℕ) → Never (slots n)
 unfolding slots padded

@@ -148,8 +148,8 @@ result_head =
     (λ r. (((r.request_id, r.request_digest), r.incarnation), r.revision)) (λ a g. refl)
 
 -- a receipt: request id, request digest, incarnation, revision, epoch, kind, terminal cut
-unfoldable pub result : Codec VoterReplacementResult
-result =
+unfoldable pub replacement_result : Codec VoterReplacementResult
+replacement_result =
     via (dep (dep (dep result_head (λ a. epoch)) (λ a. choice completed superseded)) (λ a. log_id)) (λ p. result_of p.0.0.0 p.0.0.1 p.0.1 p.1)
     (λ r. (((result_head_of r, r.configuration_epoch), r.kind), r.terminal)) (λ a g. refl)
 
@@ -162,7 +162,7 @@ slot_member =
 -- a slot: its member and retired number, its phase, its receipt
 unfoldable pub slot : Codec VoterSlotRecord
 slot =
-    via (dep (dep slot_member (λ a. choice pending voting)) (λ a. opt result blank_voter_replacement_result))
+    via (dep (dep slot_member (λ a. choice pending voting)) (λ a. opt replacement_result blank_voter_replacement_result))
     (λ p. record {
       member = p.0.0.member;
       retired_through = p.0.0.retired_through;

@@ -18,7 +18,7 @@ use Rattle.records.specs.Equality.{all_true, eq_list, same_voter_slot_identity, 
 use Rattle.records.specs.Evidence.{follows, valid_stage, stage_or, valid_stages, in_order, valid_continuation, valid_evidence}
 use Rattle.records.specs.Records.{all_below}
 use Rattle.records.specs.Validation.{valid_configuration, valid_attestation, valid_result, valid_slot, valid_slots, valid_operation_head, is_current_epoch, valid_operation, retired_member, valid_target, validate_member, validate_members, validate_operation, validity}
-use Rattle.layout.specs.Layout.{max_attestation_bytes, table, magic_and_version, head_test, table_head, epoch, slot_count, slots, slot, slot_member, identity, slot_id, incarnation, log_id, optional_log_id, sized, string, spiffe_id, snapshot_id, binding, member, members, configuration, choice, result_head, result, version, claims_request, claims_slot, claims_names, times, claims_end, claims, attestation, snapshot, three_cuts, evidence, change, replacement}
+use Rattle.layout.specs.Layout.{max_attestation_bytes, table, magic_and_version, head_test, table_head, epoch, slot_count, slots, slot, slot_member, identity, slot_id, incarnation, log_id, optional_log_id, sized, string, spiffe_id, snapshot_id, binding, member, members, configuration, choice, result_head, replacement_result, version, claims_request, claims_slot, claims_names, times, claims_end, claims, attestation, snapshot, three_cuts, evidence, change, replacement}
 use Rattle.layout.specs.Parts.{table_of, replacement_of, table_head_of, change_of}
 use Rattle.codec.specs.Codec.{decode_voter_slot_table, decode_lost_voter_attestation, bounded}
 use Rattle.codec.specs.EntryLaws.{decode-judged}
@@ -76,7 +76,7 @@ request-ordered =
 
 slots-ordered : (dep (dep (dep magic_and_version (λ a. table_head)) (λ a. slot_count)) (λ p. slots p.1)).dec ordered_table_bytes
     ≡ ok (((tt, table_head_of ordered_table), 3), ordered_table.slots) 630
-unfolding ordered_table and_then pick gate dec_seq dec_check dec_map dep check via held raw dec_raw uint dec_uint val magic_and_version head_test table_head epoch slot_count slots slot slot_member identity slot_id incarnation validate_slot_id validate_voter_incarnation binding choice result_head result log_id opt either always flag flag_test padded vec dec_vec eq_list blank_voter_slot_identity blank_voter_slot_member blank_voter_slot_log_id blank_voter_replacement_result blank_voter_slot_record
+unfolding ordered_table and_then pick gate dec_seq dec_check dec_map dep check via held raw dec_raw uint dec_uint val magic_and_version head_test table_head epoch slot_count slots slot slot_member identity slot_id incarnation validate_slot_id validate_voter_incarnation binding choice result_head replacement_result log_id opt either always flag flag_test padded vec dec_vec eq_list blank_voter_slot_identity blank_voter_slot_member blank_voter_slot_log_id blank_voter_replacement_result blank_voter_slot_record
 slots-ordered = refl
 
 flag-ordered : flag.dec (drop 630 ordered_table_bytes) ≡ ok true 1

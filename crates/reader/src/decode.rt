@@ -9,7 +9,7 @@ ghost use Rattle.format.specs.Through.{whole, boxed};
 ghost use Rattle.records.specs.Blank.{blank_voter_slot_member, blank_voter_configuration, blank_voter_replacement_result, blank_voter_slot_record, blank_lost_voter_attestation_v1, blank_voter_snapshot_evidence, blank_voter_replacement_evidence, blank_voter_replacement_record, blank_voter_slot_table};
 ghost use Rattle.layout.specs.Parts.{absent_result, absent_snapshot, blank_binding, blank_claims_request, blank_claims_slot, blank_claims_names, blank_claims_end, blank_result_head, blank_slot_member, blank_change, blank_table_head, blank_table_front, blank_voter_slot_members, blank_voter_slot_records};
 ghost use Rattle.layout.specs.Reading.{report, outcome};
-ghost use Rattle.layout.specs.Layout.{binding, member, members, configuration, result_head, result, slot_member, slot, slots, claims_request, claims_slot, claims_names, claims_end, claims, attestation, snapshot, evidence, change, replacement, table_head, table_front, table};
+ghost use Rattle.layout.specs.Layout.{binding, member, members, configuration, result_head, replacement_result, slot_member, slot, slots, claims_request, claims_slot, claims_names, claims_end, claims, attestation, snapshot, evidence, change, replacement, table_head, table_front, table};
 
 use crate::reader::*;
 use identity::answer::Answer;
@@ -22,7 +22,7 @@ use records::validation::is_valid_attestation;
 
 // `binding`: what follows an identity.
 pub fn read_binding(bytes: &[u8]) -> BindingRead
-    ensures* { λ r. ⌜ (report r.answer, r.value) ≡ outcome blank_binding (binding.dec bytes.now) ⌝ }
+    ensures { (report result.answer, result.value) ≡ outcome blank_binding (binding.dec bytes.now) }
 {
     let key_digest_read = read_array32(bytes);
     let key_digest_to = key_digest_read.answer;
@@ -53,7 +53,7 @@ pub fn read_binding(bytes: &[u8]) -> BindingRead
 
 // A member of a configuration.
 fn read_member(bytes: &[u8]) -> MemberRead
-    ensures* { λ r. ⌜ (report r.answer, r.value) ≡ outcome blank_voter_slot_member (member.dec bytes.now) ⌝ }
+    ensures { (report result.answer, result.value) ≡ outcome blank_voter_slot_member (member.dec bytes.now) }
 {
     let identity_read = read_identity(bytes);
     let IdentityRead::Read(identity, at) = identity_read else {
@@ -74,7 +74,7 @@ fn read_member(bytes: &[u8]) -> MemberRead
 // The first so many of the nine places; blanks after them.
 fn read_members(bytes: &[u8], count: usize) -> MembersRead
     requires { count ≤ 9 }
-    ensures* { λ r. ⌜ (report r.answer, r.value) ≡ outcome blank_voter_slot_members ((members count).dec bytes.now) ⌝ }
+    ensures { (report result.answer, result.value) ≡ outcome blank_voter_slot_members ((members count).dec bytes.now) }
 {
     let mut value = blank_voter_slot_members();
     let mut at = 0;
@@ -98,7 +98,7 @@ fn read_members(bytes: &[u8], count: usize) -> MembersRead
 
 // `configuration`
 fn read_configuration(bytes: &[u8]) -> ConfigurationRead
-    ensures* { λ r. ⌜ (report r.answer, r.value) ≡ outcome blank_voter_configuration (configuration.dec bytes.now) ⌝ }
+    ensures { (report result.answer, result.value) ≡ outcome blank_voter_configuration (configuration.dec bytes.now) }
 {
     let epoch_read = read_epoch(bytes);
     let U64Read::Read(epoch, at) = epoch_read else {
@@ -127,7 +127,7 @@ fn read_configuration(bytes: &[u8]) -> ConfigurationRead
 
 // The front of a receipt.
 fn read_result_head(bytes: &[u8]) -> ResultHeadRead
-    ensures* { λ r. ⌜ (report r.answer, r.value) ≡ outcome blank_result_head (result_head.dec bytes.now) ⌝ }
+    ensures { (report result.answer, result.value) ≡ outcome blank_result_head (result_head.dec bytes.now) }
 {
     let request_id_read = read_array16(bytes);
     let request_id_to = request_id_read.answer;
@@ -164,7 +164,7 @@ fn read_result_head(bytes: &[u8]) -> ResultHeadRead
 
 // A receipt.
 fn read_result(bytes: &[u8]) -> ResultRead
-    ensures* { λ r. ⌜ (report r.answer, r.value) ≡ outcome blank_voter_replacement_result (result.dec bytes.now) ⌝ }
+    ensures { (report result.answer, result.value) ≡ outcome blank_voter_replacement_result (replacement_result.dec bytes.now) }
 {
     let head_read = read_result_head(bytes);
     let head_to = head_read.answer;
@@ -194,7 +194,7 @@ fn read_result(bytes: &[u8]) -> ResultRead
 
 // A receipt, or none.
 fn read_optional_result(bytes: &[u8]) -> OptionalResultRead
-    ensures* { λ r. ⌜ (report r.answer, (r.is_some, r.value)) ≡ outcome absent_result ((opt result blank_voter_replacement_result).dec bytes.now) ⌝ }
+    ensures { (report result.answer, (result.is_some, result.value)) ≡ outcome absent_result ((opt replacement_result blank_voter_replacement_result).dec bytes.now) }
 {
     let flag = read_flag(bytes);
     let BoolRead::Read(is_some, at) = flag else {
@@ -222,7 +222,7 @@ fn read_optional_result(bytes: &[u8]) -> OptionalResultRead
 
 // The front of a slot.
 fn read_slot_member(bytes: &[u8]) -> SlotMemberRead
-    ensures* { λ r. ⌜ (report r.answer, r.value) ≡ outcome blank_slot_member (slot_member.dec bytes.now) ⌝ }
+    ensures { (report result.answer, result.value) ≡ outcome blank_slot_member (slot_member.dec bytes.now) }
 {
     let identity_read = read_identity(bytes);
     let IdentityRead::Read(identity, at) = identity_read else {
@@ -250,7 +250,7 @@ fn read_slot_member(bytes: &[u8]) -> SlotMemberRead
 
 // A slot.
 fn read_slot(bytes: &[u8]) -> SlotRead
-    ensures* { λ r. ⌜ (report r.answer, r.value) ≡ outcome blank_voter_slot_record (slot.dec bytes.now) ⌝ }
+    ensures { (report result.answer, result.value) ≡ outcome blank_voter_slot_record (slot.dec bytes.now) }
 {
     let head_read = read_slot_member(bytes);
     let head_to = head_read.answer;
@@ -285,7 +285,7 @@ fn read_slot(bytes: &[u8]) -> SlotRead
 // The first so many of the nine places; blanks after them.
 fn read_slots(bytes: &[u8], count: usize) -> SlotsRead
     requires { count ≤ 9 }
-    ensures* { λ r. ⌜ (report r.answer, r.value) ≡ outcome blank_voter_slot_records ((slots count).dec bytes.now) ⌝ }
+    ensures { (report result.answer, result.value) ≡ outcome blank_voter_slot_records ((slots count).dec bytes.now) }
 {
     let mut value = blank_voter_slot_records();
     let mut at = 0;
@@ -309,7 +309,7 @@ fn read_slots(bytes: &[u8], count: usize) -> SlotsRead
 
 // The groups of an attestation.
 fn read_claims_request(bytes: &[u8]) -> ClaimsRequestRead
-    ensures* { λ r. ⌜ (report r.answer, r.value) ≡ outcome blank_claims_request (claims_request.dec bytes.now) ⌝ }
+    ensures { (report result.answer, result.value) ≡ outcome blank_claims_request (claims_request.dec bytes.now) }
 {
     let version = read_version(bytes);
     let Extent::To(at) = version else {
@@ -338,7 +338,7 @@ fn read_claims_request(bytes: &[u8]) -> ClaimsRequestRead
 }
 
 fn read_claims_slot(bytes: &[u8]) -> ClaimsSlotRead
-    ensures* { λ r. ⌜ (report r.answer, r.value) ≡ outcome blank_claims_slot (claims_slot.dec bytes.now) ⌝ }
+    ensures { (report result.answer, result.value) ≡ outcome blank_claims_slot (claims_slot.dec bytes.now) }
 {
     let cluster_instance_read = read_array32(bytes);
     let cluster_instance_to = cluster_instance_read.answer;
@@ -376,7 +376,7 @@ fn read_claims_slot(bytes: &[u8]) -> ClaimsSlotRead
 }
 
 fn read_claims_names(bytes: &[u8]) -> ClaimsNamesRead
-    ensures* { λ r. ⌜ (report r.answer, r.value) ≡ outcome blank_claims_names (claims_names.dec bytes.now) ⌝ }
+    ensures { (report result.answer, result.value) ≡ outcome blank_claims_names (claims_names.dec bytes.now) }
 {
     let admission_generation_read = read_u64(bytes);
     let U64Read::Read(admission_generation, at) = admission_generation_read else {
@@ -414,7 +414,7 @@ fn read_claims_names(bytes: &[u8]) -> ClaimsNamesRead
 }
 
 fn read_claims_end(bytes: &[u8]) -> ClaimsEndRead
-    ensures* { λ r. ⌜ (report r.answer, r.value) ≡ outcome blank_claims_end (claims_end.dec bytes.now) ⌝ }
+    ensures { (report result.answer, result.value) ≡ outcome blank_claims_end (claims_end.dec bytes.now) }
 {
     let reason_read = read_choice(bytes, STORAGE_LOST, TIME_BOUND_LOSS);
     let U8Read::Read(reason, at) = reason_read else {
@@ -451,7 +451,7 @@ fn read_claims_end(bytes: &[u8]) -> ClaimsEndRead
 
 // The fields of an attestation; anything may come after them.
 pub fn read_attestation(bytes: &[u8]) -> AttestationRead
-    ensures* { λ r. ⌜ (report r.answer, r.value) ≡ outcome blank_lost_voter_attestation_v1 (claims.dec bytes.now) ⌝ }
+    ensures { (report result.answer, result.value) ≡ outcome blank_lost_voter_attestation_v1 (claims.dec bytes.now) }
 {
     let request_read = read_claims_request(bytes);
     let request_to = request_read.answer;
@@ -487,7 +487,7 @@ pub fn read_attestation(bytes: &[u8]) -> AttestationRead
 
 // All of the bytes are one attestation, of the rule of validation.rs.
 pub fn read_whole_attestation(bytes: &[u8]) -> AttestationRead
-    ensures* { λ r. ⌜ (report r.answer, r.value) ≡ outcome blank_lost_voter_attestation_v1 (whole attestation bytes.now) ⌝ }
+    ensures { (report result.answer, result.value) ≡ outcome blank_lost_voter_attestation_v1 (whole attestation bytes.now) }
 {
     let read = read_attestation(bytes);
     let to = read.answer;
@@ -503,7 +503,7 @@ pub fn read_whole_attestation(bytes: &[u8]) -> AttestationRead
 
 // `sized_bytes(MAX_LOST_VOTER_ATTESTATION_BYTES)`, and the attestation in them.
 fn read_boxed_attestation(bytes: &[u8]) -> AttestationRead
-    ensures* { λ r. ⌜ (report r.answer, r.value) ≡ outcome blank_lost_voter_attestation_v1 ((boxed attestation 8192).dec bytes.now) ⌝ }
+    ensures { (report result.answer, result.value) ≡ outcome blank_lost_voter_attestation_v1 ((boxed attestation 8192).dec bytes.now) }
 {
     let size = read_sized(bytes, MAX_LOST_VOTER_ATTESTATION_BYTES);
     let SizedRead::Read(len, at) = size else {
@@ -524,7 +524,7 @@ fn read_boxed_attestation(bytes: &[u8]) -> AttestationRead
 
 // The evidence of a snapshot.
 fn read_snapshot(bytes: &[u8]) -> SnapshotRead
-    ensures* { λ r. ⌜ (report r.answer, r.value) ≡ outcome blank_voter_snapshot_evidence (snapshot.dec bytes.now) ⌝ }
+    ensures { (report result.answer, result.value) ≡ outcome blank_voter_snapshot_evidence (snapshot.dec bytes.now) }
 {
     let cut_read = read_log_id(bytes);
     let LogIdRead::Read(cut, at) = cut_read else {
@@ -555,7 +555,7 @@ fn read_snapshot(bytes: &[u8]) -> SnapshotRead
 
 // A snapshot, or none.
 fn read_optional_snapshot(bytes: &[u8]) -> OptionalSnapshotRead
-    ensures* { λ r. ⌜ (report r.answer, (r.is_some, r.value)) ≡ outcome absent_snapshot ((opt snapshot blank_voter_snapshot_evidence).dec bytes.now) ⌝ }
+    ensures { (report result.answer, (result.is_some, result.value)) ≡ outcome absent_snapshot ((opt snapshot blank_voter_snapshot_evidence).dec bytes.now) }
 {
     let flag = read_flag(bytes);
     let BoolRead::Read(is_some, at) = flag else {
@@ -583,7 +583,7 @@ fn read_optional_snapshot(bytes: &[u8]) -> OptionalSnapshotRead
 
 // The evidence of a replacement.
 fn read_evidence(bytes: &[u8]) -> EvidenceRead
-    ensures* { λ r. ⌜ (report r.answer, r.value) ≡ outcome blank_voter_replacement_evidence (evidence.dec bytes.now) ⌝ }
+    ensures { (report result.answer, result.value) ≡ outcome blank_voter_replacement_evidence (evidence.dec bytes.now) }
 {
     let prepare_read = read_log_id(bytes);
     let LogIdRead::Read(prepare, at) = prepare_read else {
@@ -613,7 +613,7 @@ fn read_evidence(bytes: &[u8]) -> EvidenceRead
 
 // What an open request changes, and how far it is.
 fn read_change(bytes: &[u8]) -> ChangeRead
-    ensures* { λ r. ⌜ (report r.answer, r.value) ≡ outcome blank_change (change.dec bytes.now) ⌝ }
+    ensures { (report result.answer, result.value) ≡ outcome blank_change (change.dec bytes.now) }
 {
     let predecessor_read = read_configuration(bytes);
     let predecessor_to = predecessor_read.answer;
@@ -644,7 +644,7 @@ fn read_change(bytes: &[u8]) -> ChangeRead
 
 // An open request.
 fn read_replacement(bytes: &[u8]) -> ReplacementRead
-    ensures* { λ r. ⌜ (report r.answer, r.value) ≡ outcome blank_voter_replacement_record (replacement.dec bytes.now) ⌝ }
+    ensures { (report result.answer, result.value) ≡ outcome blank_voter_replacement_record (replacement.dec bytes.now) }
 {
     let expected_revision_read = read_u64(bytes);
     let U64Read::Read(expected_revision, at) = expected_revision_read else {
@@ -678,7 +678,7 @@ fn read_replacement(bytes: &[u8]) -> ReplacementRead
 
 // The front of a table.
 fn read_table_head(bytes: &[u8]) -> TableHeadRead
-    ensures* { λ r. ⌜ (report r.answer, r.value) ≡ outcome blank_table_head (table_head.dec bytes.now) ⌝ }
+    ensures { (report result.answer, result.value) ≡ outcome blank_table_head (table_head.dec bytes.now) }
 {
     let cluster_instance_read = read_array32(bytes);
     let cluster_instance_to = cluster_instance_read.answer;
@@ -715,7 +715,7 @@ fn read_table_head(bytes: &[u8]) -> TableHeadRead
 
 // What stands before the flag of a table: magic and version, the head, the count and the slots.
 fn read_table_front(bytes: &[u8]) -> TableFrontRead
-    ensures* { λ r. ⌜ (report r.answer, (((tt, r.head), r.count), r.slots)) ≡ outcome blank_table_front (table_front.dec bytes.now) ⌝ }
+    ensures { (report result.answer, (((tt, result.head), result.count), result.slots)) ≡ outcome blank_table_front (table_front.dec bytes.now) }
 {
     let magic = read_head(bytes);
     let Extent::To(at) = magic else {
@@ -750,7 +750,7 @@ fn read_table_front(bytes: &[u8]) -> TableFrontRead
 // The fields of a table; anything may come after them. The table is made here, where its cursor is
 // known: passed on by a reader of the open request's end, its 8 KB would be copied once more.
 pub fn read_table(bytes: &[u8]) -> TableRead
-    ensures* { λ r. ⌜ (report r.answer, r.value) ≡ outcome blank_voter_slot_table (table.dec bytes.now) ⌝ }
+    ensures { (report result.answer, result.value) ≡ outcome blank_voter_slot_table (table.dec bytes.now) }
 {
     let front = read_table_front(bytes);
     let front_to = front.answer;

@@ -26,7 +26,7 @@ use Rattle.records.specs.declared.records.VoterReplacementEvidence.{VoterReplace
 use Rattle.records.specs.declared.records.VoterReplacementRecord.{VoterReplacementRecord}
 use Rattle.records.specs.declared.records.VoterSlotTable.{VoterSlotTable}
 use Rattle.layout.specs.Parts.{binding_of, result_head_of, slot_member_of, claims_request_of, claims_slot_of, claims_names_of, claims_end_of, early_cuts, late_cuts, table_head_of, ReplacementFits, TableFits}
-use Rattle.layout.specs.Layout.{slot_id, incarnation, epoch, slot_count, choice, identity, log_id, optional_log_id, sized, string, spiffe_id, snapshot_id, binding, member, members, configuration, result_head, result, slot_member, slot, slots, version, claims_request, claims_slot, claims_names, times, claims_end, claims, attestation, snapshot, three_cuts, evidence, change, replacement, magic_and_version, table_head, table}
+use Rattle.layout.specs.Layout.{slot_id, incarnation, epoch, slot_count, choice, identity, log_id, optional_log_id, sized, string, spiffe_id, snapshot_id, binding, member, members, configuration, result_head, replacement_result, slot_member, slot, slots, version, claims_request, claims_slot, claims_names, times, claims_end, claims, attestation, snapshot, three_cuts, evidence, change, replacement, magic_and_version, table_head, table}
 use Rattle.writer.specs.Size.{slot_size, slots_size, cut_size, three_cuts_size, configuration_size, attestation_size, evidence_size, replacement_size, table_size}
 use Rattle.layout.specs.declared.parts.ThreeCuts.{ThreeCuts}
 
@@ -129,8 +129,8 @@ unfolding result_head via dep incarnation check
 result_head-long r h = simp (length-append, uint-long, raw_same, h.request_id.count, h.request_digest.count)
 
 -- its front, an epoch, a kind, and a cut
-pub result-long : (r : VoterReplacementResult) → HeldVoterReplacementResult r → length (result.enc r) ≡ 89
-unfolding result via dep epoch choice check
+pub result-long : (r : VoterReplacementResult) → HeldVoterReplacementResult r → length (replacement_result.enc r) ≡ 89
+unfolding replacement_result via dep epoch choice check
 result-long r h = simp (length-append, uint-long, result_head-long r h, log_id-long)
 
 -- an identity, the retired number, the binding
@@ -144,7 +144,7 @@ unfolding slot via dep choice check
 slot-long s h =
     simp (length-append, uint-long, slot_member-long s h, opt-long) (by s.has_last_result)
   where
-    by : (b : Bool) → 91 + (1 + cond b (length (result.enc s.last_result)) 0) ≡ cond b 181 92
+    by : (b : Bool) → 91 + (1 + cond b (length (replacement_result.enc s.last_result)) 0) ≡ cond b 181 92
     by true = ap (λ n. 91 + (1 + n)) (result-long s.last_result h.last_result)
     by false = refl
 

@@ -4,7 +4,7 @@ use Rattle.format.specs.Combinators.{rest}
 use Rattle.format.specs.List.{flag, opt, opt-no, opt_none, opt-some, opt-bad}
 use Rattle.format.specs.Res.Res.{ok, no}
 use Rattle.identity.specs.Answer.{number_of}
-use Rattle.layout.specs.Layout.{result}
+use Rattle.layout.specs.Layout.{replacement_result}
 use Rattle.layout.specs.Parts.{absent_result}
 use Rattle.layout.specs.Reading.{outcome, bool_read, why_of, why_bool}
 use Rattle.layout.specs.ReadingLaws.{got, told, told-not, outcome-ok, outcome-no}
@@ -50,11 +50,11 @@ yes-is c = not-false _ c.if-not-is_some.false-raw
 flagged-yes : (c : Else-not-is_some) → flag.dec (start (at_flag c)).args.bytes.now ≡ ok true (flag-size (at_flag c))
 flagged-yes c = flagged (at_flag c) ∙ ap (λ t. ok t (flag-size (at_flag c))) (yes-is c)
 
-both : (c : After-value-1) → (opt result blank_voter_replacement_result).dec (start (at_flag (at-yes (called c)))).args.bytes.now ≡ ok (true, (called c).read_result-read.result.value) (size c)
+both : (c : After-value-1) → (opt replacement_result blank_voter_replacement_result).dec (start (at_flag (at-yes (called c)))).args.bytes.now ≡ ok (true, (called c).read_result-read.result.value) (size c)
 both c =
     opt-some _ _ _ (flagged-yes (at-yes (called c)))
     (told blank_voter_replacement_result _
-    ((called c).read_result-read.ensures ∙ ap (λ l. outcome blank_voter_replacement_result (result.dec l)) (rest (start (at_flag (at-yes (called c)))).args.bytes.now _))
+    ((called c).read_result-read.ensures ∙ ap (λ l. outcome blank_voter_replacement_result (replacement_result.dec l)) (rest (start (at_flag (at-yes (called c)))).args.bytes.now _))
     c.in-To.is)
 
 pub enum_told-1 : goal.enum_told-1
@@ -70,7 +70,7 @@ returns-then-not-is_some c =
     let f : In-Read = record { before = c.before.before.before; type_inv = record { bytes = c.type_inv.bytes } } in
     let n = flag-size f in
     let t = not-true _ c.if-not-is_some.true-raw in
-    let p : (opt result blank_voter_replacement_result).dec (start f).args.bytes.now ≡ ok (false, blank_voter_replacement_result) n = opt_none _ _ _ (flagged f ∙ ap (λ b. ok b n) t) in
+    let p : (opt replacement_result blank_voter_replacement_result).dec (start f).args.bytes.now ≡ ok (false, blank_voter_replacement_result) n = opt_none _ _ _ (flagged f ∙ ap (λ b. ok b n) t) in
     outcome-ok absent_result (p ∙ (λ i. ok (sym t i, sym c.blank_voter_replacement_result.ensures i) n))
 
 pub slice_bounds-read_result-count : goal.slice_bounds-read_result-count
@@ -84,11 +84,11 @@ returns-in_default-to c =
     outcome-no absent_result (c.refused_optional_result-in_default-to.ensures ∙ ap (λ a. outcome absent_result (no (number_of a))) (c.why.ensures ∙ ap why_of c.in_default-to.is))
     (opt-bad _ _ _ (flagged-yes (at-yes (refused c)))
     (told-not blank_voter_replacement_result _
-    ((refused c).read_result-read.ensures ∙ ap (λ l. outcome blank_voter_replacement_result (result.dec l)) (rest (start (at_flag (at-yes (refused c)))).args.bytes.now _))
+    ((refused c).read_result-read.ensures ∙ ap (λ l. outcome blank_voter_replacement_result (replacement_result.dec l)) (rest (start (at_flag (at-yes (refused c)))).args.bytes.now _))
     c.in_default-to.is))
 
 pub overflow_add-result : goal.overflow_add-result
-overflow_add-result c = record { fits = lt_of_le_of_lt ((opt result blank_voter_replacement_result).within _ (both c)) (start (at_flag (at-yes (called c)))).well_formed.0.0 }
+overflow_add-result c = record { fits = lt_of_le_of_lt ((opt replacement_result blank_voter_replacement_result).within _ (both c)) (start (at_flag (at-yes (called c)))).well_formed.0.0 }
 
 pub returns : goal.returns
 returns c =

@@ -7,7 +7,7 @@ use Rattle.format.specs.Res.Res.{ok, no}
 use Rattle.format.specs.Combinators.{Codec, dep, dep-ok, dep-no-1, dep-no-2, via-ok, via-no, rest}
 use Rattle.records.specs.Blank.{blank_voter_replacement_result}
 use Rattle.layout.specs.Parts.{blank_result_head}
-use Rattle.layout.specs.Layout.{epoch, choice, log_id, result_head, result}
+use Rattle.layout.specs.Layout.{epoch, choice, log_id, result_head, replacement_result}
 use Rattle.layout.specs.Reading.{outcome, log_id_read, u64_read, u8_read, why_log_id, why_of, why_u64, why_u8}
 use Rattle.layout.specs.ReadingLaws.{told, told-not, got, outcome-ok, outcome-no}
 use Rattle.identity.specs.Answer.{number_of}
@@ -152,7 +152,7 @@ pub enum_told-1 : goal.enum_told-1
 enum_told-1 c = search rules
 
 pub returns-in_default : goal.returns-in_default
-unfolding result
+unfolding replacement_result
 returns-in_default c =
     outcome-no _ (c.refused_result.ensures ∙ ap (λ a. outcome blank_voter_replacement_result (no (number_of a))) (c.why.ensures ∙ ap why_of c.in_default.is))
     (via-no _ _ _ _ _ (dep-no-1 _ _ _ (dep-no-1 _ _ _ (dep-no-1 _ _ _ (told-not blank_result_head _ (refused-head c).read_result_head-head_read.ensures c.in_default.is)))))
@@ -164,7 +164,7 @@ pub slice_bounds-read_epoch-start : goal.slice_bounds-read_epoch-start
 slice_bounds-read_epoch-start c = to-head.within _ (got-head c)
 
 pub returns-in_default-configuration_epoch_read : goal.returns-in_default-configuration_epoch_read
-unfolding result
+unfolding replacement_result
 returns-in_default-configuration_epoch_read c =
     outcome-no _ (c.refused_result-in_default-configuration_epoch_read.ensures ∙ ap (λ a. outcome blank_voter_replacement_result (no (number_of a))) (c.why_u64.ensures ∙ ap why_u64 c.in_default-configuration_epoch_read.is))
     (via-no _ _ _ _ _ (dep-no-1 _ _ _ (dep-no-1 _ _ _ (dep-no-2 _ _ _ (got-head (after-head (refused-configuration-epoch c)))
@@ -182,7 +182,7 @@ pub slice_bounds-read_choice-start : goal.slice_bounds-read_choice-start
 slice_bounds-read_choice-start c = to-configuration-epoch.within _ (got-configuration-epoch c)
 
 pub returns-in_default-kind_read : goal.returns-in_default-kind_read
-unfolding result
+unfolding replacement_result
 returns-in_default-kind_read c =
     outcome-no _ (c.refused_result-in_default-kind_read.ensures ∙ ap (λ a. outcome blank_voter_replacement_result (no (number_of a))) (c.why_u8.ensures ∙ ap why_u8 c.in_default-kind_read.is))
     (via-no _ _ _ _ _ (dep-no-1 _ _ _ (dep-no-2 _ _ _ (got-configuration-epoch (after-configuration-epoch (refused-kind c)))
@@ -200,7 +200,7 @@ pub slice_bounds-read_log_id-start : goal.slice_bounds-read_log_id-start
 slice_bounds-read_log_id-start c = to-kind.within _ (got-kind c)
 
 pub returns-in_default-terminal_read : goal.returns-in_default-terminal_read
-unfolding result
+unfolding replacement_result
 returns-in_default-terminal_read c =
     outcome-no _ (c.refused_result-in_default-terminal_read.ensures ∙ ap (λ a. outcome blank_voter_replacement_result (no (number_of a))) (c.why_log_id.ensures ∙ ap why_log_id c.in_default-terminal_read.is))
     (via-no _ _ _ _ _ (dep-no-2 _ _ _ (got-kind (after-kind (refused-terminal c)))
@@ -212,7 +212,7 @@ pub overflow_add-result : goal.overflow_add-result
 overflow_add-result c = record { fits = lt_of_le_of_lt (to-terminal.within _ (got-terminal c)) (start-terminal (called-terminal c)).well_formed.0.0 }
 
 pub returns : goal.returns
-unfolding result
+unfolding replacement_result
 returns c =
     outcome-ok _ (via-ok _ _ _ _ _ (got-terminal (record { before = c.before.before; type_inv = record { bytes = c.type_inv.bytes } }))
     ∙ ap (λ v. ok v (size-to-terminal (record { before = c.before.before; type_inv = record { bytes = c.type_inv.bytes } }))) (sym c.result_of.ensures))

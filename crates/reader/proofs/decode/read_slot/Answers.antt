@@ -9,7 +9,7 @@ use Rattle.format.specs.Combinators.{Codec, dep, dep-ok, dep-no-1, dep-no-2, via
 use Rattle.records.specs.Blank.{blank_voter_replacement_result, blank_voter_slot_record}
 use Rattle.layout.specs.Parts.{absent_result, blank_slot_member}
 use Rattle.format.specs.List.{opt}
-use Rattle.layout.specs.Layout.{choice, result, slot_member, slot}
+use Rattle.layout.specs.Layout.{choice, replacement_result, slot_member, slot}
 use Rattle.layout.specs.Reading.{outcome, u8_read, why_of, why_u8}
 use Rattle.layout.specs.ReadingLaws.{told, told-not, got, outcome-ok, outcome-no}
 use Rattle.identity.specs.Answer.{number_of}
@@ -26,7 +26,7 @@ abbrev to-phase : Codec (SlotMember × ℕ)
 to-phase = dep to-head (λ a. choice 0 2)
 
 abbrev to-last-result : Codec ((SlotMember × ℕ) × (Bool × VoterReplacementResult))
-to-last-result = dep to-phase (λ a. opt result blank_voter_replacement_result)
+to-last-result = dep to-phase (λ a. opt replacement_result blank_voter_replacement_result)
 
 -- the call that reads each field, from after the field and from after its refusal; the place after a field, from the call that reads the next
 abbrev called-head : After-head-1 → After-read_slot_member-head_read
@@ -112,7 +112,7 @@ got-last-result : (c : After-last_result-1)
 got-last-result c =
     dep-ok _ _ _ (got-phase (after-phase (called-last-result c)))
     (told absent_result _
-    ((called-last-result c).read_optional_result-last_result_read.ensures ∙ ap (λ l. outcome absent_result ((opt result blank_voter_replacement_result).dec l)) (rest (start-last-result (called-last-result c)).args.bytes.now _))
+    ((called-last-result c).read_optional_result-last_result_read.ensures ∙ ap (λ l. outcome absent_result ((opt replacement_result blank_voter_replacement_result).dec l)) (rest (start-last-result (called-last-result c)).args.bytes.now _))
     c.in-To-last_result_to.is)
 
 pub enum_told-1 : goal.enum_told-1
@@ -154,7 +154,7 @@ returns-in_default-last_result_to c =
     outcome-no _ (c.refused_slot-in_default-last_result_to.ensures ∙ ap (λ a. outcome blank_voter_slot_record (no (number_of a))) (c.why-in_default-last_result_to.ensures ∙ ap why_of c.in_default-last_result_to.is))
     (via-no _ _ _ _ _ (dep-no-2 _ _ _ (got-phase (after-phase (refused-last-result c)))
     (told-not absent_result _
-    ((refused-last-result c).read_optional_result-last_result_read.ensures ∙ ap (λ l. outcome absent_result ((opt result blank_voter_replacement_result).dec l)) (rest (start-last-result (refused-last-result c)).args.bytes.now _))
+    ((refused-last-result c).read_optional_result-last_result_read.ensures ∙ ap (λ l. outcome absent_result ((opt replacement_result blank_voter_replacement_result).dec l)) (rest (start-last-result (refused-last-result c)).args.bytes.now _))
     c.in_default-last_result_to.is)))
 
 pub overflow_add-result : goal.overflow_add-result

@@ -7,7 +7,7 @@ use Rattle.format.specs.Combinators.{dep, via, check}
 use Rattle.format.specs.Num.{uint}
 use Rattle.format.specs.Put.{Put, then, room, room-left, length-put}
 use Rattle.layout.specs.Parts.{result_head_of}
-use Rattle.layout.specs.Layout.{epoch, choice, log_id, result_head, result}
+use Rattle.layout.specs.Layout.{epoch, choice, log_id, result_head, replacement_result}
 use Rattle.records.specs.declared.records.VoterReplacementResult.{VoterReplacementResult}
 use Rattle.writer.proofs.encode.put_result.Goals as goal
 use Rattle.writer.proofs.encode.put_result.Goals.{After-put_be-at, After-put_be-at-2, After-put_log_id, After-put_result_head-at, Start}
@@ -27,7 +27,7 @@ e4 x = e3 x ++ log_id.enc x.terminal
 
 -- there is room for all of it, and so for each part
 room4 : (c : Start) → c.args.at + length (e4 c.args.res) ≤ length c.args.buffer.now
-unfolding result epoch choice via dep check
+unfolding replacement_result epoch choice via dep check
 room4 c = c.requires
 
 room3 : (c : Start) → c.args.at + length (e3 c.args.res) ≤ length c.args.buffer.now
@@ -81,5 +81,5 @@ pub shape_of-buffer : goal.shape_of-buffer
 shape_of-buffer c = ap length (wrote4 c.before.before.before).bytes ∙ length-put _ _ _ (room4 (start4 c.before.before.before))
 
 pub returns : goal.returns
-unfolding result epoch choice via dep check
+unfolding replacement_result epoch choice via dep check
 returns c = wrote4 c.before.before.before

@@ -9,7 +9,7 @@ use Rattle.format.specs.List.{opt}
 use Rattle.format.specs.Put.{Put, then, room, room-left, length-put}
 use Rattle.records.specs.Blank.{blank_voter_replacement_result}
 use Rattle.layout.specs.Parts.{slot_member_of}
-use Rattle.layout.specs.Layout.{choice, result, slot_member, slot}
+use Rattle.layout.specs.Layout.{choice, replacement_result, slot_member, slot}
 use Rattle.records.specs.declared.records.VoterSlotRecord.{VoterSlotRecord}
 use Rattle.writer.proofs.encode.put_slot.Goals as goal
 use Rattle.writer.proofs.encode.put_slot.Goals.{After-put_be-at, After-put_optional_result, After-put_slot_member-at, Start}
@@ -22,7 +22,7 @@ abbrev e2 : VoterSlotRecord → List ℕ
 e2 x = e1 x ++ (uint 1).enc x.phase
 
 abbrev e3 : VoterSlotRecord → List ℕ
-e3 x = e2 x ++ (opt result blank_voter_replacement_result).enc (x.has_last_result, x.last_result)
+e3 x = e2 x ++ (opt replacement_result blank_voter_replacement_result).enc (x.has_last_result, x.last_result)
 
 -- there is room for all of it, and so for each part
 room3 : (c : Start) → c.args.at + length (e3 c.args.slot) ≤ length c.args.buffer.now
@@ -30,7 +30,7 @@ unfolding slot choice via dep check
 room3 c = c.requires
 
 room2 : (c : Start) → c.args.at + length (e2 c.args.slot) ≤ length c.args.buffer.now
-room2 c = room-left (e2 c.args.slot) ((opt result blank_voter_replacement_result).enc (c.args.slot.has_last_result, c.args.slot.last_result)) _ _ (room3 c)
+room2 c = room-left (e2 c.args.slot) ((opt replacement_result blank_voter_replacement_result).enc (c.args.slot.has_last_result, c.args.slot.last_result)) _ _ (room3 c)
 
 room1 : (c : Start) → c.args.at + length (e1 c.args.slot) ≤ length c.args.buffer.now
 room1 c = room-left (e1 c.args.slot) ((uint 1).enc c.args.slot.phase) _ _ (room2 c)
