@@ -42,7 +42,7 @@ class Function:
         self.places = {}
         for place, new, arms, typed in zip(table['places'], table['places_by_name'], table['arms'], table['typed']):
             old, parent, step, callee, facts = place
-            self.places[norm(old)] = {'new': new, 'parent': parent and norm(parent), 'step': step, 'facts': dict(facts), 'arms': arms, 'typed': typed}
+            self.places[norm(old)] = {'new': new, 'parent': parent and norm(parent), 'step': step, 'callee': callee, 'facts': dict(facts), 'arms': arms, 'typed': typed}
 
         for name, place in self.places.items():
             place['last'] = name
@@ -78,11 +78,12 @@ class Function:
 
 
 class Turner:
-    def __init__(self, function, crate, path, text, clauses):
-        self.clauses = clauses
+    def __init__(self, function, crate, path, text, head):
+        self.clauses, self.parameters = head
         self.f, self.crate, self.path, self.text = function, crate, path, text
         self.used, self.said, self.shared = set(), [], []
         self.returns = {}  # a helper of the file: the place that it gives
+        self.takes = {}  # and the place that it takes
 
     def say(self, what):
         self.said.append('%s: %s' % (self.path, what))
@@ -104,7 +105,11 @@ class Turner:
             m = re.match(r'\.(\w+)', rest)
             if m and m[1] in self.f.args:
                 rest = '.' + self.f.args[m[1]] + rest[m.end():]
+            elif m and re.fullmatch(r't\d+', m[1]) and int(m[1][1:]) <= len(self.parameters):
+                rest = '.' + self.parameters[int(m[1][1:]) - 1] + rest[m.end():]
             return '.args' + rest
+        if key == 'pre':
+            key, word = 'requires', 'requires'
         if key == 'requires' and len(self.clauses) > 1:
             for n, clause in enumerate(self.clauses):
                 old = '.1' * n + ('.0' if n < len(self.clauses) - 1 else '')
@@ -139,6 +144,11 @@ class Turner:
             to = facts.get(m[1], m[1])
             to = here['facts'].get(to, to)
             rest = '.' + to + rest[m.end():]
+        m = re.match(r'\.(?:now|new)\.(\d+)', rest)
+        if m and here.get('callee'):
+            names = references(here['callee'])
+            if int(m[1]) < len(names):
+                rest = '.new.' + names[int(m[1])] + rest[m.end():]
         m = re.match(r'\.(type-inv|now|inv)(?![\w-])', rest)
         if m:
             rest = '.' + {'type-inv': 'type_inv', 'now': 'new', 'inv': 'invariant'}[m[1]] + rest[m.end():]
@@ -163,7 +173,7 @@ class Turner:
         fields = '; '.join('%s = %s' % (f, re.sub(r"(?<![\w.'-])c\.", base + '.', term)) for f, term in views[new])
         return '(record { before = %s; type_inv = record { %s } })' % (raw, fields)
 
-    def turn_path(self, spot, head, tail):
+    def turn_path(self, spot, head, tail, wanted=None):
         """`head` has the spot (the place that the proof takes it for, its own place); tail is a run of fields."""
         fields = re.findall(r'\.[A-Za-z0-9_][A-Za-z0-9_\'₀-₉\-]*', tail)
         n = 0
@@ -177,12 +187,14 @@ class Turner:
             return head + '.before' * n + self.step(None, fields[n][1:], ''.join(fields[n + 1:])), None
         at = self.f.parent(spot[0], n)
         if n == len(fields):
+            if wanted in self.f.places and self.f.climb(spot[1], wanted) is not None:
+                at = wanted
             return self.value(head, spot[1], at), at
         if at is None:
             self.say('no place for %s%s' % (head, tail))
         return head + self.step(at, fields[n][1:], ''.join(fields[n + 1:])), None
 
-    def turn_body(self, body, env):
+    def turn_body(self, body, env, gives=None):
         """Turns the paths of a body: `x.before.f`, `(helper ..).f`; env has the spots of its variables."""
         env = dict(env)
         alias = {}
@@ -207,6 +219,10 @@ class Turner:
                         alias[name] = base
                         env[name] = (at, spot[1])
                         continue
+                    for helper, place in self.takes.items():
+                        if re.search(r"(?<![\w.'-])" + re.escape(helper) + r" \(?" + re.escape(name) + r"(?![\w.'-])", body[i:]) and self.f.climb(spot[1], place) is not None:
+                            at = place
+                            break
                     value = self.value(base, spot[1], at)
                     env[name] = (at, at)
                     alias.pop(name, None)
@@ -248,7 +264,11 @@ class Turner:
             base = alias.get(word, word)
             if p and word not in ('Rattle', 'mathlib', 'Prim', 'borrow', 'native', 'lib'):
                 if spot or '.before' in p[0] or word == 'c':
-                    result += self.turn_path(spot, base, p[0])[0]
+                    before = re.search(r"(" + WORD + r") \(?$", result)
+                    wanted = self.takes.get(before[1]) if before else None
+                    if gives and re.fullmatch(r'\s*', result) and re.fullmatch(r'\s*', body[p.end():]):
+                        wanted = gives
+                    result += self.turn_path(spot, base, p[0], wanted)[0]
                 else:
                     result += word + p[0]
                 i = p.end()
@@ -261,13 +281,36 @@ class Turner:
                 result += word
         return result
 
+    def turn_block(self, text, env):
+        """A helper, or a module of helpers; one that only leads to a place goes by that place."""
+        lead = re.compile(r"(?m)^( *)(" + WORD + r")((?: " + WORD + r")*) = ((?:" + WORD + r")(?:\.before)+)$")
+        out, at = '', 0
+        for m in lead.finditer(text):
+            out += self.turn_body(text[at:m.start()], env)
+            gives = self.returns.get(m[2])
+            out += '%s%s%s = %s' % (m[1], m[2], m[3], self.turn_body(m[4], env, gives))
+            at = m.end()
+        return out + self.turn_body(text[at:], env)
+
     def spot(self, name):
         place = self.returns.get(name)
         return place and (place, place)
 
 
+def references(callee):
+    """The parameters of a function that are references."""
+    crate, *inner, name = callee.split('::')
+    for path in sorted(glob.glob('crates/%s/src/**/*.rt' % crate, recursive=True)):
+        if inner and os.path.basename(path)[:-3] != inner[0] and len(glob.glob('crates/%s/src/*.rt' % crate)) > 1:
+            continue
+        m = re.search(r'fn ' + name + r'\((.*?)\)\s*(?:->|\n|\{)', open(path, encoding='utf-8').read(), re.S)
+        if m:
+            return re.findall(r'(\w+): &', m[1])
+    return []
+
+
 def clauses_of(crate, rel):
-    """The names of the clauses that the function requires."""
+    """The names of the clauses that the function requires, and of its parameters."""
     name = rel.split('/')[-1]
     for path in sorted(glob.glob('crates/%s/src/**/*.rt' % crate, recursive=True)):
         stem = os.path.basename(path)[:-3]
@@ -275,8 +318,8 @@ def clauses_of(crate, rel):
             continue
         m = re.search(r'(?m)^ *(?:pub )?(?:extern "C" )?fn ' + name + r'\b.*?^ *\{', open(path, encoding='utf-8').read(), re.S)
         if m:
-            return re.findall(r'(?m)^ *requires (\w+) \{', m[0])
-    return []
+            return re.findall(r'(?m)^ *requires (\w+) \{', m[0]), re.findall(r'(?m)(?:[(,]\s*)(?:mut )?(self|\w+)(?=[:,)])', m[0].split('->')[0])
+    return [], []
 
 
 def views_of(folder, crate, rel):
@@ -378,6 +421,12 @@ def turn(crate, rel, table, text, path, views):
             result = re.search(r'tie\.(' + WORD + r')(?: (?:invariant|decreases)-[\w-]+)*$', m[2].strip())
             if result and not result[1].startswith(('Need-', 'invariant', 'decreases')):
                 t.returns[m[1]] = norm(result[1])
+            taken = re.match(r'(?:\(' + WORD + r' : )?tie\.(' + WORD + r')(?: (?:invariant|decreases)-[\w-]+)*\)?\s*→', m[2].strip())
+            if taken:
+                t.takes[m[1]] = norm(taken[1])
+        for m in re.finditer(r'(?m)^module _ \(' + WORD + r' : tie\.(' + WORD + r')(?: (?:invariant|decreases)-[\w-]+)*\) where\n((?:  .*\n|\n)*)', p + '\n'):
+            for d in re.findall(r'(?m)^  (?:abbrev )?(' + WORD + r') :', m[2]):
+                t.takes.setdefault(d, norm(m[1]))
     invariants, answers = [], []
     for p in rest:
         if p is spec or 'tie.spec' in p:
@@ -450,7 +499,7 @@ def turn(crate, rel, table, text, path, views):
         # name : tie.P → .. with an equation `name c = ..`
         for d in re.finditer(r'(?m)^ *(?:abbrev )?(?:pub )?(' + WORD + r') : tie\.(' + WORD + r')(?: (?:invariant|decreases)-[\w-]+)*\s+→(?:[^\n]|\n(?= +→))*\n(?:unfolding[^\n]*\n)?\s*\1 (' + WORD + r')', p):
             env[d[3]] = (norm(d[2]), norm(d[2]))
-        answers.append(note + t.turn_body(p, env))
+        answers.append(note + t.turn_block(p, env))
     first = []
     moved = True
     while moved:

@@ -60,7 +60,8 @@ def format_of_results():
     for path in antt_files() + glob.glob('crates/*/src/**/*.rt', recursive=True):
         text = open(path, encoding='utf-8').read()
         if cites.search(text) or path == 'crates/layout/specs/Layout.antt':
-            open(path, 'w', encoding='utf-8').write(re.sub(bare, 'replacement_result', text))
+            text = re.sub(bare, 'replacement_result', text)
+        open(path, 'w', encoding='utf-8').write(re.sub(r'\blayout\.result\b', 'layout.replacement_result', text))
 
 
 def main():

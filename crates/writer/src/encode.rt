@@ -191,8 +191,8 @@ fn put_result_head(buffer: &mut [u8], at: usize, res: VoterReplacementResult) ->
 
 // A receipt.
 fn put_result(buffer: &mut [u8], at: usize, res: VoterReplacementResult) -> usize
-    requires { at + length ((layout.result).enc res) ≤ length buffer.old }
-    ensures { Put ((layout.result).enc res) at buffer.old buffer.new result }
+    requires { at + length ((layout.replacement_result).enc res) ≤ length buffer.old }
+    ensures { Put ((layout.replacement_result).enc res) at buffer.old buffer.new result }
 {
     let at = put_result_head(buffer, at, res);
     let at = put_be(buffer, at, U64_SIZE, res.configuration_epoch);
@@ -208,8 +208,8 @@ fn put_optional_result(
     is_some: bool,
     res: VoterReplacementResult,
 ) -> usize
-    requires { at + length ((opt layout.result blank_voter_replacement_result).enc (is_some, res)) ≤ length buffer.old }
-    ensures { Put ((opt layout.result blank_voter_replacement_result).enc (is_some, res)) at buffer.old buffer.new result }
+    requires { at + length ((opt layout.replacement_result blank_voter_replacement_result).enc (is_some, res)) ≤ length buffer.old }
+    ensures { Put ((opt layout.replacement_result blank_voter_replacement_result).enc (is_some, res)) at buffer.old buffer.new result }
 {
     let at = put_flag(buffer, at, is_some);
     if is_some {

@@ -60,23 +60,23 @@ unfolding members
 returns-in_default c =
     let l = (turn (refused c)).loop-i in
     outcome-no blank_voter_slot_members (c.refused_members.ensures ∙ ap (λ a. outcome blank_voter_slot_members (no (number_of a))) (c.why.ensures ∙ ap why_of c.in_default.is))
-    (padded-no _ _ _ _ _ _ (vec-refused _ _ _ _ _ (turn (refused c)).loop-i-test.true l.inv.1
+    (padded-no _ _ _ _ _ _ (vec-refused _ _ _ _ _ (turn (refused c)).loop-i-test.true l.invariant.1
     (told-not blank_voter_slot_member _ ((refused c).read_member-read.ensures ∙ ap (λ l. outcome blank_voter_slot_member (member.dec l)) (rest (start (turn (refused c))).args.bytes.now l.at)) c.in_default.is)))
 
 pub overflow_add-at : goal.overflow_add-at
 overflow_add-at c =
     let t = turn (called (record { before = c.before.before; type_inv = record { bytes = c.shared_slice_known-1.given } })) in
-    record { fits = lt_of_le_of_lt ((vec member blank_voter_slot_member _).within _ (vec-next member blank_voter_slot_member _ _ t.before.loop-i.invariant.1 (one_more (record { before = c.before.before; type_inv = record { bytes = c.shared_slice_known-1.given } })))) (start t).good.0.0 }
+    record { fits = lt_of_le_of_lt ((vec member blank_voter_slot_member _).within _ (vec-next member blank_voter_slot_member _ _ t.before.loop-i.invariant.1 (one_more (record { before = c.before.before; type_inv = record { bytes = c.shared_slice_known-1.given } })))) (start t).well_formed.0.0 }
 
 pub loop-i-preserved : goal.loop-i-preserved
 loop-i-preserved c =
     let l = (turn (called (record { before = c.before.before; type_inv = record { bytes = c.shared_slice_known-1.given } }))).loop-i in
     let m = (called (record { before = c.before.before; type_inv = record { bytes = c.shared_slice_known-1.given } })).read_member-read.result.value in (
       omega arith,
-      vec-next member blank_voter_slot_member _ _ l.inv.1 (one_more (record { before = c.before.before; type_inv = record { bytes = c.shared_slice_known-1.given } }))
-          ∙ ap (λ v. ok v (l.at + c.in-To.n)) (sym (filled_more l.value l.i m (omega (arith, l.inv.3)))),
-      unfilled-more l.value _ l.i m l.inv.2,
-      length-set l.value l.i m ∙ l.inv.3,
+      vec-next member blank_voter_slot_member _ _ l.invariant.1 (one_more (record { before = c.before.before; type_inv = record { bytes = c.shared_slice_known-1.given } }))
+          ∙ ap (λ v. ok v (l.at + c.in-To.n)) (sym (filled_more l.value l.i m (omega (arith, l.invariant.3)))),
+      unfilled-more l.value _ l.i m l.invariant.2,
+      length-set l.value l.i m ∙ l.invariant.3,
     )
 
 pub returns : goal.returns

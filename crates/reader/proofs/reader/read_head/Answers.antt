@@ -67,5 +67,5 @@ unfolding magic_and_version head_test pick
 returns c =
     let k = after-number (record { before = c.before.before; type_inv = record { bytes = c.shared_slice_known-5-1.given } }) in
     let p = magic-bytes (input k) (omega arith) ∙ not-false _ c.if-not-bytes.false-raw in
-    let q = eq-eqb k.number.given.0.0 1 c.if-value-ne-VERSION.false in
+    let q = eq-eqb k.in-Read.value 1 c.if-value-ne-VERSION.false in
     sym (via-ok _ _ _ _ _ (checked-ok _ _ _ (is k) (λ i. pick (p i) (pick (q i) 0 4) 6)))

@@ -52,16 +52,16 @@ abbrev start4 : After-put_claims_end → Start
 start4 c = start3 c.before.before.before.before
 
 -- what was written after each put
-wrote1 : (c : After-put_claims_request-at) → Put (e1 (start1 c).args.claims) (start1 c).args.at (start1 c).args.buffer.now c.put_claims_request-at.new.0 c.put_claims_request-at.result
+wrote1 : (c : After-put_claims_request-at) → Put (e1 (start1 c).args.claims) (start1 c).args.at (start1 c).args.buffer.now c.put_claims_request-at.new.buffer c.put_claims_request-at.result
 wrote1 c = c.put_claims_request-at.ensures
 
-wrote2 : (c : After-put_claims_slot-at) → Put (e2 (start2 c).args.claims) (start2 c).args.at (start2 c).args.buffer.now c.put_claims_slot-at.new.0 c.put_claims_slot-at.result
+wrote2 : (c : After-put_claims_slot-at) → Put (e2 (start2 c).args.claims) (start2 c).args.at (start2 c).args.buffer.now c.put_claims_slot-at.new.buffer c.put_claims_slot-at.result
 wrote2 c = then _ (wrote1 c.before.before.before.before) (room2 (start2 c)) c.put_claims_slot-at.ensures
 
-wrote3 : (c : After-put_claims_names-at) → Put (e3 (start3 c).args.claims) (start3 c).args.at (start3 c).args.buffer.now c.put_claims_names-at.new.0 c.put_claims_names-at.result
+wrote3 : (c : After-put_claims_names-at) → Put (e3 (start3 c).args.claims) (start3 c).args.at (start3 c).args.buffer.now c.put_claims_names-at.new.buffer c.put_claims_names-at.result
 wrote3 c = then _ (wrote2 c.before.before.before.before) (room3 (start3 c)) c.put_claims_names-at.ensures
 
-wrote4 : (c : After-put_claims_end) → Put (e4 (start4 c).args.claims) (start4 c).args.at (start4 c).args.buffer.now c.put_claims_end.new.0 c.put_claims_end.result
+wrote4 : (c : After-put_claims_end) → Put (e4 (start4 c).args.claims) (start4 c).args.at (start4 c).args.buffer.now c.put_claims_end.new.buffer c.put_claims_end.result
 wrote4 c = then _ (wrote3 c.before.before.before.before) (room4 (start4 c)) c.put_claims_end.ensures
 
 pub put_claims_request-at-requires : goal.put_claims_request-at-requires

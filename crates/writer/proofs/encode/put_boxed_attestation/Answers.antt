@@ -36,10 +36,10 @@ abbrev start2 : After-put_attestation → Start
 start2 c = start1 c.before.before.before.before
 
 -- what was written after each put
-wrote1 : (c : After-put_be-at) → Put (e1 (start1 c).args.claims) (start1 c).args.at (start1 c).args.buffer.now c.put_be-at.new.0 c.put_be-at.result
+wrote1 : (c : After-put_be-at) → Put (e1 (start1 c).args.claims) (start1 c).args.at (start1 c).args.buffer.now c.put_be-at.new.buffer c.put_be-at.result
 wrote1 c = put_is (ap (uint 2).enc c.attestation_size.ensures) c.put_be-at.ensures
 
-wrote2 : (c : After-put_attestation) → Put (e2 (start2 c).args.claims) (start2 c).args.at (start2 c).args.buffer.now c.put_attestation.new.0 c.put_attestation.result
+wrote2 : (c : After-put_attestation) → Put (e2 (start2 c).args.claims) (start2 c).args.at (start2 c).args.buffer.now c.put_attestation.new.buffer c.put_attestation.result
 wrote2 c = then _ (wrote1 c.before.before.before.before) (room2 (start2 c)) c.put_attestation.ensures
 
 pub put_be-at-requires : goal.put_be-at-requires

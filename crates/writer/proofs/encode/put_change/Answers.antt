@@ -43,13 +43,13 @@ abbrev start3 : After-put_be → Start
 start3 c = start2 c.before.before.before.before.before
 
 -- what was written after each put
-wrote1 : (c : After-put_configuration-at) → Put (e1 (start1 c).args.operation) (start1 c).args.at (start1 c).args.buffer.now c.put_configuration-at.new.0 c.put_configuration-at.result
+wrote1 : (c : After-put_configuration-at) → Put (e1 (start1 c).args.operation) (start1 c).args.at (start1 c).args.buffer.now c.put_configuration-at.new.buffer c.put_configuration-at.result
 wrote1 c = c.put_configuration-at.ensures
 
-wrote2 : (c : After-put_configuration-at-2) → Put (e2 (start2 c).args.operation) (start2 c).args.at (start2 c).args.buffer.now c.put_configuration-at-2.new.0 c.put_configuration-at-2.result
+wrote2 : (c : After-put_configuration-at-2) → Put (e2 (start2 c).args.operation) (start2 c).args.at (start2 c).args.buffer.now c.put_configuration-at-2.new.buffer c.put_configuration-at-2.result
 wrote2 c = then _ (wrote1 c.before.before.before.before.before) (room2 (start2 c)) c.put_configuration-at-2.ensures
 
-wrote3 : (c : After-put_be) → Put (e3 (start3 c).args.operation) (start3 c).args.at (start3 c).args.buffer.now c.put_be.new.0 c.put_be.result
+wrote3 : (c : After-put_be) → Put (e3 (start3 c).args.operation) (start3 c).args.at (start3 c).args.buffer.now c.put_be.new.buffer c.put_be.result
 wrote3 c = then _ (wrote2 c.before.before.before.before.before) (room3 (start3 c)) c.put_be.ensures
 
 pub put_configuration-at-requires : goal.put_configuration-at-requires

@@ -44,38 +44,38 @@ abbrev start1 : After-put_be-at → Start
 start1 c = c.before.before.before
 
 abbrev start2 : After-put_bytes-at → Start
-start2 c = start1 c.before.before.before.before.before.before.before
+start2 c = start1 c.before.before.before.before.before.before
 
 abbrev start3 : After-put_times-at → Start
 start3 c = start2 c.before.before.before.before
 
 abbrev start4 : After-put_bytes → Start
-start4 c = start3 c.before.before.before.before.before.before.before
+start4 c = start3 c.before.before.before.before.before.before
 
 -- what was written after each put
-wrote1 : (c : After-put_be-at) → Put (e1 (start1 c).args.claims) (start1 c).args.at (start1 c).args.buffer.now c.put_be-at.new.0 c.put_be-at.result
+wrote1 : (c : After-put_be-at) → Put (e1 (start1 c).args.claims) (start1 c).args.at (start1 c).args.buffer.now c.put_be-at.new.buffer c.put_be-at.result
 wrote1 c = c.put_be-at.ensures
 
-wrote2 : (c : After-put_bytes-at) → Put (e2 (start2 c).args.claims) (start2 c).args.at (start2 c).args.buffer.now c.put_bytes-at.new.0 c.put_bytes-at.result
-wrote2 c = then _ (wrote1 c.before.before.before.before.before.before.before) (room2 (start2 c)) c.put_bytes-at.ensures
+wrote2 : (c : After-put_bytes-at) → Put (e2 (start2 c).args.claims) (start2 c).args.at (start2 c).args.buffer.now c.put_bytes-at.new.buffer c.put_bytes-at.result
+wrote2 c = then _ (wrote1 c.before.before.before.before.before.before) (room2 (start2 c)) c.put_bytes-at.ensures
 
-wrote3 : (c : After-put_times-at) → Put (e3 (start3 c).args.claims) (start3 c).args.at (start3 c).args.buffer.now c.put_times-at.new.0 c.put_times-at.result
+wrote3 : (c : After-put_times-at) → Put (e3 (start3 c).args.claims) (start3 c).args.at (start3 c).args.buffer.now c.put_times-at.new.buffer c.put_times-at.result
 wrote3 c = then _ (wrote2 c.before.before.before.before) (room3 (start3 c)) c.put_times-at.ensures
 
-wrote4 : (c : After-put_bytes) → Put (e4 (start4 c).args.claims) (start4 c).args.at (start4 c).args.buffer.now c.put_bytes.new.0 c.put_bytes.result
-wrote4 c = then _ (wrote3 c.before.before.before.before.before.before.before) (room4 (start4 c)) c.put_bytes.ensures
+wrote4 : (c : After-put_bytes) → Put (e4 (start4 c).args.claims) (start4 c).args.at (start4 c).args.buffer.now c.put_bytes.new.buffer c.put_bytes.result
+wrote4 c = then _ (wrote3 c.before.before.before.before.before.before) (room4 (start4 c)) c.put_bytes.ensures
 
 pub put_be-at-requires : goal.put_be-at-requires
 put_be-at-requires c = room1 c.before.before
 
 pub put_bytes-at-requires : goal.put_bytes-at-requires
-put_bytes-at-requires c = room _ (wrote1 c.before.before.before.before.before.before) (room2 (start1 c.before.before.before.before.before.before))
+put_bytes-at-requires c = room _ (wrote1 c.before.before.before.before.before) (room2 (start1 c.before.before.before.before.before))
 
 pub put_times-at-requires : goal.put_times-at-requires
 put_times-at-requires c = room _ (wrote2 c.before.before.before) (room3 (start2 c.before.before.before))
 
 pub put_bytes-requires : goal.put_bytes-requires
-put_bytes-requires c = room _ (wrote3 c.before.before.before.before.before.before) (room4 (start3 c.before.before.before.before.before.before))
+put_bytes-requires c = room _ (wrote3 c.before.before.before.before.before) (room4 (start3 c.before.before.before.before.before))
 
 pub shape_of-buffer : goal.shape_of-buffer
 shape_of-buffer c = ap length (wrote4 c.before.before.before).bytes ∙ length-put _ _ _ (room4 (start4 c.before.before.before))

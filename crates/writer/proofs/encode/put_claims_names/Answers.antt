@@ -49,20 +49,20 @@ abbrev start3 : After-put_spiffe_id-at-2 → Start
 start3 c = start2 c.before.before.before.before.before
 
 abbrev start4 : After-put_bytes → Start
-start4 c = start3 c.before.before.before.before.before.before.before
+start4 c = start3 c.before.before.before.before.before.before
 
 -- what was written after each put
-wrote1 : (c : After-put_be-at) → Put (e1 (start1 c).args.claims) (start1 c).args.at (start1 c).args.buffer.now c.put_be-at.new.0 c.put_be-at.result
+wrote1 : (c : After-put_be-at) → Put (e1 (start1 c).args.claims) (start1 c).args.at (start1 c).args.buffer.now c.put_be-at.new.buffer c.put_be-at.result
 wrote1 c = c.put_be-at.ensures
 
-wrote2 : (c : After-put_spiffe_id-at) → Put (e2 (start2 c).args.claims) (start2 c).args.at (start2 c).args.buffer.now c.put_spiffe_id-at.new.0 c.put_spiffe_id-at.result
+wrote2 : (c : After-put_spiffe_id-at) → Put (e2 (start2 c).args.claims) (start2 c).args.at (start2 c).args.buffer.now c.put_spiffe_id-at.new.buffer c.put_spiffe_id-at.result
 wrote2 c = then _ (wrote1 c.before.before.before.before.before) (room2 (start2 c)) c.put_spiffe_id-at.ensures
 
-wrote3 : (c : After-put_spiffe_id-at-2) → Put (e3 (start3 c).args.claims) (start3 c).args.at (start3 c).args.buffer.now c.put_spiffe_id-at-2.new.0 c.put_spiffe_id-at-2.result
+wrote3 : (c : After-put_spiffe_id-at-2) → Put (e3 (start3 c).args.claims) (start3 c).args.at (start3 c).args.buffer.now c.put_spiffe_id-at-2.new.buffer c.put_spiffe_id-at-2.result
 wrote3 c = then _ (wrote2 c.before.before.before.before.before) (room3 (start3 c)) c.put_spiffe_id-at-2.ensures
 
-wrote4 : (c : After-put_bytes) → Put (e4 (start4 c).args.claims) (start4 c).args.at (start4 c).args.buffer.now c.put_bytes.new.0 c.put_bytes.result
-wrote4 c = then _ (wrote3 c.before.before.before.before.before.before.before) (room4 (start4 c)) c.put_bytes.ensures
+wrote4 : (c : After-put_bytes) → Put (e4 (start4 c).args.claims) (start4 c).args.at (start4 c).args.buffer.now c.put_bytes.new.buffer c.put_bytes.result
+wrote4 c = then _ (wrote3 c.before.before.before.before.before.before) (room4 (start4 c)) c.put_bytes.ensures
 
 pub put_be-at-requires : goal.put_be-at-requires
 put_be-at-requires c = room1 c.before.before
@@ -74,7 +74,7 @@ pub put_spiffe_id-at-requires-2 : goal.put_spiffe_id-at-requires-2
 put_spiffe_id-at-requires-2 c = (room _ (wrote2 c.before.before.before.before) (room3 (start2 c.before.before.before.before)), (start2 c.before.before.before.before).requires.1.1)
 
 pub put_bytes-requires : goal.put_bytes-requires
-put_bytes-requires c = room _ (wrote3 c.before.before.before.before.before.before) (room4 (start3 c.before.before.before.before.before.before))
+put_bytes-requires c = room _ (wrote3 c.before.before.before.before.before) (room4 (start3 c.before.before.before.before.before))
 
 pub shape_of-buffer : goal.shape_of-buffer
 shape_of-buffer c = ap length (wrote4 c.before.before.before).bytes ∙ length-put _ _ _ (room4 (start4 c.before.before.before))

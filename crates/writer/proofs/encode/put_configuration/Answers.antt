@@ -43,13 +43,13 @@ abbrev start3 : After-put_members → Start
 start3 c = start2 c.before.before.before.before.before
 
 -- what was written after each put
-wrote1 : (c : After-put_be-at) → Put (e1 (start1 c).args.configuration) (start1 c).args.at (start1 c).args.buffer.now c.put_be-at.new.0 c.put_be-at.result
+wrote1 : (c : After-put_be-at) → Put (e1 (start1 c).args.configuration) (start1 c).args.at (start1 c).args.buffer.now c.put_be-at.new.buffer c.put_be-at.result
 wrote1 c = c.put_be-at.ensures
 
-wrote2 : (c : After-put_be-at-2) → Put (e2 (start2 c).args.configuration) (start2 c).args.at (start2 c).args.buffer.now c.put_be-at-2.new.0 c.put_be-at-2.result
+wrote2 : (c : After-put_be-at-2) → Put (e2 (start2 c).args.configuration) (start2 c).args.at (start2 c).args.buffer.now c.put_be-at-2.new.buffer c.put_be-at-2.result
 wrote2 c = then _ (wrote1 c.before.before.before.before) (room2 (start2 c)) c.put_be-at-2.ensures
 
-wrote3 : (c : After-put_members) → Put (e3 (start3 c).args.configuration) (start3 c).args.at (start3 c).args.buffer.now c.put_members.new.0 c.put_members.result
+wrote3 : (c : After-put_members) → Put (e3 (start3 c).args.configuration) (start3 c).args.at (start3 c).args.buffer.now c.put_members.new.buffer c.put_members.result
 wrote3 c = then _ (wrote2 c.before.before.before.before.before) (room3 (start3 c)) c.put_members.ensures
 
 pub put_be-at-requires : goal.put_be-at-requires

@@ -55,16 +55,16 @@ abbrev start4 : After-put_three_cuts → Start
 start4 c = start3 c.before.before.before.before.before
 
 -- what was written after each put
-wrote1 : (c : After-put_log_id-at) → Put (e1 (start1 c).args.evidence) (start1 c).args.at (start1 c).args.buffer.now c.put_log_id-at.new.0 c.put_log_id-at.result
+wrote1 : (c : After-put_log_id-at) → Put (e1 (start1 c).args.evidence) (start1 c).args.at (start1 c).args.buffer.now c.put_log_id-at.new.buffer c.put_log_id-at.result
 wrote1 c = c.put_log_id-at.ensures
 
-wrote2 : (c : After-put_optional_snapshot-at) → Put (e2 (start2 c).args.evidence) (start2 c).args.at (start2 c).args.buffer.now c.put_optional_snapshot-at.new.0 c.put_optional_snapshot-at.result
+wrote2 : (c : After-put_optional_snapshot-at) → Put (e2 (start2 c).args.evidence) (start2 c).args.at (start2 c).args.buffer.now c.put_optional_snapshot-at.new.buffer c.put_optional_snapshot-at.result
 wrote2 c = then _ (wrote1 c.before.before.before.before.before) (room2 (start2 c)) c.put_optional_snapshot-at.ensures
 
-wrote3 : (c : After-put_three_cuts-at) → Put (e3 (start3 c).args.evidence) (start3 c).args.at (start3 c).args.buffer.now c.put_three_cuts-at.new.0 c.put_three_cuts-at.result
+wrote3 : (c : After-put_three_cuts-at) → Put (e3 (start3 c).args.evidence) (start3 c).args.at (start3 c).args.buffer.now c.put_three_cuts-at.new.buffer c.put_three_cuts-at.result
 wrote3 c = then _ (wrote2 c.before.before.before.before.before) (room3 (start3 c)) (put_is (ap three_cuts.enc c.early_cuts-early.ensures) c.put_three_cuts-at.ensures)
 
-wrote4 : (c : After-put_three_cuts) → Put (e4 (start4 c).args.evidence) (start4 c).args.at (start4 c).args.buffer.now c.put_three_cuts.new.0 c.put_three_cuts.result
+wrote4 : (c : After-put_three_cuts) → Put (e4 (start4 c).args.evidence) (start4 c).args.at (start4 c).args.buffer.now c.put_three_cuts.new.buffer c.put_three_cuts.result
 wrote4 c = then _ (wrote3 c.before.before.before.before.before) (room4 (start4 c)) (put_is (ap three_cuts.enc c.late_cuts-late.ensures) c.put_three_cuts.ensures)
 
 pub put_log_id-at-requires : goal.put_log_id-at-requires

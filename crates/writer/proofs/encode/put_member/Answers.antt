@@ -34,10 +34,10 @@ abbrev start2 : After-put_binding → Start
 start2 c = start1 c.before.before.before.before
 
 -- what was written after each put
-wrote1 : (c : After-put_identity-at) → Put (e1 (start1 c).args.member) (start1 c).args.at (start1 c).args.buffer.now c.put_identity-at.new.0 c.put_identity-at.result
+wrote1 : (c : After-put_identity-at) → Put (e1 (start1 c).args.member) (start1 c).args.at (start1 c).args.buffer.now c.put_identity-at.new.buffer c.put_identity-at.result
 wrote1 c = c.put_identity-at.ensures
 
-wrote2 : (c : After-put_binding) → Put (e2 (start2 c).args.member) (start2 c).args.at (start2 c).args.buffer.now c.put_binding.new.0 c.put_binding.result
+wrote2 : (c : After-put_binding) → Put (e2 (start2 c).args.member) (start2 c).args.at (start2 c).args.buffer.now c.put_binding.new.buffer c.put_binding.result
 wrote2 c = then _ (wrote1 c.before.before.before.before) (room2 (start2 c)) c.put_binding.ensures
 
 pub put_identity-at-requires : goal.put_identity-at-requires

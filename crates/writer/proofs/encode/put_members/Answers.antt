@@ -38,9 +38,9 @@ more c =
     let i = c.loop-i.i in
     omega (
       arith,
-      firsts-within member blank_voter_slot_member (i + 1) a.count a.t3 (omega arith),
+      firsts-within member blank_voter_slot_member (i + 1) a.count a.places (omega arith),
       ap length (one_more c),
-      ap length (members-firsts a.count a.t3),
+      ap length (members-firsts a.count a.places),
       (start c).requires.0,
     )
 
@@ -77,4 +77,4 @@ returns c =
     let a = c.args in
     let l = c.loop-i in
     let e : l.i ≡ a.count = omega arith in
-    put_is (ap (λ n. firsts member blank_voter_slot_member n a.t3) e ∙ sym (members-firsts a.count a.t3)) l.invariant.1
+    put_is (ap (λ n. firsts member blank_voter_slot_member n a.places) e ∙ sym (members-firsts a.count a.places)) l.invariant.1

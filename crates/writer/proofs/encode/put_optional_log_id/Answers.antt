@@ -31,7 +31,7 @@ room2 : (c : Then-optional) → (start1 c).args.at + length (flag.enc (start1 c)
 unfolding optional_log_id via
 room2 c = room-is _ _ (opt-some log_id blank_voter_slot_log_id (start1 c).args.optional.cut (start1 c).args.optional.is_some c.if-optional.true) (start1 c).requires
 
-wrote2 : (c : After-put_log_id) → Put (flag.enc (start2 c).args.optional.is_some ++ log_id.enc (start2 c).args.optional.cut) (start2 c).args.at (start2 c).args.buffer.now c.put_log_id.new.0 c.put_log_id.result
+wrote2 : (c : After-put_log_id) → Put (flag.enc (start2 c).args.optional.is_some ++ log_id.enc (start2 c).args.optional.cut) (start2 c).args.at (start2 c).args.buffer.now c.put_log_id.new.buffer c.put_log_id.result
 wrote2 c = then _ c.put_flag-at.ensures (room2 (record { before = c.before.before.before; type_inv = record { buffer = c.slice_known-2-1.given } })) c.put_log_id.ensures
 
 pub put_flag-at-requires : goal.put_flag-at-requires

@@ -29,7 +29,7 @@ room1 c = room-left (flag.enc c.args.is_some) ((either c.args.is_some replacemen
 room2 : (c : Then-is_some) → (start1 c).args.at + length (flag.enc (start1 c).args.is_some ++ replacement_result.enc (start1 c).args.res) ≤ length (start1 c).args.buffer.now
 room2 c = room-is _ _ (opt-some replacement_result blank_voter_replacement_result (start1 c).args.res (start1 c).args.is_some c.if-is_some.true) (start1 c).requires
 
-wrote2 : (c : After-put_result) → Put (flag.enc (start2 c).args.is_some ++ replacement_result.enc (start2 c).args.res) (start2 c).args.at (start2 c).args.buffer.now c.put_result.new.0 c.put_result.result
+wrote2 : (c : After-put_result) → Put (flag.enc (start2 c).args.is_some ++ replacement_result.enc (start2 c).args.res) (start2 c).args.at (start2 c).args.buffer.now c.put_result.new.buffer c.put_result.result
 wrote2 c = then _ c.put_flag-at.ensures (room2 (record { before = c.before.before; type_inv = record { buffer = c.slice_known-2-1.given } })) c.put_result.ensures
 
 pub put_flag-at-requires : goal.put_flag-at-requires

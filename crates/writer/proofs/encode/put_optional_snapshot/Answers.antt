@@ -29,7 +29,7 @@ room1 c = room-left (flag.enc c.args.is_some) ((either c.args.is_some snapshot (
 room2 : (c : Then-is_some) → (start1 c).args.at + length (flag.enc (start1 c).args.is_some ++ snapshot.enc (start1 c).args.snapshot) ≤ length (start1 c).args.buffer.now
 room2 c = room-is _ _ (opt-some snapshot blank_voter_snapshot_evidence (start1 c).args.snapshot (start1 c).args.is_some c.if-is_some.true) (start1 c).requires.0
 
-wrote2 : (c : After-put_snapshot) → Put (flag.enc (start2 c).args.is_some ++ snapshot.enc (start2 c).args.snapshot) (start2 c).args.at (start2 c).args.buffer.now c.put_snapshot.new.0 c.put_snapshot.result
+wrote2 : (c : After-put_snapshot) → Put (flag.enc (start2 c).args.is_some ++ snapshot.enc (start2 c).args.snapshot) (start2 c).args.at (start2 c).args.buffer.now c.put_snapshot.new.buffer c.put_snapshot.result
 wrote2 c = then _ c.put_flag-at.ensures (room2 (record { before = c.before.before; type_inv = record { buffer = c.slice_known-2-1.given } })) c.put_snapshot.ensures
 
 pub put_flag-at-requires : goal.put_flag-at-requires

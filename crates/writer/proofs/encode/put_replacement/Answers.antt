@@ -54,16 +54,16 @@ abbrev start4 : After-put_evidence → Start
 start4 c = start3 c.before.before.before.before.before
 
 -- what was written after each put
-wrote1 : (c : After-put_be-at) → Put (e1 (start1 c).args.operation) (start1 c).args.at (start1 c).args.buffer.now c.put_be-at.new.0 c.put_be-at.result
+wrote1 : (c : After-put_be-at) → Put (e1 (start1 c).args.operation) (start1 c).args.at (start1 c).args.buffer.now c.put_be-at.new.buffer c.put_be-at.result
 wrote1 c = c.put_be-at.ensures
 
-wrote2 : (c : After-put_boxed_attestation-at) → Put (e2 (start2 c).args.operation) (start2 c).args.at (start2 c).args.buffer.now c.put_boxed_attestation-at.new.0 c.put_boxed_attestation-at.result
+wrote2 : (c : After-put_boxed_attestation-at) → Put (e2 (start2 c).args.operation) (start2 c).args.at (start2 c).args.buffer.now c.put_boxed_attestation-at.new.buffer c.put_boxed_attestation-at.result
 wrote2 c = then _ (wrote1 c.before.before.before.before.before) (room2 (start2 c)) c.put_boxed_attestation-at.ensures
 
-wrote3 : (c : After-put_change-at) → Put (e3 (start3 c).args.operation) (start3 c).args.at (start3 c).args.buffer.now c.put_change-at.new.0 c.put_change-at.result
+wrote3 : (c : After-put_change-at) → Put (e3 (start3 c).args.operation) (start3 c).args.at (start3 c).args.buffer.now c.put_change-at.new.buffer c.put_change-at.result
 wrote3 c = then _ (wrote2 c.before.before.before.before) (room3 (start3 c)) c.put_change-at.ensures
 
-wrote4 : (c : After-put_evidence) → Put (e4 (start4 c).args.operation) (start4 c).args.at (start4 c).args.buffer.now c.put_evidence.new.0 c.put_evidence.result
+wrote4 : (c : After-put_evidence) → Put (e4 (start4 c).args.operation) (start4 c).args.at (start4 c).args.buffer.now c.put_evidence.new.buffer c.put_evidence.result
 wrote4 c = then _ (wrote3 c.before.before.before.before.before) (room4 (start4 c)) c.put_evidence.ensures
 
 pub put_be-at-requires : goal.put_be-at-requires

@@ -53,16 +53,16 @@ abbrev start4 : After-put_log_id → Start
 start4 c = start3 c.before.before.before.before.before
 
 -- what was written after each put
-wrote1 : (c : After-put_result_head-at) → Put (e1 (start1 c).args.res) (start1 c).args.at (start1 c).args.buffer.now c.put_result_head-at.new.0 c.put_result_head-at.result
+wrote1 : (c : After-put_result_head-at) → Put (e1 (start1 c).args.res) (start1 c).args.at (start1 c).args.buffer.now c.put_result_head-at.new.buffer c.put_result_head-at.result
 wrote1 c = c.put_result_head-at.ensures
 
-wrote2 : (c : After-put_be-at) → Put (e2 (start2 c).args.res) (start2 c).args.at (start2 c).args.buffer.now c.put_be-at.new.0 c.put_be-at.result
+wrote2 : (c : After-put_be-at) → Put (e2 (start2 c).args.res) (start2 c).args.at (start2 c).args.buffer.now c.put_be-at.new.buffer c.put_be-at.result
 wrote2 c = then _ (wrote1 c.before.before.before.before) (room2 (start2 c)) c.put_be-at.ensures
 
-wrote3 : (c : After-put_be-at-2) → Put (e3 (start3 c).args.res) (start3 c).args.at (start3 c).args.buffer.now c.put_be-at-2.new.0 c.put_be-at-2.result
+wrote3 : (c : After-put_be-at-2) → Put (e3 (start3 c).args.res) (start3 c).args.at (start3 c).args.buffer.now c.put_be-at-2.new.buffer c.put_be-at-2.result
 wrote3 c = then _ (wrote2 c.before.before.before.before.before) (room3 (start3 c)) c.put_be-at-2.ensures
 
-wrote4 : (c : After-put_log_id) → Put (e4 (start4 c).args.res) (start4 c).args.at (start4 c).args.buffer.now c.put_log_id.new.0 c.put_log_id.result
+wrote4 : (c : After-put_log_id) → Put (e4 (start4 c).args.res) (start4 c).args.at (start4 c).args.buffer.now c.put_log_id.new.buffer c.put_log_id.result
 wrote4 c = then _ (wrote3 c.before.before.before.before.before) (room4 (start4 c)) c.put_log_id.ensures
 
 pub put_result_head-at-requires : goal.put_result_head-at-requires

@@ -40,10 +40,10 @@ room1 c = room-left (e1 c.args.res) c.args.res.request_digest _ _ (room2 c)
 
 -- where the function began, from after each put
 abbrev start1 : After-put_bytes-at → Start
-start1 c = c.before
+start1 c = c.before.before.before.before.before
 
 abbrev start2 : After-put_bytes-at-2 → Start
-start2 c = start1 c.before.before.before.before.before.before.before
+start2 c = start1 c.before.before.before.before.before.before
 
 abbrev start3 : After-put_be-at → Start
 start3 c = start2 c.before.before.before.before
@@ -52,23 +52,23 @@ abbrev start4 : After-put_be → Start
 start4 c = start3 c.before.before.before.before
 
 -- what was written after each put
-wrote1 : (c : After-put_bytes-at) → Put (e1 (start1 c).args.res) (start1 c).args.at (start1 c).args.buffer.now c.put_bytes-at.new.0 c.put_bytes-at.result
+wrote1 : (c : After-put_bytes-at) → Put (e1 (start1 c).args.res) (start1 c).args.at (start1 c).args.buffer.now c.put_bytes-at.new.buffer c.put_bytes-at.result
 wrote1 c = c.put_bytes-at.ensures
 
-wrote2 : (c : After-put_bytes-at-2) → Put (e2 (start2 c).args.res) (start2 c).args.at (start2 c).args.buffer.now c.put_bytes-at-2.new.0 c.put_bytes-at-2.result
-wrote2 c = then _ (wrote1 c.before.before.before.before.before.before.before) (room2 (start2 c)) c.put_bytes-at-2.ensures
+wrote2 : (c : After-put_bytes-at-2) → Put (e2 (start2 c).args.res) (start2 c).args.at (start2 c).args.buffer.now c.put_bytes-at-2.new.buffer c.put_bytes-at-2.result
+wrote2 c = then _ (wrote1 c.before.before.before.before.before.before) (room2 (start2 c)) c.put_bytes-at-2.ensures
 
-wrote3 : (c : After-put_be-at) → Put (e3 (start3 c).args.res) (start3 c).args.at (start3 c).args.buffer.now c.put_be-at.new.0 c.put_be-at.result
+wrote3 : (c : After-put_be-at) → Put (e3 (start3 c).args.res) (start3 c).args.at (start3 c).args.buffer.now c.put_be-at.new.buffer c.put_be-at.result
 wrote3 c = then _ (wrote2 c.before.before.before.before) (room3 (start3 c)) c.put_be-at.ensures
 
-wrote4 : (c : After-put_be) → Put (e4 (start4 c).args.res) (start4 c).args.at (start4 c).args.buffer.now c.put_be.new.0 c.put_be.result
+wrote4 : (c : After-put_be) → Put (e4 (start4 c).args.res) (start4 c).args.at (start4 c).args.buffer.now c.put_be.new.buffer c.put_be.result
 wrote4 c = then _ (wrote3 c.before.before.before.before) (room4 (start4 c)) c.put_be.ensures
 
 pub put_bytes-at-requires : goal.put_bytes-at-requires
-put_bytes-at-requires c = room1 c.before
+put_bytes-at-requires c = room1 c.before.before.before.before
 
 pub put_bytes-at-requires-2 : goal.put_bytes-at-requires-2
-put_bytes-at-requires-2 c = room _ (wrote1 c.before.before.before.before.before.before) (room2 (start1 c.before.before.before.before.before.before))
+put_bytes-at-requires-2 c = room _ (wrote1 c.before.before.before.before.before) (room2 (start1 c.before.before.before.before.before))
 
 pub put_be-at-requires : goal.put_be-at-requires
 put_be-at-requires c = room _ (wrote2 c.before.before.before) (room3 (start2 c.before.before.before))

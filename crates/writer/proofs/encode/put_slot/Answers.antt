@@ -46,13 +46,13 @@ abbrev start3 : After-put_optional_result → Start
 start3 c = start2 c.before.before.before.before.before
 
 -- what was written after each put
-wrote1 : (c : After-put_slot_member-at) → Put (e1 (start1 c).args.slot) (start1 c).args.at (start1 c).args.buffer.now c.put_slot_member-at.new.0 c.put_slot_member-at.result
+wrote1 : (c : After-put_slot_member-at) → Put (e1 (start1 c).args.slot) (start1 c).args.at (start1 c).args.buffer.now c.put_slot_member-at.new.buffer c.put_slot_member-at.result
 wrote1 c = c.put_slot_member-at.ensures
 
-wrote2 : (c : After-put_be-at) → Put (e2 (start2 c).args.slot) (start2 c).args.at (start2 c).args.buffer.now c.put_be-at.new.0 c.put_be-at.result
+wrote2 : (c : After-put_be-at) → Put (e2 (start2 c).args.slot) (start2 c).args.at (start2 c).args.buffer.now c.put_be-at.new.buffer c.put_be-at.result
 wrote2 c = then _ (wrote1 c.before.before.before.before.before) (room2 (start2 c)) c.put_be-at.ensures
 
-wrote3 : (c : After-put_optional_result) → Put (e3 (start3 c).args.slot) (start3 c).args.at (start3 c).args.buffer.now c.put_optional_result.new.0 c.put_optional_result.result
+wrote3 : (c : After-put_optional_result) → Put (e3 (start3 c).args.slot) (start3 c).args.at (start3 c).args.buffer.now c.put_optional_result.new.buffer c.put_optional_result.result
 wrote3 c = then _ (wrote2 c.before.before.before.before.before) (room3 (start3 c)) c.put_optional_result.ensures
 
 pub put_slot_member-at-requires : goal.put_slot_member-at-requires

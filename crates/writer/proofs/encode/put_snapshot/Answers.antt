@@ -40,17 +40,17 @@ abbrev start2 : After-put_snapshot_id-at → Start
 start2 c = start1 c.before.before.before.before.before
 
 abbrev start3 : After-put_bytes → Start
-start3 c = start2 c.before.before.before.before.before.before.before
+start3 c = start2 c.before.before.before.before.before.before
 
 -- what was written after each put
-wrote1 : (c : After-put_log_id-at) → Put (e1 (start1 c).args.snapshot) (start1 c).args.at (start1 c).args.buffer.now c.put_log_id-at.new.0 c.put_log_id-at.result
+wrote1 : (c : After-put_log_id-at) → Put (e1 (start1 c).args.snapshot) (start1 c).args.at (start1 c).args.buffer.now c.put_log_id-at.new.buffer c.put_log_id-at.result
 wrote1 c = c.put_log_id-at.ensures
 
-wrote2 : (c : After-put_snapshot_id-at) → Put (e2 (start2 c).args.snapshot) (start2 c).args.at (start2 c).args.buffer.now c.put_snapshot_id-at.new.0 c.put_snapshot_id-at.result
+wrote2 : (c : After-put_snapshot_id-at) → Put (e2 (start2 c).args.snapshot) (start2 c).args.at (start2 c).args.buffer.now c.put_snapshot_id-at.new.buffer c.put_snapshot_id-at.result
 wrote2 c = then _ (wrote1 c.before.before.before.before.before) (room2 (start2 c)) c.put_snapshot_id-at.ensures
 
-wrote3 : (c : After-put_bytes) → Put (e3 (start3 c).args.snapshot) (start3 c).args.at (start3 c).args.buffer.now c.put_bytes.new.0 c.put_bytes.result
-wrote3 c = then _ (wrote2 c.before.before.before.before.before.before.before) (room3 (start3 c)) c.put_bytes.ensures
+wrote3 : (c : After-put_bytes) → Put (e3 (start3 c).args.snapshot) (start3 c).args.at (start3 c).args.buffer.now c.put_bytes.new.buffer c.put_bytes.result
+wrote3 c = then _ (wrote2 c.before.before.before.before.before.before) (room3 (start3 c)) c.put_bytes.ensures
 
 pub put_log_id-at-requires : goal.put_log_id-at-requires
 put_log_id-at-requires c = room1 c.before.before.before
@@ -59,7 +59,7 @@ pub put_snapshot_id-at-requires : goal.put_snapshot_id-at-requires
 put_snapshot_id-at-requires c = (room _ (wrote1 c.before.before.before.before) (room2 (start1 c.before.before.before.before)), (start1 c.before.before.before.before).requires.1)
 
 pub put_bytes-requires : goal.put_bytes-requires
-put_bytes-requires c = room _ (wrote2 c.before.before.before.before.before.before) (room3 (start2 c.before.before.before.before.before.before))
+put_bytes-requires c = room _ (wrote2 c.before.before.before.before.before) (room3 (start2 c.before.before.before.before.before))
 
 pub shape_of-buffer : goal.shape_of-buffer
 shape_of-buffer c = ap length (wrote3 c.before.before.before).bytes ∙ length-put _ _ _ (room3 (start3 c.before.before.before))

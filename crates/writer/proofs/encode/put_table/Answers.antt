@@ -64,19 +64,19 @@ abbrev start5 : After-put_optional_replacement → Start
 start5 c = start4 c.before.before.before.before.before
 
 -- what was written after each put
-wrote1 : (c : After-put_head-at) → Put (e1 (start1 c).args.table) (start1 c).args.at (start1 c).args.buffer.now c.put_head-at.new.0 c.put_head-at.result
+wrote1 : (c : After-put_head-at) → Put (e1 (start1 c).args.table) (start1 c).args.at (start1 c).args.buffer.now c.put_head-at.new.buffer c.put_head-at.result
 wrote1 c = c.put_head-at.ensures
 
-wrote2 : (c : After-put_table_head-at) → Put (e2 (start2 c).args.table) (start2 c).args.at (start2 c).args.buffer.now c.put_table_head-at.new.0 c.put_table_head-at.result
+wrote2 : (c : After-put_table_head-at) → Put (e2 (start2 c).args.table) (start2 c).args.at (start2 c).args.buffer.now c.put_table_head-at.new.buffer c.put_table_head-at.result
 wrote2 c = then _ (wrote1 c.before.before.before.before) (room2 (start2 c)) c.put_table_head-at.ensures
 
-wrote3 : (c : After-put_be-at) → Put (e3 (start3 c).args.table) (start3 c).args.at (start3 c).args.buffer.now c.put_be-at.new.0 c.put_be-at.result
+wrote3 : (c : After-put_be-at) → Put (e3 (start3 c).args.table) (start3 c).args.at (start3 c).args.buffer.now c.put_be-at.new.buffer c.put_be-at.result
 wrote3 c = then _ (wrote2 c.before.before.before.before) (room3 (start3 c)) c.put_be-at.ensures
 
-wrote4 : (c : After-put_slots-at) → Put (e4 (start4 c).args.table) (start4 c).args.at (start4 c).args.buffer.now c.put_slots-at.new.0 c.put_slots-at.result
+wrote4 : (c : After-put_slots-at) → Put (e4 (start4 c).args.table) (start4 c).args.at (start4 c).args.buffer.now c.put_slots-at.new.buffer c.put_slots-at.result
 wrote4 c = then _ (wrote3 c.before.before.before.before.before) (room4 (start4 c)) c.put_slots-at.ensures
 
-wrote5 : (c : After-put_optional_replacement) → Put (e5 (start5 c).args.table) (start5 c).args.at (start5 c).args.buffer.now c.put_optional_replacement.new.0 c.put_optional_replacement.result
+wrote5 : (c : After-put_optional_replacement) → Put (e5 (start5 c).args.table) (start5 c).args.at (start5 c).args.buffer.now c.put_optional_replacement.new.buffer c.put_optional_replacement.result
 wrote5 c = then _ (wrote4 c.before.before.before.before.before) (room5 (start5 c)) c.put_optional_replacement.ensures
 
 pub put_head-at-requires : goal.put_head-at-requires

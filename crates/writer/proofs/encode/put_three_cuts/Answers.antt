@@ -42,13 +42,13 @@ abbrev start3 : After-put_optional_log_id → Start
 start3 c = start2 c.before.before.before.before.before
 
 -- what was written after each put
-wrote1 : (c : After-put_optional_log_id-at) → Put (e1 (start1 c).args.cuts) (start1 c).args.at (start1 c).args.buffer.now c.put_optional_log_id-at.new.0 c.put_optional_log_id-at.result
+wrote1 : (c : After-put_optional_log_id-at) → Put (e1 (start1 c).args.cuts) (start1 c).args.at (start1 c).args.buffer.now c.put_optional_log_id-at.new.buffer c.put_optional_log_id-at.result
 wrote1 c = c.put_optional_log_id-at.ensures
 
-wrote2 : (c : After-put_optional_log_id-at-2) → Put (e2 (start2 c).args.cuts) (start2 c).args.at (start2 c).args.buffer.now c.put_optional_log_id-at-2.new.0 c.put_optional_log_id-at-2.result
+wrote2 : (c : After-put_optional_log_id-at-2) → Put (e2 (start2 c).args.cuts) (start2 c).args.at (start2 c).args.buffer.now c.put_optional_log_id-at-2.new.buffer c.put_optional_log_id-at-2.result
 wrote2 c = then _ (wrote1 c.before.before.before.before.before) (room2 (start2 c)) c.put_optional_log_id-at-2.ensures
 
-wrote3 : (c : After-put_optional_log_id) → Put (e3 (start3 c).args.cuts) (start3 c).args.at (start3 c).args.buffer.now c.put_optional_log_id.new.0 c.put_optional_log_id.result
+wrote3 : (c : After-put_optional_log_id) → Put (e3 (start3 c).args.cuts) (start3 c).args.at (start3 c).args.buffer.now c.put_optional_log_id.new.buffer c.put_optional_log_id.result
 wrote3 c = then _ (wrote2 c.before.before.before.before.before) (room3 (start3 c)) c.put_optional_log_id.ensures
 
 pub put_optional_log_id-at-requires : goal.put_optional_log_id-at-requires

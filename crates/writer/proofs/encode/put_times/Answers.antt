@@ -52,16 +52,16 @@ abbrev start4 : After-put_be → Start
 start4 c = start3 c.before.before.before.before
 
 -- what was written after each put
-wrote1 : (c : After-put_be-at) → Put (e1 (start1 c).args.claims) (start1 c).args.at (start1 c).args.buffer.now c.put_be-at.new.0 c.put_be-at.result
+wrote1 : (c : After-put_be-at) → Put (e1 (start1 c).args.claims) (start1 c).args.at (start1 c).args.buffer.now c.put_be-at.new.buffer c.put_be-at.result
 wrote1 c = c.put_be-at.ensures
 
-wrote2 : (c : After-put_be-at-2) → Put (e2 (start2 c).args.claims) (start2 c).args.at (start2 c).args.buffer.now c.put_be-at-2.new.0 c.put_be-at-2.result
+wrote2 : (c : After-put_be-at-2) → Put (e2 (start2 c).args.claims) (start2 c).args.at (start2 c).args.buffer.now c.put_be-at-2.new.buffer c.put_be-at-2.result
 wrote2 c = then _ (wrote1 c.before.before.before.before) (room2 (start2 c)) c.put_be-at-2.ensures
 
-wrote3 : (c : After-put_be-at-3) → Put (e3 (start3 c).args.claims) (start3 c).args.at (start3 c).args.buffer.now c.put_be-at-3.new.0 c.put_be-at-3.result
+wrote3 : (c : After-put_be-at-3) → Put (e3 (start3 c).args.claims) (start3 c).args.at (start3 c).args.buffer.now c.put_be-at-3.new.buffer c.put_be-at-3.result
 wrote3 c = then _ (wrote2 c.before.before.before.before) (room3 (start3 c)) c.put_be-at-3.ensures
 
-wrote4 : (c : After-put_be) → Put (e4 (start4 c).args.claims) (start4 c).args.at (start4 c).args.buffer.now c.put_be.new.0 c.put_be.result
+wrote4 : (c : After-put_be) → Put (e4 (start4 c).args.claims) (start4 c).args.at (start4 c).args.buffer.now c.put_be.new.buffer c.put_be.result
 wrote4 c = then _ (wrote3 c.before.before.before.before) (room4 (start4 c)) c.put_be.ensures
 
 pub put_be-at-requires : goal.put_be-at-requires

@@ -26,22 +26,22 @@ start-evidence c = start-attestation c.before
 predecessor-is : (c : After-configuration_size-2) → c.configuration_size.result ≡ configuration_size (start c).args.operation.predecessor
 predecessor-is c =
     let s = start c in
-    c.configuration_size.ensures ∙ configuration-long s.args.operation.predecessor (held s).predecessor s.pre.predecessor
+    c.configuration_size.ensures ∙ configuration-long s.args.operation.predecessor (held s).predecessor s.requires.predecessor
 
 successor-is : (c : After-configuration_size-2) → c.configuration_size-2.result ≡ configuration_size (start c).args.operation.successor
 successor-is c =
     let s = start c in
-    c.configuration_size-2.ensures ∙ configuration-long s.args.operation.successor (held s).successor s.pre.successor
+    c.configuration_size-2.ensures ∙ configuration-long s.args.operation.successor (held s).successor s.requires.successor
 
 attestation-is : (c : After-attestation_size) → c.attestation_size.result ≡ attestation_size (start-attestation c).args.operation.attestation
 attestation-is c =
     let s = start-attestation c in
-    c.attestation_size.ensures ∙ claims-long s.args.operation.attestation (held s).attestation s.pre.candidate s.pre.controller
+    c.attestation_size.ensures ∙ claims-long s.args.operation.attestation (held s).attestation s.requires.candidate s.requires.controller
 
 evidence-is : (c : After-evidence_size) → c.evidence_size.result ≡ evidence_size (start-evidence c).args.operation.evidence
 evidence-is c =
     let s = start-evidence c in
-    c.evidence_size.ensures ∙ evidence-long s.args.operation.evidence (held s).evidence s.pre.snapshot
+    c.evidence_size.ensures ∙ evidence-long s.args.operation.evidence (held s).evidence s.requires.snapshot
 
 pub overflow_add-configurations : goal.overflow_add-configurations
 overflow_add-configurations c =
@@ -61,7 +61,7 @@ overflow_add-result-2 c =
 pub overflow_add-result-3 : goal.overflow_add-result-3
 overflow_add-result-3 c =
     let s = start-evidence c in
-    let f = s.pre in
+    let f = s.requires in
     let parts = c.before.before in
     omega (
       arith,
@@ -82,4 +82,4 @@ returns c =
     let s = start-evidence c in
     let parts = ap₂ ◌+◌ (predecessor-is c.before.before) (successor-is c.before.before) in
     ap₂ ◌+◌ (ap₂ (λ m n. 11 + m + n) (attestation-is c.before) parts) (evidence-is c)
-    ∙ sym (replacement-long s.args.operation (held s) s.pre)
+    ∙ sym (replacement-long s.args.operation (held s) s.requires)

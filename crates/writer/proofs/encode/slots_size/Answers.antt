@@ -18,21 +18,16 @@ use Rattle.records.specs.contracts.records.VoterSlotRecord as TheVoterSlotRecord
 use Rattle.writer.specs.Size.{slot_size, slots_size}
 use Rattle.writer.specs.SizeLaws.{slots-long, slots-more, slots-bounds}
 use Rattle.writer.proofs.encode.slots_size.Goals as goal
-use Rattle.writer.proofs.encode.slots_size.Goals.{After-row_known-1}
+use Rattle.writer.proofs.encode.slots_size.Goals.{After-row_known-1, then-places-i, else-places-i}
 
 -- what the logic says of the nine places, as `HeldArray`
-abbrev own : VoterSlotRecord → List Val → Fml
-own x vs = (TheVoterSlotRecord.the_field).row.own_val ((TheVoterSlotRecord.the_field).into x) vs
-
-held-places : (l : List VoterSlotRecord) (vs : List Val) → shadow (in_array VoterSlotRecord own 9 l vs) → HeldArray HeldVoterSlotRecord 9 l
-held-places l vs g =
-    held-array own (λ (x : VoterSlotRecord). x) HeldVoterSlotRecord held-voter-slot-record 9 l vs
-    (subst (λ (k : List VoterSlotRecord). shadow (in_array VoterSlotRecord own 9 k vs)) (sym (map-id l)) g)
+held-places : (l : List VoterSlotRecord) (vs : List Val) → shadow (in_array VoterSlotRecord (TheVoterSlotRecord.the_row).own_val 9 l vs) → HeldArray HeldVoterSlotRecord 9 l
+held-places = held-array (TheVoterSlotRecord.the_row).own_val HeldVoterSlotRecord held-voter-slot-record 9
 
 -- the size of the slot at hand, by the arm that control came by
 slot_is : (c : After-row_known-1) → c.if-places-i.size ≡ slot_size (get_or c.args.places c.loop-i.i no_slot_record)
 slot_is c =
-    ⊎_elim (λ w. w.1 ∙ sym (ap (λ b. cond b 181 92) w.0.taken)) (λ w. w.1 ∙ sym (ap (λ b. cond b 181 92) w.0.left)) c.if-places-i.branch
+    elim c.if-places-i.branch [ then-places-i w ↦ w.size-is ∙ sym (ap (λ b. cond b 181 92) w.if-places-i.true) | else-places-i w ↦ w.size-is ∙ sym (ap (λ b. cond b 181 92) w.if-places-i.false) ]
 
 -- the sizes so far, with it
 more : (c : After-row_known-1) → c.loop-i.size + c.if-places-i.size ≡ slots_size c.args.places (c.loop-i.i + 1)

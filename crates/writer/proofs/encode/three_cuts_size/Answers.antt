@@ -7,20 +7,20 @@ use native.Mathlib.Omega.{arith}
 use Rattle.writer.specs.Size.{cut_size}
 use Rattle.writer.specs.SizeLaws.{three_cuts-long, cut_most}
 use Rattle.writer.proofs.encode.three_cuts_size.Goals as goal
-use Rattle.writer.proofs.encode.three_cuts_size.Goals.{After-row_known-2-1, After-row_known-3-1}
+use Rattle.writer.proofs.encode.three_cuts_size.Goals.{then-cuts, else-cuts, then-cuts-2, else-cuts-2, then-cuts-3, else-cuts-3, After-row_known-2-1, After-row_known-3-1}
 
 -- the size of each cut, by the arm that control came by
 first-is : (c : After-row_known-2-1) → c.if-cuts.first ≡ cut_size c.args.cuts.first
 first-is c =
-    ⊎_elim (λ w. w.1 ∙ sym (ap (λ b. cond b 17 1) w.0.taken)) (λ w. w.1 ∙ sym (ap (λ b. cond b 17 1) w.0.left)) c.if-cuts.branch
+    elim c.if-cuts.branch [ then-cuts w ↦ w.first-is ∙ sym (ap (λ b. cond b 17 1) w.if-cuts.true) | else-cuts w ↦ w.first-is ∙ sym (ap (λ b. cond b 17 1) w.if-cuts.false) ]
 
 second_is : (c : After-row_known-2-1) → c.if-cuts-2.second ≡ cut_size c.args.cuts.second
 second_is c =
-    ⊎_elim (λ w. w.1 ∙ sym (ap (λ b. cond b 17 1) w.0.taken)) (λ w. w.1 ∙ sym (ap (λ b. cond b 17 1) w.0.left)) c.if-cuts-2.branch
+    elim c.if-cuts-2.branch [ then-cuts-2 w ↦ w.second-is ∙ sym (ap (λ b. cond b 17 1) w.if-cuts-2.true) | else-cuts-2 w ↦ w.second-is ∙ sym (ap (λ b. cond b 17 1) w.if-cuts-2.false) ]
 
 third-is : (c : After-row_known-3-1) → c.if-cuts-3.third ≡ cut_size c.args.cuts.third
 third-is c =
-    ⊎_elim (λ w. w.1 ∙ sym (ap (λ b. cond b 17 1) w.0.taken)) (λ w. w.1 ∙ sym (ap (λ b. cond b 17 1) w.0.left)) c.if-cuts-3.branch
+    elim c.if-cuts-3.branch [ then-cuts-3 w ↦ w.third-is ∙ sym (ap (λ b. cond b 17 1) w.if-cuts-3.true) | else-cuts-3 w ↦ w.third-is ∙ sym (ap (λ b. cond b 17 1) w.if-cuts-3.false) ]
 
 pub overflow_add-result : goal.overflow_add-result
 overflow_add-result c =
