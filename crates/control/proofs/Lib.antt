@@ -7,3 +7,5 @@ pub mod ObserveParts
 pub mod Judged3
 pub mod Commands
 pub mod Observations
+pub mod HistoryLaws
+pub mod QuorumLaws

@@ -14,7 +14,6 @@ pub mod FinalizeLaws
 pub mod Held
 pub mod HeldLaws
 pub mod History
-pub mod HistoryLaws
 pub mod Judgement
 pub mod Line
 pub mod LineLaws
@@ -28,7 +27,6 @@ pub mod ObserveSightLaws
 pub mod OpenLaws
 pub mod PlacesLaws
 pub mod Quorum
-pub mod QuorumLaws
 pub mod RefusedLaws
 pub mod Retired
 pub mod RetiredLaws

@@ -15,7 +15,7 @@ use Rattle.std.proofs.lemmas.List.{take-append-le}
 use borrow.Author.Tests.{eqb-true, eqb-false, eq-eqb, ne_eqb, ltb-true, ltb-false, leb-true, leb-false, not-true}
 use Rattle.identity.specs.Answer.{is_accepted}
 use Rattle.identity.specs.Identity.{max_consensus_node_id, from_node_id, node_id, node_id_span, validate_voter_slot_identity, value_of_number}
-use Rattle.identity.specs.IdentityLaws.{identity-sound}
+use Rattle.identity.proofs.IdentityLaws.{identity-sound}
 use Rattle.identity.specs.Text.{every}
 use Rattle.identity.specs.Utf8Laws.{and_left, and_right}
 use Rattle.identity.specs.declared.identity.NumberResult.{NumberResult}

@@ -9,7 +9,7 @@ use Rattle.std.proofs.Common.{sym, ap, ◌∙◌, eq-eqb, le-leb}
 use Rattle.std.proofs.Math.Bool.{true, not}
 use native.Mathlib.Omega.{arith}
 use Rattle.identity.specs.Identity.{is_slot_id, is_voter_incarnation, validate_voter_incarnation, validate_voter_slot_identity, node_id, from_node_id, value_of_number}
-use Rattle.identity.specs.IdentityLaws.{read_made}
+use Rattle.identity.proofs.IdentityLaws.{read_made}
 use Rattle.identity.specs.Answer.{number_of}
 use Rattle.identity.specs.AnswerLaws.{number-injective}
 use Rattle.identity.specs.declared.answer.Answer.{Answer}

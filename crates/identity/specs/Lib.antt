@@ -1,7 +1,6 @@
 pub mod Answer
 pub mod AnswerLaws
 pub mod Identity
-pub mod IdentityLaws
 pub mod Utf8
 pub mod Utf8Laws
 pub mod Text

@@ -30,7 +30,7 @@ use Rattle.control.specs.Control.{record_snapshot_kind, record_caught_up_kind, f
 use Rattle.control.specs.Held.{HeldConsensusIdentity, HeldVoterReplacementStep}
 use Rattle.control.specs.HeldLaws.{no-request, no_step}
 use Rattle.control.specs.History.{after, table_at}
-use Rattle.control.specs.HistoryLaws.{history}
+use Rattle.control.proofs.HistoryLaws.{history}
 use Rattle.journal.specs.declared.replay.Mark.{Mark}
 use Rattle.journal.specs.declared.replay.Mark.TheVariants.{Tb, Mk, Ad, Bg, Ob, Unknown}
 use Rattle.journal.specs.declared.bodies.BeginHead.{BeginHead}

@@ -29,11 +29,11 @@ abbrev start : After-read_table-read → Start
 start c = c.before.before.before.before
 
 abbrev called-read : In-To → After-read_table-read
-called-read c = (record { before = c.before.before; type_inv = record { bytes = c.type_inv.bytes } })
+called-read c = (record { before = c.before.before; type_inv = record { bytes = c.shared_slice_known-1.given } })
 
 -- where the table is known, from after its validity was tested
 abbrev known : After-accepted → In-To
-known c = (record { before = c.before.before.before.before.before; type_inv = record { bytes = c.type_inv.bytes } })
+known c = (record { before = c.before.before.before.before.before; type_inv = record { bytes = c.shared_slice_known-1.given } })
 
 -- the bytes; the table that was read, and how many bytes it takes
 abbrev bytes_of : After-read_table-read → List ℕ
@@ -61,25 +61,25 @@ enum_told-1 c = search rules
 
 pub returns-in_default : goal.returns-in_default
 returns-in_default c =
-    let called : After-read_table-read = record { before = c.before.before.before.before; type_inv = record { bytes = c.type_inv.bytes } } in
+    let called : After-read_table-read = record { before = c.before.before.before.before; type_inv = record { bytes = c.shared_slice_known-1.given } } in
     let refused = c.in_default.is in
     decoded-no _ (c.no_table-in_default.ensures ∙ ap (λ a. decoded blank_voter_slot_table (no (number_of a))) (c.why.ensures ∙ ap why_of refused))
     (decode_no (bytes_of called) (omega arith) (told-not blank_voter_slot_table _ called.read_table-read.ensures refused))
 
 pub returns-then-n-bytes : goal.returns-then-n-bytes
 returns-then-n-bytes c =
-    let k : In-To = record { before = c.before.before.before; type_inv = record { bytes = c.type_inv.bytes } } in
+    let k : In-To = record { before = c.before.before.before; type_inv = record { bytes = c.shared_slice_known-1.given } } in
     decoded-no _ c.no_table-then-n-bytes.ensures (decode-left (bytes_of (called-read k)) (omega arith) (is k) (ne_eqb _ _ c.if-n-bytes.true))
 
 pub validate_representable-answer-requires : goal.validate_representable-answer-requires
 validate_representable-answer-requires c =
-    let k : In-To = record { before = c.before.before.before; type_inv = record { bytes = c.type_inv.bytes } } in
+    let k : In-To = record { before = c.before.before.before; type_inv = record { bytes = c.shared_slice_known-1.given } } in
     let t = table-value k in
-    (table_fits t (table-tests t (table.good _ (bytes (record { before = (called-read k).before.before.before; type_inv = record { bytes = (called-read k).type_inv.bytes } })) (is k)))).count
+    (table_fits t (table-tests t (table.good _ (bytes (record { before = (called-read k).before.before.before; type_inv = record { bytes = (called-read k).shared_slice_known-1.given } })) (is k)))).count
 
 pub returns-then-not-accepted : goal.returns-then-not-accepted
 returns-then-not-accepted c =
-    let tested : After-accepted = record { before = c.before.before.before; type_inv = record { bytes = c.type_inv.bytes } } in
+    let tested : After-accepted = record { before = c.before.before.before; type_inv = record { bytes = c.shared_slice_known-1.given } } in
     let k = known tested in
     let s = bytes_of (called-read k) in
     let t = table-value k in
@@ -93,7 +93,7 @@ returns-then-not-accepted c =
 pub returns : goal.returns
 unfolding gate
 returns c =
-    let tested : After-accepted = record { before = c.before.before; type_inv = record { bytes = c.type_inv.bytes } } in
+    let tested : After-accepted = record { before = c.before.before; type_inv = record { bytes = c.shared_slice_known-1.given } } in
     let k = known tested in
     let s = bytes_of (called-read k) in
     let t = table-value k in

@@ -30,7 +30,7 @@ abbrev table_of : Else-not-accepted → VoterSlotTable
 table_of c = (start c).args.table
 
 abbrev known-valid : After-put_table → Else-not-accepted
-known-valid c = (record { before = c.before.before.before.before; type_inv = record { buffer = ? } })
+known-valid c = (record { before = c.before.before.before.before; type_inv = record { buffer = c.slice_known-1.given } })
 
 -- the table is valid, so its fields fit
 valid : (c : Else-not-accepted) → validate (table_of c) ≡ Accepted
@@ -53,12 +53,12 @@ table_size-requires c = fits c
 pub returns-then-buffer-table_size : goal.returns-then-buffer-table_size
 unfolding outcome table_bytes
 returns-then-buffer-table_size c =
-    let s : Else-not-accepted = record { before = c.before.before.before; type_inv = record { buffer = c.type_inv.buffer } } in
+    let s : Else-not-accepted = record { before = c.before.before.before; type_inv = record { buffer = c.slice_known-1.given } } in
     let b = (start s).args.buffer.now in
     ap (outcome b) (sym (encode-short (table_of s) b (valid s) (omega (arith, c.table_size.ensures))))
 
 pub put_table-requires : goal.put_table-requires
-put_table-requires c = (omega (arith, c.table_size.ensures), fits (record { before = c.before.before.before; type_inv = record { buffer = ? } }))
+put_table-requires c = (omega (arith, c.table_size.ensures), fits (record { before = c.before.before.before; type_inv = record { buffer = c.slice_known-1.given } }))
 
 pub returns : goal.returns
 unfolding table_bytes

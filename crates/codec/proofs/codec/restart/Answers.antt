@@ -52,7 +52,7 @@ buffer-of c = (start c).args.buffer.now
 -- what was written
 written : (c : In-To)
     → encode_voter_slot_table (table_of (called-write c)) (buffer-of (called-write c))
-    ≡ ok (called-write c).encode_voter_slot_table-written.new.0 c.in-To.n
+    ≡ ok (called-write c).encode_voter_slot_table-written.new.buffer c.in-To.n
 written c = told (buffer-of (called-write c)) _ (called-write c).encode_voter_slot_table-written.ensures c.in-To.is
 
 pub enum_told-1 : goal.enum_told-1
@@ -64,12 +64,12 @@ returns-in_default c =
     let called = refused-write c in
     let b = buffer-of called in
     let t = table_of called in
-    let w = called.encode-voter-slot-table.ensures in
+    let w = called.encode_voter_slot_table-written.ensures in
     let refused = c.in_default.is in
     let p = decoded-no blank_voter_slot_table
     (c.no_table.ensures ∙ ap (λ a. decoded blank_voter_slot_table (no (number_of a))) (c.why.ensures ∙ ap why_of refused))
     (restarted-no t b (told-not b _ w refused)) in
-    (λ i. (p i, (w i).1), same t b (held (start called)) _ p)
+    record { outcome = λ i. (p i, (w i).1); same = same t b (held (start called)) _ p }
 
 pub slice_bounds-decode_voter_slot_table-end : goal.slice_bounds-decode_voter_slot_table-end
 slice_bounds-decode_voter_slot_table-end c = encode-within (table_of (called-write c)) (buffer-of (called-write c)) (written c)
@@ -86,5 +86,5 @@ returns c =
     let b = buffer-of called in
     let t = table_of called in
     let p = c.decode_voter_slot_table.ensures ∙ ap (decoded blank_voter_slot_table) (sym (restarted-on t b (written c.before))) in
-    let w = called.encode-voter-slot-table.ensures in
+    let w = called.encode_voter_slot_table-written.ensures in
     record { outcome = λ i. (p i, (w i).1); same = same t b (held (start called)) _ p }

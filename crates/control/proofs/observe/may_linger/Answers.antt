@@ -6,7 +6,7 @@ use native.Mathlib.Omega.{arith}
 use borrow.Author.Rules.{rules}
 use borrow.Author.Tests.{eq-eqb, ne_eqb}
 use Rattle.identity.specs.Identity.{from_node_id}
-use Rattle.identity.specs.IdentityLaws.{identity-told, read-telling}
+use Rattle.identity.proofs.IdentityLaws.{identity-told, read-telling}
 use Rattle.control.specs.Observation.{is_obsolete}
 use Rattle.control.specs.ObserveSets.{no_id}
 use Rattle.control.proofs.observe.may_linger.Goals as goal

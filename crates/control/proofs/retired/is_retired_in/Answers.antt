@@ -3,7 +3,7 @@ use Prim.Native.Nat.{ℕ, ◌≤◌}
 use mathlib.Core.Path.{◌≡◌, ap, sym, subst, ◌∙◌}
 use borrow.Author.Rules.{rules}
 use Rattle.identity.specs.Identity.{from_node_id}
-use Rattle.identity.specs.IdentityLaws.{TellingIdentity, identity-told, read-telling}
+use Rattle.identity.proofs.IdentityLaws.{TellingIdentity, identity-told, read-telling}
 use Rattle.identity.specs.declared.identity.VoterSlotIdentity.{VoterSlotIdentity}
 use Rattle.identity.specs.declared.identity.VoterSlotIdentityResult.{VoterSlotIdentityResult}
 use Rattle.control.specs.Retired.{is_retired_identity}

@@ -5,7 +5,7 @@ use native.Mathlib.Omega.{arith}
 use borrow.Author.Tests.{eq-eqb, ne_eqb}
 use Rattle.identity.specs.AnswerLaws.{refused, passed}
 use Rattle.identity.specs.Answer.{is_accepted}
-use Rattle.identity.specs.IdentityLaws.{incarnation-within}
+use Rattle.identity.proofs.IdentityLaws.{incarnation-within}
 use Rattle.identity.specs.Identity.{validate_voter_incarnation, next_voter_incarnation, number_and_value}
 use Rattle.identity.specs.declared.answer.Answer.{Answer}
 use Rattle.identity.specs.declared.identity.NumberResult.{NumberResult}

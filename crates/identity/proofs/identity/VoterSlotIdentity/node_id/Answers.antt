@@ -4,7 +4,7 @@ use mathlib.Core.Bool.{true}
 use native.Mathlib.Omega.{arith}
 use Rattle.identity.specs.AnswerLaws.{refused, passed}
 use Rattle.identity.specs.Answer.{is_accepted}
-use Rattle.identity.specs.IdentityLaws.{Sound, identity-sound}
+use Rattle.identity.proofs.IdentityLaws.{Sound, identity-sound}
 use Rattle.identity.specs.Identity.{validate_voter_slot_identity, node_id, number_and_value}
 use Rattle.identity.specs.declared.answer.Answer.{Answer}
 use Rattle.identity.specs.declared.identity.NumberResult.{NumberResult}

@@ -49,7 +49,7 @@ use Rattle.control.specs.declared.control.VoterReplacementStep.{VoterReplacement
 use Rattle.control.specs.declared.control.VoterSlotControl.{VoterSlotControl}
 use Rattle.control.specs.Control.Decision.{refuse, keep, change}
 use Rattle.control.specs.Control.{Decision, settle, full, representable_control, advanced, current_configuration, request_check, is_known, known_digest, repeated, open_check, stale_check, candidate_check, full_check, begin_check, begun_operation, begun, begin, record_snapshot, is_catching_up, record_caught_up, record_continuation, fence, target_index, target_slot, finalized_slot, finalized, finalize, is_completed, take_step, advance_open, advance, is_open_request, marker, decide, apply_control, record_snapshot_kind, record_caught_up_kind, record_continuation_kind, fence_kind, finalize_kind, begin_kind, advance_kind}
-use Rattle.control.specs.HistoryLaws.{ValidTable, Every, restart-same, has_room, call-valid, retired-stays}
+use Rattle.control.proofs.HistoryLaws.{ValidTable, Every, restart-same, has_room, call-valid, retired-stays}
 use Rattle.control.specs.History.Call.{command, observation, restart}
 use Rattle.control.specs.History.{Call, with_room, after, table_at}
 use Rattle.control.specs.Observation.{Sight, eq_ids, eq_sets, is_rising, all_rising, insert_id, contains, split_sets, representable_sets, member_node, member_ids_below, member_ids, see, with_target, uniform_seen, raised, keep_or, observed, observe, observe_membership}
