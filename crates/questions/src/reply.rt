@@ -3,6 +3,7 @@ use crate::line;
 use crate::line::Line;
 use crate::question::{Mark, put_mark};
 use identity::answer::Answer;
+use std::io::Print;
 
 #[derive(Clone, Copy)]
 pub enum Reply {
@@ -23,14 +24,14 @@ pub fn number(answer: Answer) -> u64 {
 }
 
 // The first line, before the line of any question.
-pub fn print_heading() {
-    io::write_all(1, b"cases 1\n");
+pub fn print_heading(output: &impl Print) {
+    let _ = output.write_all(b"cases 1\n");
 }
 
 // The line of one question.
-pub fn report(number: u64, mark: Mark, reply: Reply) {
+pub fn report(number: u64, mark: Mark, reply: Reply, output: &impl Print) {
     let line = put_mark(line::new().number(number).byte(b' '), mark);
-    put_reply(line.byte(b' '), reply).byte(b'\n').write();
+    put_reply(line.byte(b' '), reply).byte(b'\n').write(output);
 }
 
 // The line with the reply.
