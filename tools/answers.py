@@ -1,10 +1,11 @@
 #!/usr/bin/env python3
 """Turns the proofs of an older Rattle (Proof.antt) into Invariants.antt and Answers.antt.
 
-usage: python3 tools/answers.py NAMES CRATE [FUNCTION ..]
+usage: python3 tools/answers.py NAMES VIEWS CRATE [FUNCTION ..]
 
 NAMES is the folder that `rt names NAMES` wrote at the top of the repository: the old name of each
-goal, place and step of a proof beside its new one. CRATE is a crate, FUNCTION the path of a proof
+goal, place and step of a proof beside its new one. VIEWS has a folder for each crate, written by
+`rattle check --generated`, or is empty: from it come the facts on types in a place. CRATE is a crate, FUNCTION the path of a proof
 below its proofs/, as text/contains; with none, every Proof.antt is turned that walks by `tie.spec`.
 An answer that only says `search rules` or `omega arith` is left out, since the check tries both.
 What it can't turn it prints, in lines that begin with the file.
@@ -152,12 +153,14 @@ class Turner:
         if n is None or target not in self.f.places:
             self.say('%s does not lead to %s' % (actual, target))
             return base + '.before'
-        raw = base + '.before' * (n + bool(self.f.places[actual]['typed']))
-        typed = self.f.places[target]['typed']
-        if not typed:
+        views = self.f.views
+        if views is None:
+            views = {p['new']: [(field, '?') for field, _ in p['typed']] for p in self.f.places.values() if p['typed']}
+        raw = base + '.before' * (n + (self.f.places[actual]['new'] in views))
+        new = self.f.places[target]['new']
+        if new not in views:
             return raw
-        known = {field for field, _ in self.f.places[actual]['typed']}
-        fields = '; '.join('%s = %s.type_inv.%s' % (f, base, f) if f in known else '%s = ?' % f for f, _ in typed)
+        fields = '; '.join('%s = %s' % (f, re.sub(r"(?<![\w.'-])c\.", base + '.', term)) for f, term in views[new])
         return '(record { before = %s; type_inv = record { %s } })' % (raw, fields)
 
     def turn_path(self, spot, head, tail):
@@ -276,6 +279,24 @@ def clauses_of(crate, rel):
     return []
 
 
+def views_of(folder, crate, rel):
+    """Of each place that is a view, the facts on types that it has, each with its term."""
+    path = '%s/%s/Rattle-%s-proofs/%s/Lts/View.antt' % (folder, crate, crate, rel)
+    if not os.path.exists(path):
+        return None
+    text = open(path, encoding='utf-8').read()
+    found = {name: [] for name in re.findall(r'pub record In-(\S+) :', text)}
+    for m in re.finditer(r'(?<![\w-])typed-(\S+) =\s+λ c\. record \{', text):
+        depth, i = 1, m.end()
+        while depth:
+            depth += (text[i] == '{') - (text[i] == '}')
+            i += 1
+        fields = [x.strip() for x in text[m.end():i - 1].split(';') if x.strip()]
+        if m[1] in found:
+            found[m[1]] = [tuple(re.split(r'\s*=\s*', x, 1)) for x in fields]
+    return found
+
+
 def shadowed(value, mapping):
     """Names by the mapping, but for those that a λ binds, as far as its parentheses go."""
     result, depth, hidden, i = '', 0, [], 0
@@ -311,8 +332,9 @@ def blocks(text):
     return found
 
 
-def turn(crate, rel, table, text, path):
+def turn(crate, rel, table, text, path, views):
     f = Function(table)
+    f.views = views
     t = Turner(f, crate, path, text, clauses_of(crate, rel))
     parts = blocks(text)
     module = 'Rattle.%s.proofs.%s' % (crate, rel.replace('/', '.'))
@@ -521,7 +543,7 @@ def uses_of(uses, body, kind, turner, module):
 
 
 def main(argv):
-    names, crate, only = argv[0], argv[1], argv[2:]
+    names, views, crate, only = argv[0], argv[1], argv[2], argv[3:]
     table = json.load(open('%s/crates/%s/names.json' % (names, crate), encoding='utf-8'))
     for path in sorted(glob.glob('crates/%s/proofs/**/Proof.antt' % crate, recursive=True)):
         rel = path.split('/proofs/', 1)[1][:-len('/Proof.antt')]
@@ -531,7 +553,7 @@ def main(argv):
         if key not in table:
             print(path + ': no names')
             continue
-        inv, ans, said = turn(crate, rel, table[key], open(path, encoding='utf-8').read(), path)
+        inv, ans, said = turn(crate, rel, table[key], open(path, encoding='utf-8').read(), path, views_of(views, crate, rel))
         for line in said:
             print(line)
         if inv is None and ans is None and said and 'does not walk' in said[0]:

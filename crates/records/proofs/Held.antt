@@ -40,17 +40,17 @@ use Rattle.records.specs.contracts.records.VoterReplacementEvidence as TheVoterR
 use Rattle.records.specs.contracts.records.VoterReplacementRecord as TheVoterReplacementRecord
 use Rattle.records.specs.contracts.records.VoterSlotTable as TheVoterSlotTable
 
-module _ {D X : Type 0} (own : D → List Val → Fml) (into : X → D) (P : X → Type 0) (h : (x : X) (vs : List Val) → shadow (own (into x) vs) → P x) where
-  held-list : (xs : List X) (us : List Val) → shadow (each D own (map into xs) us) → AllOf P xs
+module _ {X : Type 0} (own : X → List Val → Fml) (P : X → Type 0) (h : (x : X) (vs : List Val) → shadow (own x vs) → P x) where
+  held-list : (xs : List X) (us : List Val) → shadow (each X own xs us) → AllOf P xs
   held-list [] us g = tt
   held-list (x ∷ xs) [] g = absurd g
   held-list (x ∷ xs) (u ∷ us) g = (h x (u ∷ []) g.0, held-list xs us g.1)
 
-  pub held-array : (n : ℕ) (xs : List X) (vs : List Val) → shadow (in_array D own n (map into xs) vs) → HeldArray P n xs
-  held-array n xs vs g = record { count = sym (length-map xs into) ∙ g.1.0.1; each = held-list xs g.0 g.1.1 }
+  pub held-array : (n : ℕ) (xs : List X) (vs : List Val) → shadow (in_array X own n xs vs) → HeldArray P n xs
+  held-array n xs vs g = record { count = g.1.0.1; each = held-list xs g.0 g.1.1 }
 
-pub held_bytes : (n : ℕ) (l : List ℕ) (vs : List Val) → shadow (in_array ℕ (UInt w8).own_val n (map (λ (x : ℕ). x) l) vs) → HeldBytes n l
-held_bytes n l vs g = held-array (UInt w8).own_val (λ (x : ℕ). x) Byte (λ x us h. h.1) n l vs g
+pub held_bytes : (n : ℕ) (l : List ℕ) (vs : List Val) → shadow (in_array ℕ (UInt w8).own_val n l vs) → HeldBytes n l
+held_bytes n l vs g = held-array (UInt w8).own_val Byte (λ x us h. h.1) n l vs g
 
 pub held-voter-slot-identity : (r : VoterSlotIdentity) (vs : List Val)
     → shadow ((TheVoterSlotIdentity.the_field).row.own_val ((TheVoterSlotIdentity.the_field).into r) vs) → HeldVoterSlotIdentity r
@@ -148,8 +148,7 @@ held-voter-configuration r vs g =
     let f = g.1.1 in
     record {
       epoch = f.0.1;
-      members = held-array (TheVoterSlotMember.the_field).row.own_val (TheVoterSlotMember.the_field).into
-          HeldVoterSlotMember held-voter-slot-member 9 r.members _ f.1.0;
+      members = held-array (TheVoterSlotMember.the_row).own_val HeldVoterSlotMember held-voter-slot-member 9 r.members _ f.1.0;
       count = f.1.1.0.1;
     }
 
@@ -215,8 +214,7 @@ held-voter-slot-table r vs g =
       manifest_digest = held_bytes 32 r.manifest_digest _ f.1.0;
       revision = f.1.1.0.1;
       configuration_epoch = f.1.1.1.0.1;
-      slots = held-array (TheVoterSlotRecord.the_field).row.own_val (TheVoterSlotRecord.the_field).into
-          HeldVoterSlotRecord held-voter-slot-record 9 r.slots _ f.1.1.1.1.0;
+      slots = held-array (TheVoterSlotRecord.the_row).own_val HeldVoterSlotRecord held-voter-slot-record 9 r.slots _ f.1.1.1.1.0;
       count = f.1.1.1.1.1.0.1;
       replacement = held-voter-replacement-record r.replacement _ f.1.1.1.1.1.1.1.0;
     }

@@ -28,13 +28,13 @@ small : (c : At-loop-i) → c.loop-i.i < c.args.width → c.loop-i.value < 2 ^ 5
 small c h = lt_of_lt_of_le c.loop-i.invariant.2 (pow-le-pow_right {n = 256} (lit< tt) {j = 7} (omega (arith, c.requires)))
 
 pub overflow_mul-value : goal.overflow_mul-value
-overflow_mul-value c = omega (arith, small c.before c.loop-i-test.true)
+overflow_mul-value c = omega (arith, small (record { before = c.before.before; type_inv = record { bytes = c.items_fit } }) c.loop-i-test.true)
 
 pub overflow_cast-value : goal.overflow_cast-value
 overflow_cast-value c = omega (arith, c.shared_slice_known-1.given c.loop-i.i)
 
 pub overflow_add-value : goal.overflow_add-value
-overflow_add-value c = omega (arith, small c.before.before.before c.loop-i-test.true, c.shared_slice_known-1.given c.loop-i.i)
+overflow_add-value c = omega (arith, small (record { before = c.before.before.before; type_inv = record { bytes = c.items_fit } }) c.loop-i-test.true, c.shared_slice_known-1.given c.loop-i.i)
 
 pub loop-i-preserved : goal.loop-i-preserved
 loop-i-preserved c =

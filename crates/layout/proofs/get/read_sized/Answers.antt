@@ -23,7 +23,7 @@ abbrev start : In-Read → Start
 start c = c.before.before.before.before
 
 abbrev after-number : Else-bound-size → In-Read
-after-number c = (record { before = c.before.before; type_inv = record { bytes = c.type_inv.bytes } })
+after-number c = (record { before = c.before.before; type_inv = record { bytes = c.shared_slice_known-1.given } })
 
 -- the bytes; the number that was read, and how many bytes it takes
 abbrev bytes_of : In-Read → List ℕ
@@ -54,7 +54,7 @@ returns-in_default c =
 
 pub returns-then-bound-size : goal.returns-then-bound-size
 unfolding sized pick
-returns-then-bound-size c = sym (dep-no-1 _ _ _ (checked-bad _ _ _ (number (record { before = c.before.before; type_inv = record { bytes = c.type_inv.bytes } })) (ap (λ t. pick t 0 5) (lt-leb _ _ c.if-bound-size.true))))
+returns-then-bound-size c = sym (dep-no-1 _ _ _ (checked-bad _ _ _ (number (record { before = c.before.before; type_inv = record { bytes = c.shared_slice_known-1.given } })) (ap (λ t. pick t 0 5) (lt-leb _ _ c.if-bound-size.true))))
 
 pub overflow_sub-bytes : goal.overflow_sub-bytes
 overflow_sub-bytes c = (uint 2).within _ (number (after-number c))
@@ -62,15 +62,15 @@ overflow_sub-bytes c = (uint 2).within _ (number (after-number c))
 pub returns-then-bytes-at : goal.returns-then-bytes-at
 unfolding sized pick
 returns-then-bytes-at c =
-    let n = after-number (record { before = c.before.before; type_inv = record { bytes = c.type_inv.bytes } }) in
+    let n = after-number (record { before = c.before.before; type_inv = record { bytes = c.shared_slice_known-1.given } }) in
     let left = drop (number_size n) (bytes_of n) in
-    sym (dep-no-2 _ _ _ (checked-ok _ _ _ (number n) (ap (λ t. pick t 0 5) (bounded (record { before = c.before.before; type_inv = record { bytes = c.type_inv.bytes } }))))
+    sym (dep-no-2 _ _ _ (checked-ok _ _ _ (number n) (ap (λ t. pick t 0 5) (bounded (record { before = c.before.before; type_inv = record { bytes = c.shared_slice_known-1.given } }))))
     (raw-not _ left (omega (arith, length-drop (number_size n) (bytes_of n)))))
 
 pub returns : goal.returns
 unfolding sized pick
 returns c =
-    let n = after-number (record { before = c.before.before; type_inv = record { bytes = c.type_inv.bytes } }) in
+    let n = after-number (record { before = c.before.before; type_inv = record { bytes = c.shared_slice_known-1.given } }) in
     let left = drop (number_size n) (bytes_of n) in
-    sym (dep-ok _ _ _ (checked-ok _ _ _ (number n) (ap (λ t. pick t 0 5) (bounded (record { before = c.before.before; type_inv = record { bytes = c.type_inv.bytes } }))))
+    sym (dep-ok _ _ _ (checked-ok _ _ _ (number n) (ap (λ t. pick t 0 5) (bounded (record { before = c.before.before; type_inv = record { bytes = c.shared_slice_known-1.given } }))))
     (raw-got (number-value n) left (omega (arith, length-drop (number_size n) (bytes_of n)))))

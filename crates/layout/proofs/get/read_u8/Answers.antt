@@ -28,7 +28,7 @@ returns-in_default c = ap (λ a. no (number_of a)) (c.why_u64.ensures ∙ ap why
 pub overflow_cast-result : goal.overflow_cast-result
 unfolding uint held
 overflow_cast-result c =
-    let small : c.in-Read.value < 256 ^ 1 = (uint 1).good _ (bytes (record { before = c.before.before.before; type_inv = record { bytes = c.type_inv.bytes } })) (is c) in
+    let small : c.in-Read.value < 256 ^ 1 = (uint 1).good _ (bytes (record { before = c.before.before.before; type_inv = record { bytes = c.shared_slice_known-1.given } })) (is c) in
     omega arith
 
 pub returns : goal.returns

@@ -7,7 +7,7 @@ use Rattle.format.specs.Num.{be}
 use Rattle.layout.proofs.put.put_be.Given as goal
 
 abbrev pub invariant-loop-k : goal.invariant-loop-k
-invariant-loop-k l = (l.k ≤ l.value) × (be l.k l.rest ++ drop (l.width + l.k) l.buffer ≡ be l.value l.end ++ drop (l.width + l.value) l.at) × (take l.width l.buffer ≡ take l.width l.at) × (length l.buffer ≡ length l.at)
+invariant-loop-k l = (l.k ≤ l.width) × (be l.k l.rest ++ drop (l.at + l.k) l.buffer ≡ be l.width l.value ++ drop (l.at + l.width) l.initial.buffer) × (take l.at l.buffer ≡ take l.at l.initial.buffer) × (length l.buffer ≡ length l.initial.buffer)
 
 abbrev pub decreases-loop-k : goal.decreases-loop-k
 decreases-loop-k l = l.k

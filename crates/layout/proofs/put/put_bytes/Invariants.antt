@@ -6,7 +6,7 @@ use lib.Seq.{paste}
 use Rattle.layout.proofs.put.put_bytes.Given as goal
 
 abbrev pub invariant-loop-i : goal.invariant-loop-i
-invariant-loop-i l = (l.i ≤ length l.initial.buffer) × (l.buffer ≡ paste l.at l.bytes l.initial.buffer l.i) × (length l.buffer ≡ length l.at)
+invariant-loop-i l = (l.i ≤ length l.bytes) × (l.buffer ≡ paste l.initial.buffer l.at l.bytes l.i) × (length l.buffer ≡ length l.initial.buffer)
 
 abbrev pub decreases-loop-i : goal.decreases-loop-i
-decreases-loop-i l = length l.initial.buffer - l.i
+decreases-loop-i l = length l.bytes - l.i

@@ -33,37 +33,37 @@ to_end = dep to-names (λ a. claims_end)
 
 -- the call that reads each field, from after the field and from after its refusal; the place after a field, from the call that reads the next
 abbrev called-request : After-request-1 → After-read_claims_request-request_read
-called-request c = (record { before = c.before.before.before; type_inv = record { bytes = c.type_inv.bytes } })
+called-request c = (record { before = c.before.before.before; type_inv = record { bytes = c.shared_slice_known-1.given } })
 
 abbrev refused-request : After-refused_attestation → After-read_claims_request-request_read
-refused-request c = (record { before = c.before.before.before.before; type_inv = record { bytes = c.type_inv.bytes } })
+refused-request c = (record { before = c.before.before.before.before; type_inv = record { bytes = c.shared_slice_known-1.given } })
 
 abbrev after-request : After-read_claims_slot-slot_read → After-request-1
-after-request c = (record { before = c.before.before.before; type_inv = record { bytes = c.type_inv.bytes } })
+after-request c = (record { before = c.before.before.before; type_inv = record { bytes = c.shared_slice_known-1.given } })
 
 abbrev called-slot : After-slot-1 → After-read_claims_slot-slot_read
-called-slot c = (record { before = c.before.before.before; type_inv = record { bytes = c.type_inv.bytes } })
+called-slot c = (record { before = c.before.before.before; type_inv = record { bytes = c.shared_slice_known-1.given } })
 
 abbrev refused-slot : After-refused_attestation-in_default-slot_to → After-read_claims_slot-slot_read
-refused-slot c = (record { before = c.before.before.before.before; type_inv = record { bytes = c.type_inv.bytes } })
+refused-slot c = (record { before = c.before.before.before.before; type_inv = record { bytes = c.shared_slice_known-1.given } })
 
 abbrev after-slot : After-read_claims_names-names_read → After-slot-1
-after-slot c = (record { before = c.before.before.before; type_inv = record { bytes = c.type_inv.bytes } })
+after-slot c = (record { before = c.before.before.before; type_inv = record { bytes = c.shared_slice_known-1.given } })
 
 abbrev called-names : After-names-1 → After-read_claims_names-names_read
-called-names c = (record { before = c.before.before.before; type_inv = record { bytes = c.type_inv.bytes } })
+called-names c = (record { before = c.before.before.before; type_inv = record { bytes = c.shared_slice_known-1.given } })
 
 abbrev refused-names : After-refused_attestation-in_default-names_to → After-read_claims_names-names_read
-refused-names c = (record { before = c.before.before.before.before; type_inv = record { bytes = c.type_inv.bytes } })
+refused-names c = (record { before = c.before.before.before.before; type_inv = record { bytes = c.shared_slice_known-1.given } })
 
 abbrev after-names : After-read_claims_end-end_read → After-names-1
-after-names c = (record { before = c.before.before.before; type_inv = record { bytes = c.type_inv.bytes } })
+after-names c = (record { before = c.before.before.before; type_inv = record { bytes = c.shared_slice_known-1.given } })
 
 abbrev called-end : After-end-1 → After-read_claims_end-end_read
-called-end c = (record { before = c.before.before.before; type_inv = record { bytes = c.type_inv.bytes } })
+called-end c = (record { before = c.before.before.before; type_inv = record { bytes = c.shared_slice_known-1.given } })
 
 abbrev refused_end : After-refused_attestation-in_default-end_to → After-read_claims_end-end_read
-refused_end c = (record { before = c.before.before.before.before; type_inv = record { bytes = c.type_inv.bytes } })
+refused_end c = (record { before = c.before.before.before.before; type_inv = record { bytes = c.shared_slice_known-1.given } })
 
 -- where the function began, from the call that reads each field
 abbrev start-request : After-read_claims_request-request_read → Start
@@ -216,5 +216,5 @@ overflow_add-result c = record { fits = lt_of_le_of_lt (to_end.within _ (got-end
 pub returns : goal.returns
 unfolding claims
 returns c =
-    outcome-ok _ (via-ok _ _ _ _ _ (got-end (record { before = c.before.before; type_inv = record { bytes = c.type_inv.bytes } }))
-    ∙ ap (λ v. ok v (size-to-end (record { before = c.before.before; type_inv = record { bytes = c.type_inv.bytes } }))) (sym c.attestation_of.ensures))
+    outcome-ok _ (via-ok _ _ _ _ _ (got-end (record { before = c.before.before; type_inv = record { bytes = c.shared_slice_known-1.given } }))
+    ∙ ap (λ v. ok v (size-to-end (record { before = c.before.before; type_inv = record { bytes = c.shared_slice_known-1.given } }))) (sym c.attestation_of.ensures))

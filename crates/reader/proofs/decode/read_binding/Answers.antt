@@ -28,28 +28,28 @@ to-admission-generation = dep to-descriptor-digest (λ a. uint 8)
 
 -- the call that reads each field, from after the field and from after its refusal; the place after a field, from the call that reads the next
 abbrev called-key-digest : After-key_digest-1 → After-read_array32-key_digest_read
-called-key-digest c = (record { before = c.before.before.before; type_inv = record { bytes = c.type_inv.bytes } })
+called-key-digest c = (record { before = c.before.before.before; type_inv = record { bytes = c.shared_slice_known-1.given } })
 
 abbrev refused-key-digest : After-refused_binding → After-read_array32-key_digest_read
-refused-key-digest c = (record { before = c.before.before.before.before; type_inv = record { bytes = c.type_inv.bytes } })
+refused-key-digest c = (record { before = c.before.before.before.before; type_inv = record { bytes = c.shared_slice_known-1.given } })
 
 abbrev after-key-digest : After-read_array32-descriptor_digest_read → After-key_digest-1
-after-key-digest c = (record { before = c.before.before.before; type_inv = record { bytes = c.type_inv.bytes } })
+after-key-digest c = (record { before = c.before.before.before; type_inv = record { bytes = c.shared_slice_known-1.given } })
 
 abbrev called-descriptor-digest : After-descriptor_digest-1 → After-read_array32-descriptor_digest_read
-called-descriptor-digest c = (record { before = c.before.before.before; type_inv = record { bytes = c.type_inv.bytes } })
+called-descriptor-digest c = (record { before = c.before.before.before; type_inv = record { bytes = c.shared_slice_known-1.given } })
 
 abbrev refused-descriptor-digest : After-refused_binding-in_default-descriptor_digest_to → After-read_array32-descriptor_digest_read
-refused-descriptor-digest c = (record { before = c.before.before.before.before; type_inv = record { bytes = c.type_inv.bytes } })
+refused-descriptor-digest c = (record { before = c.before.before.before.before; type_inv = record { bytes = c.shared_slice_known-1.given } })
 
 abbrev after-descriptor-digest : After-read_u64-admission_generation_read → After-descriptor_digest-1
-after-descriptor-digest c = (record { before = c.before.before.before; type_inv = record { bytes = c.type_inv.bytes } })
+after-descriptor-digest c = (record { before = c.before.before.before; type_inv = record { bytes = c.shared_slice_known-1.given } })
 
 abbrev called-admission-generation : In-Read → After-read_u64-admission_generation_read
-called-admission-generation c = (record { before = c.before.before; type_inv = record { bytes = c.type_inv.bytes } })
+called-admission-generation c = (record { before = c.before.before; type_inv = record { bytes = c.shared_slice_known-1.given } })
 
 abbrev refused-admission-generation : After-refused_binding-in_default-admission_generation_read → After-read_u64-admission_generation_read
-refused-admission-generation c = (record { before = c.before.before.before.before; type_inv = record { bytes = c.type_inv.bytes } })
+refused-admission-generation c = (record { before = c.before.before.before.before; type_inv = record { bytes = c.shared_slice_known-1.given } })
 
 -- where the function began, from the call that reads each field
 abbrev start-key-digest : After-read_array32-key_digest_read → Start

@@ -21,7 +21,7 @@ abbrev start : In-Read → Start
 start c = c.before.before.before.before
 
 abbrev after-size : After-read_whole_attestation-read → In-Read
-after-size c = (record { before = c.before.before.before; type_inv = record { bytes = c.type_inv.bytes } })
+after-size c = (record { before = c.before.before.before; type_inv = record { bytes = c.shared_slice_known-1.given } })
 
 -- how many bytes the attestation has, where it begins, and in which bytes
 abbrev size : In-Read → ℕ
@@ -60,7 +60,7 @@ slice_bounds-read_whole_attestation-end c = fits c
 pub returns-in_default-to : goal.returns-in_default-to
 unfolding sized
 returns-in_default-to c =
-    let k = after-size (record { before = c.before.before; type_inv = record { bytes = c.type_inv.bytes } }) in
+    let k = after-size (record { before = c.before.before; type_inv = record { bytes = c.shared_slice_known-1.given } }) in
     let s = input k in
     let p = c.read_whole_attestation-read.ensures ∙ ap (λ l. outcome blank_lost_voter_attestation_v1 (whole attestation l)) (part-is (size k) (begin k) s) in
     let e = told-not blank_lost_voter_attestation_v1 _ p c.in_default-to.is in
@@ -69,7 +69,7 @@ returns-in_default-to c =
 pub returns : goal.returns
 unfolding sized
 returns c =
-    let k = after-size (record { before = c.before.before.before; type_inv = record { bytes = c.type_inv.bytes } }) in
+    let k = after-size (record { before = c.before.before.before; type_inv = record { bytes = c.shared_slice_known-1.given } }) in
     let s = input k in
     outcome-ok blank_lost_voter_attestation_v1
     (boxed-ok _ _ s (is k)

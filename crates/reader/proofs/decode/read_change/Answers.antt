@@ -27,28 +27,28 @@ to-phase = dep to-successor (λ a. choice 0 6)
 
 -- the call that reads each field, from after the field and from after its refusal; the place after a field, from the call that reads the next
 abbrev called-predecessor : After-predecessor-1 → After-read_configuration-predecessor_read
-called-predecessor c = (record { before = c.before.before.before; type_inv = record { bytes = c.type_inv.bytes } })
+called-predecessor c = (record { before = c.before.before.before; type_inv = record { bytes = c.shared_slice_known-1.given } })
 
 abbrev refused-predecessor : After-refused_change → After-read_configuration-predecessor_read
-refused-predecessor c = (record { before = c.before.before.before.before; type_inv = record { bytes = c.type_inv.bytes } })
+refused-predecessor c = (record { before = c.before.before.before.before; type_inv = record { bytes = c.shared_slice_known-1.given } })
 
 abbrev after-predecessor : After-read_configuration-successor_read → After-predecessor-1
-after-predecessor c = (record { before = c.before.before.before; type_inv = record { bytes = c.type_inv.bytes } })
+after-predecessor c = (record { before = c.before.before.before; type_inv = record { bytes = c.shared_slice_known-1.given } })
 
 abbrev called-successor : After-successor-1 → After-read_configuration-successor_read
-called-successor c = (record { before = c.before.before.before; type_inv = record { bytes = c.type_inv.bytes } })
+called-successor c = (record { before = c.before.before.before; type_inv = record { bytes = c.shared_slice_known-1.given } })
 
 abbrev refused-successor : After-refused_change-in_default-successor_to → After-read_configuration-successor_read
-refused-successor c = (record { before = c.before.before.before.before; type_inv = record { bytes = c.type_inv.bytes } })
+refused-successor c = (record { before = c.before.before.before.before; type_inv = record { bytes = c.shared_slice_known-1.given } })
 
 abbrev after-successor : After-read_choice-phase_read → After-successor-1
-after-successor c = (record { before = c.before.before.before; type_inv = record { bytes = c.type_inv.bytes } })
+after-successor c = (record { before = c.before.before.before; type_inv = record { bytes = c.shared_slice_known-1.given } })
 
 abbrev called-phase : In-Read → After-read_choice-phase_read
-called-phase c = (record { before = c.before.before; type_inv = record { bytes = c.type_inv.bytes } })
+called-phase c = (record { before = c.before.before; type_inv = record { bytes = c.shared_slice_known-1.given } })
 
 abbrev refused-phase : After-refused_change-in_default-phase_read → After-read_choice-phase_read
-refused-phase c = (record { before = c.before.before.before.before; type_inv = record { bytes = c.type_inv.bytes } })
+refused-phase c = (record { before = c.before.before.before.before; type_inv = record { bytes = c.shared_slice_known-1.given } })
 
 -- where the function began, from the call that reads each field
 abbrev start-predecessor : After-read_configuration-predecessor_read → Start

@@ -32,37 +32,37 @@ to-signature = dep to-times (λ a. raw 64)
 
 -- the call that reads each field, from after the field and from after its refusal; the place after a field, from the call that reads the next
 abbrev called-reason : In-Read → After-read_choice-reason_read
-called-reason c = (record { before = c.before.before; type_inv = record { bytes = c.type_inv.bytes } })
+called-reason c = (record { before = c.before.before; type_inv = record { bytes = c.shared_slice_known-1.given } })
 
 abbrev refused-reason : After-refused_claims_end → After-read_choice-reason_read
-refused-reason c = (record { before = c.before.before.before.before; type_inv = record { bytes = c.type_inv.bytes } })
+refused-reason c = (record { before = c.before.before.before.before; type_inv = record { bytes = c.shared_slice_known-1.given } })
 
 abbrev after-reason : After-read_array32-policy_digest_read → In-Read
-after-reason c = (record { before = c.before.before.before; type_inv = record { bytes = c.type_inv.bytes } })
+after-reason c = (record { before = c.before.before.before; type_inv = record { bytes = c.shared_slice_known-1.given } })
 
 abbrev called-policy-digest : After-policy_digest-1 → After-read_array32-policy_digest_read
-called-policy-digest c = (record { before = c.before.before.before; type_inv = record { bytes = c.type_inv.bytes } })
+called-policy-digest c = (record { before = c.before.before.before; type_inv = record { bytes = c.shared_slice_known-1.given } })
 
 abbrev refused-policy-digest : After-refused_claims_end-in_default-policy_digest_to → After-read_array32-policy_digest_read
-refused-policy-digest c = (record { before = c.before.before.before.before; type_inv = record { bytes = c.type_inv.bytes } })
+refused-policy-digest c = (record { before = c.before.before.before.before; type_inv = record { bytes = c.shared_slice_known-1.given } })
 
 abbrev after-policy-digest : After-read_times-times_read → After-policy_digest-1
-after-policy-digest c = (record { before = c.before.before.before; type_inv = record { bytes = c.type_inv.bytes } })
+after-policy-digest c = (record { before = c.before.before.before; type_inv = record { bytes = c.shared_slice_known-1.given } })
 
 abbrev called-times : In-Read-times_read → After-read_times-times_read
-called-times c = (record { before = c.before.before; type_inv = record { bytes = c.type_inv.bytes } })
+called-times c = (record { before = c.before.before; type_inv = record { bytes = c.shared_slice_known-1.given } })
 
 abbrev refused-times : After-refused_claims_end-in_default-times_read → After-read_times-times_read
-refused-times c = (record { before = c.before.before.before.before; type_inv = record { bytes = c.type_inv.bytes } })
+refused-times c = (record { before = c.before.before.before.before; type_inv = record { bytes = c.shared_slice_known-1.given } })
 
 abbrev after-times : After-read_array64-signature_read → In-Read-times_read
-after-times c = (record { before = c.before.before.before; type_inv = record { bytes = c.type_inv.bytes } })
+after-times c = (record { before = c.before.before.before; type_inv = record { bytes = c.shared_slice_known-1.given } })
 
 abbrev called-signature : After-signature-1 → After-read_array64-signature_read
-called-signature c = (record { before = c.before.before.before; type_inv = record { bytes = c.type_inv.bytes } })
+called-signature c = (record { before = c.before.before.before; type_inv = record { bytes = c.shared_slice_known-1.given } })
 
 abbrev refused-signature : After-refused_claims_end-in_default-signature_to → After-read_array64-signature_read
-refused-signature c = (record { before = c.before.before.before.before; type_inv = record { bytes = c.type_inv.bytes } })
+refused-signature c = (record { before = c.before.before.before.before; type_inv = record { bytes = c.shared_slice_known-1.given } })
 
 -- where the function began, from the call that reads each field
 abbrev start-reason : After-read_choice-reason_read → Start

@@ -33,37 +33,37 @@ to-signing-key-digest = dep to-controller-spiffe-id (λ a. raw 32)
 
 -- the call that reads each field, from after the field and from after its refusal; the place after a field, from the call that reads the next
 abbrev called-admission-generation : In-Read → After-read_u64-admission_generation_read
-called-admission-generation c = (record { before = c.before.before; type_inv = record { bytes = c.type_inv.bytes } })
+called-admission-generation c = (record { before = c.before.before; type_inv = record { bytes = c.shared_slice_known-1.given } })
 
 abbrev refused-admission-generation : After-refused_claims_names → After-read_u64-admission_generation_read
-refused-admission-generation c = (record { before = c.before.before.before.before; type_inv = record { bytes = c.type_inv.bytes } })
+refused-admission-generation c = (record { before = c.before.before.before.before; type_inv = record { bytes = c.shared_slice_known-1.given } })
 
 abbrev after-admission-generation : After-read_spiffe_id-candidate_spiffe_id_read → In-Read
-after-admission-generation c = (record { before = c.before.before.before; type_inv = record { bytes = c.type_inv.bytes } })
+after-admission-generation c = (record { before = c.before.before.before; type_inv = record { bytes = c.shared_slice_known-1.given } })
 
 abbrev called-candidate-spiffe-id : After-candidate_spiffe_id-1 → After-read_spiffe_id-candidate_spiffe_id_read
-called-candidate-spiffe-id c = (record { before = c.before.before.before; type_inv = record { bytes = c.type_inv.bytes } })
+called-candidate-spiffe-id c = (record { before = c.before.before.before; type_inv = record { bytes = c.shared_slice_known-1.given } })
 
 abbrev refused-candidate-spiffe-id : After-refused_claims_names-in_default-candidate_spiffe_id_to → After-read_spiffe_id-candidate_spiffe_id_read
-refused-candidate-spiffe-id c = (record { before = c.before.before.before.before; type_inv = record { bytes = c.type_inv.bytes } })
+refused-candidate-spiffe-id c = (record { before = c.before.before.before.before; type_inv = record { bytes = c.shared_slice_known-1.given } })
 
 abbrev after-candidate-spiffe-id : After-read_spiffe_id-controller_spiffe_id_read → After-candidate_spiffe_id-1
-after-candidate-spiffe-id c = (record { before = c.before.before.before; type_inv = record { bytes = c.type_inv.bytes } })
+after-candidate-spiffe-id c = (record { before = c.before.before.before; type_inv = record { bytes = c.shared_slice_known-1.given } })
 
 abbrev called-controller-spiffe-id : After-controller_spiffe_id-1 → After-read_spiffe_id-controller_spiffe_id_read
-called-controller-spiffe-id c = (record { before = c.before.before.before; type_inv = record { bytes = c.type_inv.bytes } })
+called-controller-spiffe-id c = (record { before = c.before.before.before; type_inv = record { bytes = c.shared_slice_known-1.given } })
 
 abbrev refused-controller-spiffe-id : After-refused_claims_names-in_default-controller_spiffe_id_to → After-read_spiffe_id-controller_spiffe_id_read
-refused-controller-spiffe-id c = (record { before = c.before.before.before.before; type_inv = record { bytes = c.type_inv.bytes } })
+refused-controller-spiffe-id c = (record { before = c.before.before.before.before; type_inv = record { bytes = c.shared_slice_known-1.given } })
 
 abbrev after-controller-spiffe-id : After-read_array32-signing_key_digest_read → After-controller_spiffe_id-1
-after-controller-spiffe-id c = (record { before = c.before.before.before; type_inv = record { bytes = c.type_inv.bytes } })
+after-controller-spiffe-id c = (record { before = c.before.before.before; type_inv = record { bytes = c.shared_slice_known-1.given } })
 
 abbrev called-signing-key-digest : After-signing_key_digest-1 → After-read_array32-signing_key_digest_read
-called-signing-key-digest c = (record { before = c.before.before.before; type_inv = record { bytes = c.type_inv.bytes } })
+called-signing-key-digest c = (record { before = c.before.before.before; type_inv = record { bytes = c.shared_slice_known-1.given } })
 
 abbrev refused-signing-key-digest : After-refused_claims_names-in_default-signing_key_digest_to → After-read_array32-signing_key_digest_read
-refused-signing-key-digest c = (record { before = c.before.before.before.before; type_inv = record { bytes = c.type_inv.bytes } })
+refused-signing-key-digest c = (record { before = c.before.before.before.before; type_inv = record { bytes = c.shared_slice_known-1.given } })
 
 -- where the function began, from the call that reads each field
 abbrev start-admission-generation : After-read_u64-admission_generation_read → Start

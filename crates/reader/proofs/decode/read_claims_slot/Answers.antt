@@ -32,37 +32,37 @@ to-candidate-key-digest = dep to-old-descriptor-digest (λ a. raw 32)
 
 -- the call that reads each field, from after the field and from after its refusal; the place after a field, from the call that reads the next
 abbrev called-cluster-instance : After-cluster_instance-1 → After-read_array32-cluster_instance_read
-called-cluster-instance c = (record { before = c.before.before.before; type_inv = record { bytes = c.type_inv.bytes } })
+called-cluster-instance c = (record { before = c.before.before.before; type_inv = record { bytes = c.shared_slice_known-1.given } })
 
 abbrev refused-cluster-instance : After-refused_claims_slot → After-read_array32-cluster_instance_read
-refused-cluster-instance c = (record { before = c.before.before.before.before; type_inv = record { bytes = c.type_inv.bytes } })
+refused-cluster-instance c = (record { before = c.before.before.before.before; type_inv = record { bytes = c.shared_slice_known-1.given } })
 
 abbrev after-cluster-instance : After-read_identity-identity_read → After-cluster_instance-1
-after-cluster-instance c = (record { before = c.before.before.before; type_inv = record { bytes = c.type_inv.bytes } })
+after-cluster-instance c = (record { before = c.before.before.before; type_inv = record { bytes = c.shared_slice_known-1.given } })
 
 abbrev called-identity : In-Read → After-read_identity-identity_read
-called-identity c = (record { before = c.before.before; type_inv = record { bytes = c.type_inv.bytes } })
+called-identity c = (record { before = c.before.before; type_inv = record { bytes = c.shared_slice_known-1.given } })
 
 abbrev refused-identity : After-refused_claims_slot-in_default-identity_read → After-read_identity-identity_read
-refused-identity c = (record { before = c.before.before.before.before; type_inv = record { bytes = c.type_inv.bytes } })
+refused-identity c = (record { before = c.before.before.before.before; type_inv = record { bytes = c.shared_slice_known-1.given } })
 
 abbrev after-identity : After-read_array32-old_descriptor_digest_read → In-Read
-after-identity c = (record { before = c.before.before.before; type_inv = record { bytes = c.type_inv.bytes } })
+after-identity c = (record { before = c.before.before.before; type_inv = record { bytes = c.shared_slice_known-1.given } })
 
 abbrev called-old-descriptor-digest : After-old_descriptor_digest-1 → After-read_array32-old_descriptor_digest_read
-called-old-descriptor-digest c = (record { before = c.before.before.before; type_inv = record { bytes = c.type_inv.bytes } })
+called-old-descriptor-digest c = (record { before = c.before.before.before; type_inv = record { bytes = c.shared_slice_known-1.given } })
 
 abbrev refused-old-descriptor-digest : After-refused_claims_slot-in_default-old_descriptor_digest_to → After-read_array32-old_descriptor_digest_read
-refused-old-descriptor-digest c = (record { before = c.before.before.before.before; type_inv = record { bytes = c.type_inv.bytes } })
+refused-old-descriptor-digest c = (record { before = c.before.before.before.before; type_inv = record { bytes = c.shared_slice_known-1.given } })
 
 abbrev after-old-descriptor-digest : After-read_array32-candidate_key_digest_read → After-old_descriptor_digest-1
-after-old-descriptor-digest c = (record { before = c.before.before.before; type_inv = record { bytes = c.type_inv.bytes } })
+after-old-descriptor-digest c = (record { before = c.before.before.before; type_inv = record { bytes = c.shared_slice_known-1.given } })
 
 abbrev called-candidate-key-digest : After-candidate_key_digest-1 → After-read_array32-candidate_key_digest_read
-called-candidate-key-digest c = (record { before = c.before.before.before; type_inv = record { bytes = c.type_inv.bytes } })
+called-candidate-key-digest c = (record { before = c.before.before.before; type_inv = record { bytes = c.shared_slice_known-1.given } })
 
 abbrev refused-candidate-key-digest : After-refused_claims_slot-in_default-candidate_key_digest_to → After-read_array32-candidate_key_digest_read
-refused-candidate-key-digest c = (record { before = c.before.before.before.before; type_inv = record { bytes = c.type_inv.bytes } })
+refused-candidate-key-digest c = (record { before = c.before.before.before.before; type_inv = record { bytes = c.shared_slice_known-1.given } })
 
 -- where the function began, from the call that reads each field
 abbrev start-cluster-instance : After-read_array32-cluster_instance_read → Start

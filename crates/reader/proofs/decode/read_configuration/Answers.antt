@@ -30,28 +30,28 @@ to-members = dep to-count (λ a. members a.1)
 
 -- the call that reads each field, from after the field and from after its refusal; the place after a field, from the call that reads the next
 abbrev called-epoch : In-Read → After-read_epoch-epoch_read
-called-epoch c = (record { before = c.before.before; type_inv = record { bytes = c.type_inv.bytes } })
+called-epoch c = (record { before = c.before.before; type_inv = record { bytes = c.shared_slice_known-1.given } })
 
 abbrev refused-epoch : After-refused_configuration → After-read_epoch-epoch_read
-refused-epoch c = (record { before = c.before.before.before.before; type_inv = record { bytes = c.type_inv.bytes } })
+refused-epoch c = (record { before = c.before.before.before.before; type_inv = record { bytes = c.shared_slice_known-1.given } })
 
 abbrev after-epoch : After-read_count-count_read → In-Read
-after-epoch c = (record { before = c.before.before.before; type_inv = record { bytes = c.type_inv.bytes } })
+after-epoch c = (record { before = c.before.before.before; type_inv = record { bytes = c.shared_slice_known-1.given } })
 
 abbrev called-count : In-Read-count_read → After-read_count-count_read
-called-count c = (record { before = c.before.before; type_inv = record { bytes = c.type_inv.bytes } })
+called-count c = (record { before = c.before.before; type_inv = record { bytes = c.shared_slice_known-1.given } })
 
 abbrev refused-count : After-refused_configuration-in_default-count_read → After-read_count-count_read
-refused-count c = (record { before = c.before.before.before.before; type_inv = record { bytes = c.type_inv.bytes } })
+refused-count c = (record { before = c.before.before.before.before; type_inv = record { bytes = c.shared_slice_known-1.given } })
 
 abbrev after-count : After-read_members-members_read → In-Read-count_read
-after-count c = (record { before = c.before.before.before; type_inv = record { bytes = c.type_inv.bytes } })
+after-count c = (record { before = c.before.before.before; type_inv = record { bytes = c.shared_slice_known-1.given } })
 
 abbrev called-members : After-members-1 → After-read_members-members_read
-called-members c = (record { before = c.before.before.before; type_inv = record { bytes = c.type_inv.bytes } })
+called-members c = (record { before = c.before.before.before; type_inv = record { bytes = c.shared_slice_known-1.given } })
 
 abbrev refused-members : After-refused_configuration-in_default-members_to → After-read_members-members_read
-refused-members c = (record { before = c.before.before.before.before; type_inv = record { bytes = c.type_inv.bytes } })
+refused-members c = (record { before = c.before.before.before.before; type_inv = record { bytes = c.shared_slice_known-1.given } })
 
 -- where the function began, from the call that reads each field
 abbrev start-epoch : After-read_epoch-epoch_read → Start
@@ -155,7 +155,7 @@ pub slice_bounds-read_members-start : goal.slice_bounds-read_members-start
 slice_bounds-read_members-start c = to-count.within _ (got-count c)
 
 pub read_members-members_read-requires : goal.read_members-members_read-requires
-read_members-members_read-requires c = count-read _ (counted (record { before = c.before.before; type_inv = record { bytes = c.type_inv.bytes } }))
+read_members-members_read-requires c = count-read _ (counted (record { before = c.before.before; type_inv = record { bytes = c.shared_slice_known-1.given } }))
 
 pub returns-in_default-members_to : goal.returns-in_default-members_to
 unfolding configuration

@@ -34,37 +34,37 @@ to-late = dep to-early (λ a. three_cuts)
 
 -- the call that reads each field, from after the field and from after its refusal; the place after a field, from the call that reads the next
 abbrev called-prepare : In-Read → After-read_log_id-prepare_read
-called-prepare c = (record { before = c.before.before; type_inv = record { bytes = c.type_inv.bytes } })
+called-prepare c = (record { before = c.before.before; type_inv = record { bytes = c.shared_slice_known-1.given } })
 
 abbrev refused-prepare : After-refused_evidence → After-read_log_id-prepare_read
-refused-prepare c = (record { before = c.before.before.before.before; type_inv = record { bytes = c.type_inv.bytes } })
+refused-prepare c = (record { before = c.before.before.before.before; type_inv = record { bytes = c.shared_slice_known-1.given } })
 
 abbrev after-prepare : After-read_optional_snapshot-snapshot_read → In-Read
-after-prepare c = (record { before = c.before.before.before; type_inv = record { bytes = c.type_inv.bytes } })
+after-prepare c = (record { before = c.before.before.before; type_inv = record { bytes = c.shared_slice_known-1.given } })
 
 abbrev called-snapshot : After-snapshot-1 → After-read_optional_snapshot-snapshot_read
-called-snapshot c = (record { before = c.before.before.before; type_inv = record { bytes = c.type_inv.bytes } })
+called-snapshot c = (record { before = c.before.before.before; type_inv = record { bytes = c.shared_slice_known-1.given } })
 
 abbrev refused-snapshot : After-refused_evidence-in_default-snapshot_to → After-read_optional_snapshot-snapshot_read
-refused-snapshot c = (record { before = c.before.before.before.before; type_inv = record { bytes = c.type_inv.bytes } })
+refused-snapshot c = (record { before = c.before.before.before.before; type_inv = record { bytes = c.shared_slice_known-1.given } })
 
 abbrev after-snapshot : After-read_three_cuts-early_read → After-snapshot-1
-after-snapshot c = (record { before = c.before.before.before; type_inv = record { bytes = c.type_inv.bytes } })
+after-snapshot c = (record { before = c.before.before.before; type_inv = record { bytes = c.shared_slice_known-1.given } })
 
 abbrev called-early : In-Read-early_read → After-read_three_cuts-early_read
-called-early c = (record { before = c.before.before; type_inv = record { bytes = c.type_inv.bytes } })
+called-early c = (record { before = c.before.before; type_inv = record { bytes = c.shared_slice_known-1.given } })
 
 abbrev refused-early : After-refused_evidence-in_default-early_read → After-read_three_cuts-early_read
-refused-early c = (record { before = c.before.before.before.before; type_inv = record { bytes = c.type_inv.bytes } })
+refused-early c = (record { before = c.before.before.before.before; type_inv = record { bytes = c.shared_slice_known-1.given } })
 
 abbrev after-early : After-read_three_cuts-late_read → In-Read-early_read
-after-early c = (record { before = c.before.before.before; type_inv = record { bytes = c.type_inv.bytes } })
+after-early c = (record { before = c.before.before.before; type_inv = record { bytes = c.shared_slice_known-1.given } })
 
 abbrev called-late : In-Read-late_read → After-read_three_cuts-late_read
-called-late c = (record { before = c.before.before; type_inv = record { bytes = c.type_inv.bytes } })
+called-late c = (record { before = c.before.before; type_inv = record { bytes = c.shared_slice_known-1.given } })
 
 abbrev refused-late : After-refused_evidence-in_default-late_read → After-read_three_cuts-late_read
-refused-late c = (record { before = c.before.before.before.before; type_inv = record { bytes = c.type_inv.bytes } })
+refused-late c = (record { before = c.before.before.before.before; type_inv = record { bytes = c.shared_slice_known-1.given } })
 
 -- where the function began, from the call that reads each field
 abbrev start-prepare : After-read_log_id-prepare_read → Start
@@ -217,5 +217,5 @@ overflow_add-result c = record { fits = lt_of_le_of_lt (to-late.within _ (got-la
 pub returns : goal.returns
 unfolding evidence
 returns c =
-    outcome-ok _ (via-ok _ _ _ _ _ (got-late (record { before = c.before.before; type_inv = record { bytes = c.type_inv.bytes } }))
-    ∙ ap (λ v. ok v (size-to-late (record { before = c.before.before; type_inv = record { bytes = c.type_inv.bytes } }))) (sym c.evidence_of.ensures))
+    outcome-ok _ (via-ok _ _ _ _ _ (got-late (record { before = c.before.before; type_inv = record { bytes = c.shared_slice_known-1.given } }))
+    ∙ ap (λ v. ok v (size-to-late (record { before = c.before.before; type_inv = record { bytes = c.shared_slice_known-1.given } }))) (sym c.evidence_of.ensures))

@@ -24,13 +24,13 @@ abbrev start : In-loop-i → Start
 start c = c.before.before.before.before.before
 
 abbrev turn : After-read_member-read → In-loop-i
-turn c = (record { before = c.before.before.before; type_inv = record { bytes = c.type_inv.bytes } })
+turn c = (record { before = c.before.before.before; type_inv = record { bytes = c.shared_slice_known-1.given } })
 
 abbrev called : In-To → After-read_member-read
-called c = (record { before = c.before.before; type_inv = record { bytes = c.type_inv.bytes } })
+called c = (record { before = c.before.before; type_inv = record { bytes = c.shared_slice_known-1.given } })
 
 abbrev refused : After-refused_members → After-read_member-read
-refused c = (record { before = c.before.before.before.before; type_inv = record { bytes = c.type_inv.bytes } })
+refused c = (record { before = c.before.before.before.before; type_inv = record { bytes = c.shared_slice_known-1.given } })
 
 -- one more was read, after those before it
 one_more : (c : In-To)
@@ -65,15 +65,15 @@ returns-in_default c =
 
 pub overflow_add-at : goal.overflow_add-at
 overflow_add-at c =
-    let t = turn (called (record { before = c.before.before; type_inv = record { bytes = c.type_inv.bytes } })) in
-    record { fits = lt_of_le_of_lt ((vec member blank_voter_slot_member _).within _ (vec-next member blank_voter_slot_member _ _ t.before.loop-i.invariant.1 (one_more (record { before = c.before.before; type_inv = record { bytes = c.type_inv.bytes } })))) (start t).good.0.0 }
+    let t = turn (called (record { before = c.before.before; type_inv = record { bytes = c.shared_slice_known-1.given } })) in
+    record { fits = lt_of_le_of_lt ((vec member blank_voter_slot_member _).within _ (vec-next member blank_voter_slot_member _ _ t.before.loop-i.invariant.1 (one_more (record { before = c.before.before; type_inv = record { bytes = c.shared_slice_known-1.given } })))) (start t).good.0.0 }
 
 pub loop-i-preserved : goal.loop-i-preserved
 loop-i-preserved c =
-    let l = (turn (called (record { before = c.before.before; type_inv = record { bytes = c.type_inv.bytes } }))).loop-i in
-    let m = (called (record { before = c.before.before; type_inv = record { bytes = c.type_inv.bytes } })).read_member-read.result.value in (
+    let l = (turn (called (record { before = c.before.before; type_inv = record { bytes = c.shared_slice_known-1.given } }))).loop-i in
+    let m = (called (record { before = c.before.before; type_inv = record { bytes = c.shared_slice_known-1.given } })).read_member-read.result.value in (
       omega arith,
-      vec-next member blank_voter_slot_member _ _ l.inv.1 (one_more (record { before = c.before.before; type_inv = record { bytes = c.type_inv.bytes } }))
+      vec-next member blank_voter_slot_member _ _ l.inv.1 (one_more (record { before = c.before.before; type_inv = record { bytes = c.shared_slice_known-1.given } }))
           ∙ ap (λ v. ok v (l.at + c.in-To.n)) (sym (filled_more l.value l.i m (omega (arith, l.inv.3)))),
       unfilled-more l.value _ l.i m l.inv.2,
       length-set l.value l.i m ∙ l.inv.3,

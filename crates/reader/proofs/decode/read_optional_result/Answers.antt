@@ -22,16 +22,16 @@ abbrev start : In-Read → Start
 start c = c.before.before.before.before
 
 abbrev at_flag : Else-not-is_some → In-Read
-at_flag c = (record { before = c.before.before; type_inv = record { bytes = c.type_inv.bytes } })
+at_flag c = (record { before = c.before.before; type_inv = record { bytes = c.shared_slice_known-1.given } })
 
 abbrev at-yes : After-read_result-read → Else-not-is_some
-at-yes c = (record { before = c.before.before.before; type_inv = record { bytes = c.type_inv.bytes } })
+at-yes c = (record { before = c.before.before.before; type_inv = record { bytes = c.shared_slice_known-1.given } })
 
 abbrev called : After-value-1 → After-read_result-read
-called c = (record { before = c.before.before.before; type_inv = record { bytes = c.type_inv.bytes } })
+called c = (record { before = c.before.before.before; type_inv = record { bytes = c.shared_slice_known-1.given } })
 
 abbrev refused : After-refused_optional_result-in_default-to → After-read_result-read
-refused c = (record { before = c.before.before.before.before; type_inv = record { bytes = c.type_inv.bytes } })
+refused c = (record { before = c.before.before.before.before; type_inv = record { bytes = c.shared_slice_known-1.given } })
 
 -- how many bytes the flag has, and the whole
 abbrev flag-size : In-Read → ℕ
@@ -67,7 +67,7 @@ returns-in_default c =
 
 pub returns-then-not-is_some : goal.returns-then-not-is_some
 returns-then-not-is_some c =
-    let f : In-Read = record { before = c.before.before.before; type_inv = record { bytes = c.type_inv.bytes } } in
+    let f : In-Read = record { before = c.before.before.before; type_inv = record { bytes = c.shared_slice_known-1.given } } in
     let n = flag-size f in
     let t = not-true _ c.if-not-is_some.true-raw in
     let p : (opt replacement_result blank_voter_replacement_result).dec (start f).args.bytes.now ≡ ok (false, blank_voter_replacement_result) n = opt_none _ _ _ (flagged f ∙ ap (λ b. ok b n) t) in

@@ -34,37 +34,37 @@ to-evidence = dep to-change (λ a. evidence)
 
 -- the call that reads each field, from after the field and from after its refusal; the place after a field, from the call that reads the next
 abbrev called-expected-revision : In-Read → After-read_u64-expected_revision_read
-called-expected-revision c = (record { before = c.before.before; type_inv = record { bytes = c.type_inv.bytes } })
+called-expected-revision c = (record { before = c.before.before; type_inv = record { bytes = c.shared_slice_known-1.given } })
 
 abbrev refused-expected-revision : After-refused_replacement → After-read_u64-expected_revision_read
-refused-expected-revision c = (record { before = c.before.before.before.before; type_inv = record { bytes = c.type_inv.bytes } })
+refused-expected-revision c = (record { before = c.before.before.before.before; type_inv = record { bytes = c.shared_slice_known-1.given } })
 
 abbrev after-expected-revision : After-read_boxed_attestation-attestation_read → In-Read
-after-expected-revision c = (record { before = c.before.before.before; type_inv = record { bytes = c.type_inv.bytes } })
+after-expected-revision c = (record { before = c.before.before.before; type_inv = record { bytes = c.shared_slice_known-1.given } })
 
 abbrev called-attestation : After-attestation-1 → After-read_boxed_attestation-attestation_read
-called-attestation c = (record { before = c.before.before.before; type_inv = record { bytes = c.type_inv.bytes } })
+called-attestation c = (record { before = c.before.before.before; type_inv = record { bytes = c.shared_slice_known-1.given } })
 
 abbrev refused-attestation : After-refused_replacement-in_default-attestation_to → After-read_boxed_attestation-attestation_read
-refused-attestation c = (record { before = c.before.before.before.before; type_inv = record { bytes = c.type_inv.bytes } })
+refused-attestation c = (record { before = c.before.before.before.before; type_inv = record { bytes = c.shared_slice_known-1.given } })
 
 abbrev after-attestation : After-read_change-change_read → After-attestation-1
-after-attestation c = (record { before = c.before.before.before; type_inv = record { bytes = c.type_inv.bytes } })
+after-attestation c = (record { before = c.before.before.before; type_inv = record { bytes = c.shared_slice_known-1.given } })
 
 abbrev called-change : After-change-1 → After-read_change-change_read
-called-change c = (record { before = c.before.before.before; type_inv = record { bytes = c.type_inv.bytes } })
+called-change c = (record { before = c.before.before.before; type_inv = record { bytes = c.shared_slice_known-1.given } })
 
 abbrev refused-change : After-refused_replacement-in_default-change_to → After-read_change-change_read
-refused-change c = (record { before = c.before.before.before.before; type_inv = record { bytes = c.type_inv.bytes } })
+refused-change c = (record { before = c.before.before.before.before; type_inv = record { bytes = c.shared_slice_known-1.given } })
 
 abbrev after-change : After-read_evidence-evidence_read → After-change-1
-after-change c = (record { before = c.before.before.before; type_inv = record { bytes = c.type_inv.bytes } })
+after-change c = (record { before = c.before.before.before; type_inv = record { bytes = c.shared_slice_known-1.given } })
 
 abbrev called-evidence : After-evidence-1 → After-read_evidence-evidence_read
-called-evidence c = (record { before = c.before.before.before; type_inv = record { bytes = c.type_inv.bytes } })
+called-evidence c = (record { before = c.before.before.before; type_inv = record { bytes = c.shared_slice_known-1.given } })
 
 abbrev refused-evidence : After-refused_replacement-in_default-evidence_to → After-read_evidence-evidence_read
-refused-evidence c = (record { before = c.before.before.before.before; type_inv = record { bytes = c.type_inv.bytes } })
+refused-evidence c = (record { before = c.before.before.before.before; type_inv = record { bytes = c.shared_slice_known-1.given } })
 
 -- where the function began, from the call that reads each field
 abbrev start-expected-revision : After-read_u64-expected_revision_read → Start
@@ -217,5 +217,5 @@ overflow_add-result c = record { fits = lt_of_le_of_lt (to-evidence.within _ (go
 pub returns : goal.returns
 unfolding replacement
 returns c =
-    outcome-ok _ (via-ok _ _ _ _ _ (got-evidence (record { before = c.before.before; type_inv = record { bytes = c.type_inv.bytes } }))
-    ∙ ap (λ v. ok v (size-to-evidence (record { before = c.before.before; type_inv = record { bytes = c.type_inv.bytes } }))) (sym c.replacement_of.ensures))
+    outcome-ok _ (via-ok _ _ _ _ _ (got-evidence (record { before = c.before.before; type_inv = record { bytes = c.shared_slice_known-1.given } }))
+    ∙ ap (λ v. ok v (size-to-evidence (record { before = c.before.before; type_inv = record { bytes = c.shared_slice_known-1.given } }))) (sym c.replacement_of.ensures))

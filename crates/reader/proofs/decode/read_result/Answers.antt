@@ -31,37 +31,37 @@ to-terminal = dep to-kind (λ a. log_id)
 
 -- the call that reads each field, from after the field and from after its refusal; the place after a field, from the call that reads the next
 abbrev called-head : After-head-1 → After-read_result_head-head_read
-called-head c = (record { before = c.before.before.before; type_inv = record { bytes = c.type_inv.bytes } })
+called-head c = (record { before = c.before.before.before; type_inv = record { bytes = c.shared_slice_known-1.given } })
 
 abbrev refused-head : After-refused_result → After-read_result_head-head_read
-refused-head c = (record { before = c.before.before.before.before; type_inv = record { bytes = c.type_inv.bytes } })
+refused-head c = (record { before = c.before.before.before.before; type_inv = record { bytes = c.shared_slice_known-1.given } })
 
 abbrev after-head : After-read_epoch-configuration_epoch_read → After-head-1
-after-head c = (record { before = c.before.before.before; type_inv = record { bytes = c.type_inv.bytes } })
+after-head c = (record { before = c.before.before.before; type_inv = record { bytes = c.shared_slice_known-1.given } })
 
 abbrev called-configuration-epoch : In-Read → After-read_epoch-configuration_epoch_read
-called-configuration-epoch c = (record { before = c.before.before; type_inv = record { bytes = c.type_inv.bytes } })
+called-configuration-epoch c = (record { before = c.before.before; type_inv = record { bytes = c.shared_slice_known-1.given } })
 
 abbrev refused-configuration-epoch : After-refused_result-in_default-configuration_epoch_read → After-read_epoch-configuration_epoch_read
-refused-configuration-epoch c = (record { before = c.before.before.before.before; type_inv = record { bytes = c.type_inv.bytes } })
+refused-configuration-epoch c = (record { before = c.before.before.before.before; type_inv = record { bytes = c.shared_slice_known-1.given } })
 
 abbrev after-configuration-epoch : After-read_choice-kind_read → In-Read
-after-configuration-epoch c = (record { before = c.before.before.before; type_inv = record { bytes = c.type_inv.bytes } })
+after-configuration-epoch c = (record { before = c.before.before.before; type_inv = record { bytes = c.shared_slice_known-1.given } })
 
 abbrev called-kind : In-Read-kind_read → After-read_choice-kind_read
-called-kind c = (record { before = c.before.before; type_inv = record { bytes = c.type_inv.bytes } })
+called-kind c = (record { before = c.before.before; type_inv = record { bytes = c.shared_slice_known-1.given } })
 
 abbrev refused-kind : After-refused_result-in_default-kind_read → After-read_choice-kind_read
-refused-kind c = (record { before = c.before.before.before.before; type_inv = record { bytes = c.type_inv.bytes } })
+refused-kind c = (record { before = c.before.before.before.before; type_inv = record { bytes = c.shared_slice_known-1.given } })
 
 abbrev after-kind : After-read_log_id-terminal_read → In-Read-kind_read
-after-kind c = (record { before = c.before.before.before; type_inv = record { bytes = c.type_inv.bytes } })
+after-kind c = (record { before = c.before.before.before; type_inv = record { bytes = c.shared_slice_known-1.given } })
 
 abbrev called-terminal : In-Read-terminal_read → After-read_log_id-terminal_read
-called-terminal c = (record { before = c.before.before; type_inv = record { bytes = c.type_inv.bytes } })
+called-terminal c = (record { before = c.before.before; type_inv = record { bytes = c.shared_slice_known-1.given } })
 
 abbrev refused-terminal : After-refused_result-in_default-terminal_read → After-read_log_id-terminal_read
-refused-terminal c = (record { before = c.before.before.before.before; type_inv = record { bytes = c.type_inv.bytes } })
+refused-terminal c = (record { before = c.before.before.before.before; type_inv = record { bytes = c.shared_slice_known-1.given } })
 
 -- where the function began, from the call that reads each field
 abbrev start-head : After-read_result_head-head_read → Start
@@ -214,5 +214,5 @@ overflow_add-result c = record { fits = lt_of_le_of_lt (to-terminal.within _ (go
 pub returns : goal.returns
 unfolding replacement_result
 returns c =
-    outcome-ok _ (via-ok _ _ _ _ _ (got-terminal (record { before = c.before.before; type_inv = record { bytes = c.type_inv.bytes } }))
-    ∙ ap (λ v. ok v (size-to-terminal (record { before = c.before.before; type_inv = record { bytes = c.type_inv.bytes } }))) (sym c.result_of.ensures))
+    outcome-ok _ (via-ok _ _ _ _ _ (got-terminal (record { before = c.before.before; type_inv = record { bytes = c.shared_slice_known-1.given } }))
+    ∙ ap (λ v. ok v (size-to-terminal (record { before = c.before.before; type_inv = record { bytes = c.shared_slice_known-1.given } }))) (sym c.result_of.ensures))

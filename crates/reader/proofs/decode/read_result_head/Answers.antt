@@ -31,37 +31,37 @@ to-revision = dep to-incarnation (λ a. uint 8)
 
 -- the call that reads each field, from after the field and from after its refusal; the place after a field, from the call that reads the next
 abbrev called-request-id : After-request_id-1 → After-read_array16-request_id_read
-called-request-id c = (record { before = c.before.before.before; type_inv = record { bytes = c.type_inv.bytes } })
+called-request-id c = (record { before = c.before.before.before; type_inv = record { bytes = c.shared_slice_known-1.given } })
 
 abbrev refused-request-id : After-refused_result_head → After-read_array16-request_id_read
-refused-request-id c = (record { before = c.before.before.before.before; type_inv = record { bytes = c.type_inv.bytes } })
+refused-request-id c = (record { before = c.before.before.before.before; type_inv = record { bytes = c.shared_slice_known-1.given } })
 
 abbrev after-request-id : After-read_array32-request_digest_read → After-request_id-1
-after-request-id c = (record { before = c.before.before.before; type_inv = record { bytes = c.type_inv.bytes } })
+after-request-id c = (record { before = c.before.before.before; type_inv = record { bytes = c.shared_slice_known-1.given } })
 
 abbrev called-request-digest : After-request_digest-1 → After-read_array32-request_digest_read
-called-request-digest c = (record { before = c.before.before.before; type_inv = record { bytes = c.type_inv.bytes } })
+called-request-digest c = (record { before = c.before.before.before; type_inv = record { bytes = c.shared_slice_known-1.given } })
 
 abbrev refused-request-digest : After-refused_result_head-in_default-request_digest_to → After-read_array32-request_digest_read
-refused-request-digest c = (record { before = c.before.before.before.before; type_inv = record { bytes = c.type_inv.bytes } })
+refused-request-digest c = (record { before = c.before.before.before.before; type_inv = record { bytes = c.shared_slice_known-1.given } })
 
 abbrev after-request-digest : After-read_incarnation-incarnation_read → After-request_digest-1
-after-request-digest c = (record { before = c.before.before.before; type_inv = record { bytes = c.type_inv.bytes } })
+after-request-digest c = (record { before = c.before.before.before; type_inv = record { bytes = c.shared_slice_known-1.given } })
 
 abbrev called-incarnation : In-Read → After-read_incarnation-incarnation_read
-called-incarnation c = (record { before = c.before.before; type_inv = record { bytes = c.type_inv.bytes } })
+called-incarnation c = (record { before = c.before.before; type_inv = record { bytes = c.shared_slice_known-1.given } })
 
 abbrev refused-incarnation : After-refused_result_head-in_default-incarnation_read → After-read_incarnation-incarnation_read
-refused-incarnation c = (record { before = c.before.before.before.before; type_inv = record { bytes = c.type_inv.bytes } })
+refused-incarnation c = (record { before = c.before.before.before.before; type_inv = record { bytes = c.shared_slice_known-1.given } })
 
 abbrev after-incarnation : After-read_u64-revision_read → In-Read
-after-incarnation c = (record { before = c.before.before.before; type_inv = record { bytes = c.type_inv.bytes } })
+after-incarnation c = (record { before = c.before.before.before; type_inv = record { bytes = c.shared_slice_known-1.given } })
 
 abbrev called-revision : In-Read-revision_read → After-read_u64-revision_read
-called-revision c = (record { before = c.before.before; type_inv = record { bytes = c.type_inv.bytes } })
+called-revision c = (record { before = c.before.before; type_inv = record { bytes = c.shared_slice_known-1.given } })
 
 abbrev refused-revision : After-refused_result_head-in_default-revision_read → After-read_u64-revision_read
-refused-revision c = (record { before = c.before.before.before.before; type_inv = record { bytes = c.type_inv.bytes } })
+refused-revision c = (record { before = c.before.before.before.before; type_inv = record { bytes = c.shared_slice_known-1.given } })
 
 -- where the function began, from the call that reads each field
 abbrev start-request-id : After-read_array16-request_id_read → Start

@@ -30,28 +30,28 @@ to-last-result = dep to-phase (λ a. opt replacement_result blank_voter_replacem
 
 -- the call that reads each field, from after the field and from after its refusal; the place after a field, from the call that reads the next
 abbrev called-head : After-head-1 → After-read_slot_member-head_read
-called-head c = (record { before = c.before.before.before; type_inv = record { bytes = c.type_inv.bytes } })
+called-head c = (record { before = c.before.before.before; type_inv = record { bytes = c.shared_slice_known-1.given } })
 
 abbrev refused-head : After-refused_slot → After-read_slot_member-head_read
-refused-head c = (record { before = c.before.before.before.before; type_inv = record { bytes = c.type_inv.bytes } })
+refused-head c = (record { before = c.before.before.before.before; type_inv = record { bytes = c.shared_slice_known-1.given } })
 
 abbrev after-head : After-read_choice-phase_read → After-head-1
-after-head c = (record { before = c.before.before.before; type_inv = record { bytes = c.type_inv.bytes } })
+after-head c = (record { before = c.before.before.before; type_inv = record { bytes = c.shared_slice_known-1.given } })
 
 abbrev called-phase : In-Read → After-read_choice-phase_read
-called-phase c = (record { before = c.before.before; type_inv = record { bytes = c.type_inv.bytes } })
+called-phase c = (record { before = c.before.before; type_inv = record { bytes = c.shared_slice_known-1.given } })
 
 abbrev refused-phase : After-refused_slot-in_default-phase_read → After-read_choice-phase_read
-refused-phase c = (record { before = c.before.before.before.before; type_inv = record { bytes = c.type_inv.bytes } })
+refused-phase c = (record { before = c.before.before.before.before; type_inv = record { bytes = c.shared_slice_known-1.given } })
 
 abbrev after-phase : After-read_optional_result-last_result_read → In-Read
-after-phase c = (record { before = c.before.before.before; type_inv = record { bytes = c.type_inv.bytes } })
+after-phase c = (record { before = c.before.before.before; type_inv = record { bytes = c.shared_slice_known-1.given } })
 
 abbrev called-last-result : After-last_result-1 → After-read_optional_result-last_result_read
-called-last-result c = (record { before = c.before.before.before; type_inv = record { bytes = c.type_inv.bytes } })
+called-last-result c = (record { before = c.before.before.before; type_inv = record { bytes = c.shared_slice_known-1.given } })
 
 abbrev refused-last-result : After-refused_slot-in_default-last_result_to → After-read_optional_result-last_result_read
-refused-last-result c = (record { before = c.before.before.before.before; type_inv = record { bytes = c.type_inv.bytes } })
+refused-last-result c = (record { before = c.before.before.before.before; type_inv = record { bytes = c.shared_slice_known-1.given } })
 
 -- where the function began, from the call that reads each field
 abbrev start-head : After-read_slot_member-head_read → Start
@@ -158,8 +158,8 @@ returns-in_default-last_result_to c =
     c.in_default-last_result_to.is)))
 
 pub overflow_add-result : goal.overflow_add-result
-overflow_add-result c = record { fits = lt_of_le_of_lt (to-last-result.within _ (got-last-result (record { before = c.before.before; type_inv = record { bytes = c.type_inv.bytes } }))) (start-last-result (called-last-result (record { before = c.before.before; type_inv = record { bytes = c.type_inv.bytes } }))).well_formed.0.0 }
+overflow_add-result c = record { fits = lt_of_le_of_lt (to-last-result.within _ (got-last-result (record { before = c.before.before; type_inv = record { bytes = c.shared_slice_known-1.given } }))) (start-last-result (called-last-result (record { before = c.before.before; type_inv = record { bytes = c.shared_slice_known-1.given } }))).well_formed.0.0 }
 
 pub returns : goal.returns
 unfolding slot
-returns c = outcome-ok _ (via-ok _ _ _ _ _ (got-last-result (record { before = c.before.before; type_inv = record { bytes = c.type_inv.bytes } })))
+returns c = outcome-ok _ (via-ok _ _ _ _ _ (got-last-result (record { before = c.before.before; type_inv = record { bytes = c.shared_slice_known-1.given } })))

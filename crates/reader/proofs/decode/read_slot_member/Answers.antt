@@ -28,28 +28,28 @@ to-binding = dep to-retired-through (λ a. binding)
 
 -- the call that reads each field, from after the field and from after its refusal; the place after a field, from the call that reads the next
 abbrev called-identity : In-Read → After-read_identity-identity_read
-called-identity c = (record { before = c.before.before; type_inv = record { bytes = c.type_inv.bytes } })
+called-identity c = (record { before = c.before.before; type_inv = record { bytes = c.shared_slice_known-1.given } })
 
 abbrev refused-identity : After-refused_slot_member → After-read_identity-identity_read
-refused-identity c = (record { before = c.before.before.before.before; type_inv = record { bytes = c.type_inv.bytes } })
+refused-identity c = (record { before = c.before.before.before.before; type_inv = record { bytes = c.shared_slice_known-1.given } })
 
 abbrev after-identity : After-read_u64-retired_through_read → In-Read
-after-identity c = (record { before = c.before.before.before; type_inv = record { bytes = c.type_inv.bytes } })
+after-identity c = (record { before = c.before.before.before; type_inv = record { bytes = c.shared_slice_known-1.given } })
 
 abbrev called-retired-through : In-Read-retired_through_read → After-read_u64-retired_through_read
-called-retired-through c = (record { before = c.before.before; type_inv = record { bytes = c.type_inv.bytes } })
+called-retired-through c = (record { before = c.before.before; type_inv = record { bytes = c.shared_slice_known-1.given } })
 
 abbrev refused-retired-through : After-refused_slot_member-in_default-retired_through_read → After-read_u64-retired_through_read
-refused-retired-through c = (record { before = c.before.before.before.before; type_inv = record { bytes = c.type_inv.bytes } })
+refused-retired-through c = (record { before = c.before.before.before.before; type_inv = record { bytes = c.shared_slice_known-1.given } })
 
 abbrev after-retired-through : After-read_binding-binding_read → In-Read-retired_through_read
-after-retired-through c = (record { before = c.before.before.before; type_inv = record { bytes = c.type_inv.bytes } })
+after-retired-through c = (record { before = c.before.before.before; type_inv = record { bytes = c.shared_slice_known-1.given } })
 
 abbrev called-binding : After-binding-1 → After-read_binding-binding_read
-called-binding c = (record { before = c.before.before.before; type_inv = record { bytes = c.type_inv.bytes } })
+called-binding c = (record { before = c.before.before.before; type_inv = record { bytes = c.shared_slice_known-1.given } })
 
 abbrev refused-binding : After-refused_slot_member-in_default-binding_to → After-read_binding-binding_read
-refused-binding c = (record { before = c.before.before.before.before; type_inv = record { bytes = c.type_inv.bytes } })
+refused-binding c = (record { before = c.before.before.before.before; type_inv = record { bytes = c.shared_slice_known-1.given } })
 
 -- where the function began, from the call that reads each field
 abbrev start-identity : After-read_identity-identity_read → Start
@@ -161,5 +161,5 @@ overflow_add-result c = record { fits = lt_of_le_of_lt (to-binding.within _ (got
 pub returns : goal.returns
 unfolding slot_member
 returns c =
-    outcome-ok _ (via-ok _ _ _ _ _ (got-binding (record { before = c.before.before; type_inv = record { bytes = c.type_inv.bytes } }))
-    ∙ ap (λ v. ok (record { member = v; retired_through = retired-through-value (after-retired-through (called-binding (record { before = c.before.before; type_inv = record { bytes = c.type_inv.bytes } }))) }) (size-to-binding (record { before = c.before.before; type_inv = record { bytes = c.type_inv.bytes } }))) (sym c.member_of.ensures))
+    outcome-ok _ (via-ok _ _ _ _ _ (got-binding (record { before = c.before.before; type_inv = record { bytes = c.shared_slice_known-1.given } }))
+    ∙ ap (λ v. ok (record { member = v; retired_through = retired-through-value (after-retired-through (called-binding (record { before = c.before.before; type_inv = record { bytes = c.shared_slice_known-1.given } }))) }) (size-to-binding (record { before = c.before.before; type_inv = record { bytes = c.shared_slice_known-1.given } }))) (sym c.member_of.ensures))

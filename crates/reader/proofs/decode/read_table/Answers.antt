@@ -27,33 +27,33 @@ abbrev start : After-read_table_front-front → Start
 start c = c.before.before.before
 
 abbrev called-front : After-slots-1 → After-read_table_front-front
-called-front c = (record { before = c.before.before.before.before; type_inv = record { bytes = c.type_inv.bytes } })
+called-front c = (record { before = c.before.before.before.before; type_inv = record { bytes = c.shared_slice_known-1.given } })
 
 abbrev after_front : After-read_flag-flag → After-slots-1
-after_front c = (record { before = c.before.before.before; type_inv = record { bytes = c.type_inv.bytes } })
+after_front c = (record { before = c.before.before.before; type_inv = record { bytes = c.shared_slice_known-1.given } })
 
 abbrev called-flag : In-Read → After-read_flag-flag
-called-flag c = (record { before = c.before.before; type_inv = record { bytes = c.type_inv.bytes } })
+called-flag c = (record { before = c.before.before; type_inv = record { bytes = c.shared_slice_known-1.given } })
 
 abbrev refused-flag : After-refused_table-in_default-flag → After-read_flag-flag
-refused-flag c = (record { before = c.before.before.before.before; type_inv = record { bytes = c.type_inv.bytes } })
+refused-flag c = (record { before = c.before.before.before.before; type_inv = record { bytes = c.shared_slice_known-1.given } })
 
 -- the branch of a yes, from the open request's call; that call, from after the request and from after its refusal
 abbrev after-yes : After-read_replacement-replacement_read → Else-not-is_open
-after-yes c = (record { before = c.before.before.before; type_inv = record { bytes = c.type_inv.bytes } })
+after-yes c = (record { before = c.before.before.before; type_inv = record { bytes = c.shared_slice_known-1.given } })
 
 abbrev called-request : After-replacement-1 → After-read_replacement-replacement_read
-called-request c = (record { before = c.before.before.before; type_inv = record { bytes = c.type_inv.bytes } })
+called-request c = (record { before = c.before.before.before; type_inv = record { bytes = c.shared_slice_known-1.given } })
 
 abbrev refused-request : After-refused_table-in_default-replacement_to → After-read_replacement-replacement_read
-refused-request c = (record { before = c.before.before.before.before; type_inv = record { bytes = c.type_inv.bytes } })
+refused-request c = (record { before = c.before.before.before.before; type_inv = record { bytes = c.shared_slice_known-1.given } })
 
 -- the front's place, from after the flag and from the open request's call
 abbrev front-of-flag : In-Read → After-slots-1
 front-of-flag c = after_front (called-flag c)
 
 abbrev front-of-request : After-read_replacement-replacement_read → After-slots-1
-front-of-request c = front-of-flag (record { before = (after-yes c).before.before; type_inv = record { bytes = (after-yes c).type_inv.bytes } })
+front-of-request c = front-of-flag (record { before = (after-yes c).before.before; type_inv = record { bytes = (after-yes c).shared_slice_known-1.given } })
 
 -- the bytes, from after the front; how many the front, the flag and all with the request take
 abbrev bytes_of : After-slots-1 → List ℕ
@@ -66,7 +66,7 @@ abbrev flag-size : In-Read → ℕ
 flag-size c = c.in-Read.n
 
 abbrev request-at : After-read_replacement-replacement_read → ℕ
-request-at c = front-size (front-of-request c) + flag-size (record { before = (after-yes c).before.before; type_inv = record { bytes = (after-yes c).type_inv.bytes } })
+request-at c = front-size (front-of-request c) + flag-size (record { before = (after-yes c).before.before; type_inv = record { bytes = (after-yes c).shared_slice_known-1.given } })
 
 abbrev size : After-replacement-1 → ℕ
 size c = request-at (called-request c) + c.in-To-replacement_to.n
@@ -92,8 +92,8 @@ within : (c : In-Read)
 within c = dep-ok _ _ _ (front (front-of-flag c)) (flagged c)
 
 flagged-yes : (c : Else-not-is_open)
-    → flag.dec (drop (front-size (front-of-flag (record { before = c.before.before; type_inv = record { bytes = c.type_inv.bytes } }))) (bytes_of (front-of-flag (record { before = c.before.before; type_inv = record { bytes = c.type_inv.bytes } })))) ≡ ok true (flag-size (record { before = c.before.before; type_inv = record { bytes = c.type_inv.bytes } }))
-flagged-yes c = flagged (record { before = c.before.before; type_inv = record { bytes = c.type_inv.bytes } }) ∙ ap (λ t. ok t (flag-size (record { before = c.before.before; type_inv = record { bytes = c.type_inv.bytes } }))) (not-false _ c.if-not-is_open.false-raw)
+    → flag.dec (drop (front-size (front-of-flag (record { before = c.before.before; type_inv = record { bytes = c.shared_slice_known-1.given } }))) (bytes_of (front-of-flag (record { before = c.before.before; type_inv = record { bytes = c.shared_slice_known-1.given } })))) ≡ ok true (flag-size (record { before = c.before.before; type_inv = record { bytes = c.shared_slice_known-1.given } }))
+flagged-yes c = flagged (record { before = c.before.before; type_inv = record { bytes = c.shared_slice_known-1.given } }) ∙ ap (λ t. ok t (flag-size (record { before = c.before.before; type_inv = record { bytes = c.shared_slice_known-1.given } }))) (not-false _ c.if-not-is_open.false-raw)
 
 -- the open request that was read
 request : (c : After-replacement-1)
@@ -150,16 +150,16 @@ overflow_add-at c = record { fits = lt_of_le_of_lt ((dep table_front (λ a. flag
 pub returns-then-not-is_open : goal.returns-then-not-is_open
 unfolding table
 returns-then-not-is_open c =
-    let f = front-of-flag (record { before = c.before.before.before; type_inv = record { bytes = c.type_inv.bytes } }) in
-    let n = flag-size (record { before = c.before.before.before; type_inv = record { bytes = c.type_inv.bytes } }) in
-    let p = dep-ok _ _ _ (front f) (opt_none _ _ _ (flagged (record { before = c.before.before.before; type_inv = record { bytes = c.type_inv.bytes } }) ∙ ap (λ t. ok t n) (not-true _ c.if-not-is_open.true-raw))) in
+    let f = front-of-flag (record { before = c.before.before.before; type_inv = record { bytes = c.shared_slice_known-1.given } }) in
+    let n = flag-size (record { before = c.before.before.before; type_inv = record { bytes = c.shared_slice_known-1.given } }) in
+    let p = dep-ok _ _ _ (front f) (opt_none _ _ _ (flagged (record { before = c.before.before.before; type_inv = record { bytes = c.shared_slice_known-1.given } }) ∙ ap (λ t. ok t n) (not-true _ c.if-not-is_open.true-raw))) in
     outcome-ok _ (via-ok _ _ _ _ _ p ∙ ap (λ v. ok v (front-size f + n)) (sym c.idle_table_of.ensures))
 
 pub slice_bounds-read_replacement-count : goal.slice_bounds-read_replacement-count
-slice_bounds-read_replacement-count c = (dep table_front (λ a. flag)).within _ (within (record { before = c.before.before; type_inv = record { bytes = c.type_inv.bytes } }))
+slice_bounds-read_replacement-count c = (dep table_front (λ a. flag)).within _ (within (record { before = c.before.before; type_inv = record { bytes = c.shared_slice_known-1.given } }))
 
 pub slice_bounds-read_replacement-start : goal.slice_bounds-read_replacement-start
-slice_bounds-read_replacement-start c = (dep table_front (λ a. flag)).within _ (within (record { before = c.before.before; type_inv = record { bytes = c.type_inv.bytes } }))
+slice_bounds-read_replacement-start c = (dep table_front (λ a. flag)).within _ (within (record { before = c.before.before; type_inv = record { bytes = c.shared_slice_known-1.given } }))
 
 pub returns-in_default-replacement_to : goal.returns-in_default-replacement_to
 returns-in_default-replacement_to c =
@@ -173,4 +173,4 @@ pub overflow_add-result : goal.overflow_add-result
 overflow_add-result c = record { fits = lt_of_le_of_lt (table.within _ (whole c)) (start (called-front (front-of-request (called-request c)))).well_formed.0.0 }
 
 pub returns : goal.returns
-returns c = outcome-ok _ (whole (record { before = c.before.before; type_inv = record { bytes = c.type_inv.bytes } }) ∙ ap (λ v. ok v (size (record { before = c.before.before; type_inv = record { bytes = c.type_inv.bytes } }))) (sym c.table_of_parts.ensures))
+returns c = outcome-ok _ (whole (record { before = c.before.before; type_inv = record { bytes = c.shared_slice_known-1.given } }) ∙ ap (λ v. ok v (size (record { before = c.before.before; type_inv = record { bytes = c.shared_slice_known-1.given } }))) (sym c.table_of_parts.ensures))

@@ -33,37 +33,37 @@ to_slots = dep to-count (λ a. slots a.1)
 
 -- the call that reads each field, from after the field and from after its refusal; the place after a field, from the call that reads the next
 abbrev called-magic : In-To → After-read_head-magic
-called-magic c = (record { before = c.before.before; type_inv = record { bytes = c.type_inv.bytes } })
+called-magic c = (record { before = c.before.before; type_inv = record { bytes = c.shared_slice_known-1.given } })
 
 abbrev refused-magic : After-refused_table_front → After-read_head-magic
-refused-magic c = (record { before = c.before.before.before.before; type_inv = record { bytes = c.type_inv.bytes } })
+refused-magic c = (record { before = c.before.before.before.before; type_inv = record { bytes = c.shared_slice_known-1.given } })
 
 abbrev after-magic : After-read_table_head-head_read → In-To
-after-magic c = (record { before = c.before.before.before; type_inv = record { bytes = c.type_inv.bytes } })
+after-magic c = (record { before = c.before.before.before; type_inv = record { bytes = c.shared_slice_known-1.given } })
 
 abbrev called-head : After-head-1 → After-read_table_head-head_read
-called-head c = (record { before = c.before.before.before; type_inv = record { bytes = c.type_inv.bytes } })
+called-head c = (record { before = c.before.before.before; type_inv = record { bytes = c.shared_slice_known-1.given } })
 
 abbrev refused-head : After-refused_table_front-in_default-head_to → After-read_table_head-head_read
-refused-head c = (record { before = c.before.before.before.before; type_inv = record { bytes = c.type_inv.bytes } })
+refused-head c = (record { before = c.before.before.before.before; type_inv = record { bytes = c.shared_slice_known-1.given } })
 
 abbrev after-head : After-read_count-count_read → After-head-1
-after-head c = (record { before = c.before.before.before; type_inv = record { bytes = c.type_inv.bytes } })
+after-head c = (record { before = c.before.before.before; type_inv = record { bytes = c.shared_slice_known-1.given } })
 
 abbrev called-count : In-Read → After-read_count-count_read
-called-count c = (record { before = c.before.before; type_inv = record { bytes = c.type_inv.bytes } })
+called-count c = (record { before = c.before.before; type_inv = record { bytes = c.shared_slice_known-1.given } })
 
 abbrev refused-count : After-refused_table_front-in_default-count_read → After-read_count-count_read
-refused-count c = (record { before = c.before.before.before.before; type_inv = record { bytes = c.type_inv.bytes } })
+refused-count c = (record { before = c.before.before.before.before; type_inv = record { bytes = c.shared_slice_known-1.given } })
 
 abbrev after-count : After-read_slots-slots_read → In-Read
-after-count c = (record { before = c.before.before.before; type_inv = record { bytes = c.type_inv.bytes } })
+after-count c = (record { before = c.before.before.before; type_inv = record { bytes = c.shared_slice_known-1.given } })
 
 abbrev called-slots : After-slots-1 → After-read_slots-slots_read
-called-slots c = (record { before = c.before.before.before; type_inv = record { bytes = c.type_inv.bytes } })
+called-slots c = (record { before = c.before.before.before; type_inv = record { bytes = c.shared_slice_known-1.given } })
 
 abbrev refused-slots : After-refused_table_front-in_default-slots_to → After-read_slots-slots_read
-refused-slots c = (record { before = c.before.before.before.before; type_inv = record { bytes = c.type_inv.bytes } })
+refused-slots c = (record { before = c.before.before.before.before; type_inv = record { bytes = c.shared_slice_known-1.given } })
 
 -- where the function began, from the call that reads each field
 abbrev start-magic : After-read_head-magic → Start
@@ -202,7 +202,7 @@ pub slice_bounds-read_slots-start : goal.slice_bounds-read_slots-start
 slice_bounds-read_slots-start c = to-count.within _ (got-count c)
 
 pub read_slots-slots_read-requires : goal.read_slots-slots_read-requires
-read_slots-slots_read-requires c = count-read _ (counted (record { before = c.before.before; type_inv = record { bytes = c.type_inv.bytes } }))
+read_slots-slots_read-requires c = count-read _ (counted (record { before = c.before.before; type_inv = record { bytes = c.shared_slice_known-1.given } }))
 
 pub returns-in_default-slots_to : goal.returns-in_default-slots_to
 returns-in_default-slots_to c =

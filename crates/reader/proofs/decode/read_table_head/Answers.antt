@@ -31,37 +31,37 @@ to-configuration-epoch = dep to-revision (λ a. epoch)
 
 -- the call that reads each field, from after the field and from after its refusal; the place after a field, from the call that reads the next
 abbrev called-cluster-instance : After-cluster_instance-1 → After-read_array32-cluster_instance_read
-called-cluster-instance c = (record { before = c.before.before.before; type_inv = record { bytes = c.type_inv.bytes } })
+called-cluster-instance c = (record { before = c.before.before.before; type_inv = record { bytes = c.shared_slice_known-1.given } })
 
 abbrev refused-cluster-instance : After-refused_table_head → After-read_array32-cluster_instance_read
-refused-cluster-instance c = (record { before = c.before.before.before.before; type_inv = record { bytes = c.type_inv.bytes } })
+refused-cluster-instance c = (record { before = c.before.before.before.before; type_inv = record { bytes = c.shared_slice_known-1.given } })
 
 abbrev after-cluster-instance : After-read_array32-manifest_digest_read → After-cluster_instance-1
-after-cluster-instance c = (record { before = c.before.before.before; type_inv = record { bytes = c.type_inv.bytes } })
+after-cluster-instance c = (record { before = c.before.before.before; type_inv = record { bytes = c.shared_slice_known-1.given } })
 
 abbrev called-manifest-digest : After-manifest_digest-1 → After-read_array32-manifest_digest_read
-called-manifest-digest c = (record { before = c.before.before.before; type_inv = record { bytes = c.type_inv.bytes } })
+called-manifest-digest c = (record { before = c.before.before.before; type_inv = record { bytes = c.shared_slice_known-1.given } })
 
 abbrev refused-manifest-digest : After-refused_table_head-in_default-manifest_digest_to → After-read_array32-manifest_digest_read
-refused-manifest-digest c = (record { before = c.before.before.before.before; type_inv = record { bytes = c.type_inv.bytes } })
+refused-manifest-digest c = (record { before = c.before.before.before.before; type_inv = record { bytes = c.shared_slice_known-1.given } })
 
 abbrev after-manifest-digest : After-read_u64-revision_read → After-manifest_digest-1
-after-manifest-digest c = (record { before = c.before.before.before; type_inv = record { bytes = c.type_inv.bytes } })
+after-manifest-digest c = (record { before = c.before.before.before; type_inv = record { bytes = c.shared_slice_known-1.given } })
 
 abbrev called-revision : In-Read → After-read_u64-revision_read
-called-revision c = (record { before = c.before.before; type_inv = record { bytes = c.type_inv.bytes } })
+called-revision c = (record { before = c.before.before; type_inv = record { bytes = c.shared_slice_known-1.given } })
 
 abbrev refused-revision : After-refused_table_head-in_default-revision_read → After-read_u64-revision_read
-refused-revision c = (record { before = c.before.before.before.before; type_inv = record { bytes = c.type_inv.bytes } })
+refused-revision c = (record { before = c.before.before.before.before; type_inv = record { bytes = c.shared_slice_known-1.given } })
 
 abbrev after-revision : After-read_epoch-configuration_epoch_read → In-Read
-after-revision c = (record { before = c.before.before.before; type_inv = record { bytes = c.type_inv.bytes } })
+after-revision c = (record { before = c.before.before.before; type_inv = record { bytes = c.shared_slice_known-1.given } })
 
 abbrev called-configuration-epoch : In-Read-configuration_epoch_read → After-read_epoch-configuration_epoch_read
-called-configuration-epoch c = (record { before = c.before.before; type_inv = record { bytes = c.type_inv.bytes } })
+called-configuration-epoch c = (record { before = c.before.before; type_inv = record { bytes = c.shared_slice_known-1.given } })
 
 abbrev refused-configuration-epoch : After-refused_table_head-in_default-configuration_epoch_read → After-read_epoch-configuration_epoch_read
-refused-configuration-epoch c = (record { before = c.before.before.before.before; type_inv = record { bytes = c.type_inv.bytes } })
+refused-configuration-epoch c = (record { before = c.before.before.before.before; type_inv = record { bytes = c.shared_slice_known-1.given } })
 
 -- where the function began, from the call that reads each field
 abbrev start-cluster-instance : After-read_array32-cluster_instance_read → Start

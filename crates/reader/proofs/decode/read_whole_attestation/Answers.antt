@@ -22,7 +22,7 @@ use Rattle.reader.proofs.decode.read_whole_attestation.Goals.{After-read_attesta
 
 -- the call, from after the attestation; the bytes, what was read, and how many bytes that is
 abbrev called : After-value-1 → After-read_attestation-read
-called c = (record { before = c.before.before.before; type_inv = record { bytes = c.type_inv.bytes } })
+called c = (record { before = c.before.before.before; type_inv = record { bytes = c.shared_slice_known-1.given } })
 
 abbrev input : After-value-1 → List ℕ
 input c = (called c).args.bytes.now
@@ -50,7 +50,7 @@ returns-in_default c =
 pub returns-then-not-n-bytes : goal.returns-then-not-n-bytes
 unfolding pick
 returns-then-not-n-bytes c =
-    let k : After-value-1 = record { before = c.before.before.before.before; type_inv = record { bytes = c.type_inv.bytes } } in
+    let k : After-value-1 = record { before = c.before.before.before.before; type_inv = record { bytes = c.shared_slice_known-1.given } } in
     let whole-read = eqb (size k) (length (input k)) in
     let v = c.is_valid_attestation in
     outcome-no blank_lost_voter_attestation_v1 c.refused_attestation.ensures
@@ -60,7 +60,7 @@ returns-then-not-n-bytes c =
 pub returns : goal.returns
 unfolding pick
 returns c =
-    let k : After-value-1 = record { before = c.before.before.before; type_inv = record { bytes = c.type_inv.bytes } } in
+    let k : After-value-1 = record { before = c.before.before.before; type_inv = record { bytes = c.shared_slice_known-1.given } } in
     let whole-read = eqb (size k) (length (input k)) in
     let v = c.is_valid_attestation in
     let p = attestation-by (input k) whole-read v.result (is k) refl (sym v.ensures)

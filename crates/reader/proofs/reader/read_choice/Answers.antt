@@ -27,13 +27,13 @@ returns-in_default c = ap u8_read c.in_default.is ∙ sym (checked-no _ _ _ (got
 pub returns-then-not-low-value : goal.returns-then-not-low-value
 unfolding choice pick
 returns-then-not-low-value c =
-    let k : In-Read = record { before = c.before.before; type_inv = record { bytes = c.type_inv.bytes } } in
+    let k : In-Read = record { before = c.before.before; type_inv = record { bytes = c.shared_slice_known-1.given } } in
     let a = c.args in
     sym (checked-bad _ _ _ (is k) (ap require (not-true (leb a.low k.in-Read.value && leb k.in-Read.value a.high) c.if-not-low-value.true-raw)))
 
 pub returns : goal.returns
 unfolding choice pick
 returns c =
-    let k : In-Read = record { before = c.before.before; type_inv = record { bytes = c.type_inv.bytes } } in
+    let k : In-Read = record { before = c.before.before; type_inv = record { bytes = c.shared_slice_known-1.given } } in
     let a = c.args in
     sym (checked-ok _ _ _ (is k) (ap require (not-false (leb a.low k.in-Read.value && leb k.in-Read.value a.high) c.if-not-low-value.false-raw)))

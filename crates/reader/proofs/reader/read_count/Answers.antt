@@ -24,8 +24,8 @@ returns-in_default c = ap u8_read c.in_default.is ∙ sym (checked-no _ _ _ (got
 
 pub returns-then-not-is_valid_count : goal.returns-then-not-is_valid_count
 unfolding slot_count pick
-returns-then-not-is_valid_count c = sym (checked-bad _ _ _ (is (record { before = c.before.before.before; type_inv = record { bytes = c.type_inv.bytes } })) (ap require (failed c.is_valid_count.ensures c.if-not-is_valid_count.true-raw)))
+returns-then-not-is_valid_count c = sym (checked-bad _ _ _ (is (record { before = c.before.before.before; type_inv = record { bytes = c.shared_slice_known-1.given } })) (ap require (failed c.is_valid_count.ensures c.if-not-is_valid_count.true-raw)))
 
 pub returns : goal.returns
 unfolding slot_count pick
-returns c = sym (checked-ok _ _ _ (is (record { before = c.before.before.before; type_inv = record { bytes = c.type_inv.bytes } })) (ap require (held c.is_valid_count.ensures c.if-not-is_valid_count.false-raw)))
+returns c = sym (checked-ok _ _ _ (is (record { before = c.before.before.before; type_inv = record { bytes = c.shared_slice_known-1.given } })) (ap require (held c.is_valid_count.ensures c.if-not-is_valid_count.false-raw)))

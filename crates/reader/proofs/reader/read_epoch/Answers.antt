@@ -24,8 +24,8 @@ returns-in_default c = ap u64_read c.in_default.is ∙ sym (checked-no _ _ _ (go
 
 pub returns-then-not-is_configuration_epoch : goal.returns-then-not-is_configuration_epoch
 unfolding epoch pick
-returns-then-not-is_configuration_epoch c = sym (checked-bad _ _ _ (is (record { before = c.before.before.before; type_inv = record { bytes = c.type_inv.bytes } })) (ap require (failed c.is_configuration_epoch.ensures c.if-not-is_configuration_epoch.true-raw)))
+returns-then-not-is_configuration_epoch c = sym (checked-bad _ _ _ (is (record { before = c.before.before.before; type_inv = record { bytes = c.shared_slice_known-1.given } })) (ap require (failed c.is_configuration_epoch.ensures c.if-not-is_configuration_epoch.true-raw)))
 
 pub returns : goal.returns
 unfolding epoch pick
-returns c = sym (checked-ok _ _ _ (is (record { before = c.before.before.before; type_inv = record { bytes = c.type_inv.bytes } })) (ap require (held c.is_configuration_epoch.ensures c.if-not-is_configuration_epoch.false-raw)))
+returns c = sym (checked-ok _ _ _ (is (record { before = c.before.before.before; type_inv = record { bytes = c.shared_slice_known-1.given } })) (ap require (held c.is_configuration_epoch.ensures c.if-not-is_configuration_epoch.false-raw)))

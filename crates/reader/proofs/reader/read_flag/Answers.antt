@@ -26,8 +26,8 @@ returns-in_default c = ap (λ a. no (number_of a)) (c.why_u8.ensures ∙ ap why_
 
 pub returns-then-value-gt1 : goal.returns-then-value-gt1
 unfolding flag flag_test pick
-returns-then-value-gt1 c = sym (via-no _ _ _ _ _ (checked-bad _ _ _ (is (record { before = c.before.before; type_inv = record { bytes = c.type_inv.bytes } })) (ap (λ t. pick t 0 6) (lt-leb c.in-Read.value 1 c.if-value-gt1.true))))
+returns-then-value-gt1 c = sym (via-no _ _ _ _ _ (checked-bad _ _ _ (is (record { before = c.before.before; type_inv = record { bytes = c.shared_slice_known-1.given } })) (ap (λ t. pick t 0 6) (lt-leb c.in-Read.value 1 c.if-value-gt1.true))))
 
 pub returns : goal.returns
 unfolding flag flag_test pick
-returns c = sym (via-ok _ _ _ _ _ (checked-ok _ _ _ (is (record { before = c.before.before; type_inv = record { bytes = c.type_inv.bytes } })) (ap (λ t. pick t 0 6) (le-leb c.in-Read.value 1 (omega arith)))))
+returns c = sym (via-ok _ _ _ _ _ (checked-ok _ _ _ (is (record { before = c.before.before; type_inv = record { bytes = c.shared_slice_known-1.given } })) (ap (λ t. pick t 0 6) (le-leb c.in-Read.value 1 (omega arith)))))

@@ -22,19 +22,19 @@ to-index = dep to-term (λ a. uint 8)
 
 -- the call that reads each field, from after the field and from after its refusal; the place after a field, from the call that reads the next
 abbrev called-term : In-Read → After-read_u64-term_read
-called-term c = (record { before = c.before.before; type_inv = record { bytes = c.type_inv.bytes } })
+called-term c = (record { before = c.before.before; type_inv = record { bytes = c.shared_slice_known-1.given } })
 
 abbrev refused-term : After-why_u64 → After-read_u64-term_read
-refused-term c = (record { before = c.before.before.before; type_inv = record { bytes = c.type_inv.bytes } })
+refused-term c = (record { before = c.before.before.before; type_inv = record { bytes = c.shared_slice_known-1.given } })
 
 abbrev after-term : After-read_u64-index_read → In-Read
-after-term c = (record { before = c.before.before.before; type_inv = record { bytes = c.type_inv.bytes } })
+after-term c = (record { before = c.before.before.before; type_inv = record { bytes = c.shared_slice_known-1.given } })
 
 abbrev called-index : In-Read-index_read → After-read_u64-index_read
-called-index c = (record { before = c.before.before; type_inv = record { bytes = c.type_inv.bytes } })
+called-index c = (record { before = c.before.before; type_inv = record { bytes = c.shared_slice_known-1.given } })
 
 abbrev refused-index : After-why_u64-in_default-index_read → After-read_u64-index_read
-refused-index c = (record { before = c.before.before.before; type_inv = record { bytes = c.type_inv.bytes } })
+refused-index c = (record { before = c.before.before.before; type_inv = record { bytes = c.shared_slice_known-1.given } })
 
 -- where the function began, from the call that reads each field
 abbrev start-term : After-read_u64-term_read → Start

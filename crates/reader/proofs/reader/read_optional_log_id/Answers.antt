@@ -21,16 +21,16 @@ abbrev start : In-Read → Start
 start c = c.before.before.before.before
 
 abbrev at_flag : Else-not-is_some → In-Read
-at_flag c = (record { before = c.before.before; type_inv = record { bytes = c.type_inv.bytes } })
+at_flag c = (record { before = c.before.before; type_inv = record { bytes = c.shared_slice_known-1.given } })
 
 abbrev at-yes : After-read_log_id-second → Else-not-is_some
-at-yes c = (record { before = c.before.before.before; type_inv = record { bytes = c.type_inv.bytes } })
+at-yes c = (record { before = c.before.before.before; type_inv = record { bytes = c.shared_slice_known-1.given } })
 
 abbrev called : In-Read-second → After-read_log_id-second
-called c = (record { before = c.before.before; type_inv = record { bytes = c.type_inv.bytes } })
+called c = (record { before = c.before.before; type_inv = record { bytes = c.shared_slice_known-1.given } })
 
 abbrev refused : After-why_log_id → After-read_log_id-second
-refused c = (record { before = c.before.before.before; type_inv = record { bytes = c.type_inv.bytes } })
+refused c = (record { before = c.before.before.before; type_inv = record { bytes = c.shared_slice_known-1.given } })
 
 -- how many bytes the flag has, and the whole
 abbrev flag-size : In-Read → ℕ
@@ -67,10 +67,10 @@ returns-in_default c =
 pub returns-then-not-is_some : goal.returns-then-not-is_some
 unfolding optional_log_id blank_voter_slot_log_id
 returns-then-not-is_some c =
-    let n = flag-size (record { before = c.before.before; type_inv = record { bytes = c.type_inv.bytes } }) in
+    let n = flag-size (record { before = c.before.before; type_inv = record { bytes = c.shared_slice_known-1.given } }) in
     let t = not-true _ c.if-not-is_some.true-raw in
     ap (λ b. ok (record { is_some = b; cut = blank_voter_slot_log_id }) n) t
-    ∙ sym (via-ok _ _ _ _ _ (opt_none _ _ _ (flagged (record { before = c.before.before; type_inv = record { bytes = c.type_inv.bytes } }) ∙ ap (λ b. ok b n) t)))
+    ∙ sym (via-ok _ _ _ _ _ (opt_none _ _ _ (flagged (record { before = c.before.before; type_inv = record { bytes = c.shared_slice_known-1.given } }) ∙ ap (λ b. ok b n) t)))
 
 pub slice_bounds-read_log_id-count : goal.slice_bounds-read_log_id-count
 slice_bounds-read_log_id-count c = flag.within _ (flagged (at_flag c))

@@ -29,10 +29,10 @@ abbrev start : In-Read → Start
 start c = c.before.before.before.before
 
 abbrev sized-refused : After-refused_snapshot_id-then-not-is_utf8 → In-Read
-sized-refused c = (record { before = c.before.before.before.before.before; type_inv = record { bytes = c.type_inv.bytes } })
+sized-refused c = (record { before = c.before.before.before.before.before; type_inv = record { bytes = c.shared_slice_known-1.given } })
 
 abbrev sized-held : After-place-1 → In-Read
-sized-held c = (record { before = c.before.before.before.before.before.before; type_inv = record { bytes = c.type_inv.bytes } })
+sized-held c = (record { before = c.before.before.before.before.before.before; type_inv = record { bytes = c.shared_slice_known-1.given } })
 
 -- how many bytes the text has, where it begins, and in which bytes
 abbrev text-size : In-Read → ℕ
@@ -88,7 +88,7 @@ put_bytes-requires c =
 pub returns : goal.returns
 unfolding snapshot_id string pick
 returns c =
-    let k = sized-held (record { before = c.before.before.before; type_inv = record { bytes = c.type_inv.bytes } }) in
+    let k = sized-held (record { before = c.before.before.before; type_inv = record { bytes = c.shared_slice_known-1.given } }) in
     let n = text-size (k) in
     let at = text_at (k) in
     let s = input (k) in

@@ -25,28 +25,28 @@ to-third = dep to-second (λ a. optional_log_id)
 
 -- the call that reads each field, from after the field and from after its refusal; the place after a field, from the call that reads the next
 abbrev called-first : In-Read → After-read_optional_log_id-first_read
-called-first c = (record { before = c.before.before; type_inv = record { bytes = c.type_inv.bytes } })
+called-first c = (record { before = c.before.before; type_inv = record { bytes = c.shared_slice_known-1.given } })
 
 abbrev refused-first : After-why_optional_log_id → After-read_optional_log_id-first_read
-refused-first c = (record { before = c.before.before.before; type_inv = record { bytes = c.type_inv.bytes } })
+refused-first c = (record { before = c.before.before.before; type_inv = record { bytes = c.shared_slice_known-1.given } })
 
 abbrev after_first : After-read_optional_log_id-second_read → In-Read
-after_first c = (record { before = c.before.before.before; type_inv = record { bytes = c.type_inv.bytes } })
+after_first c = (record { before = c.before.before.before; type_inv = record { bytes = c.shared_slice_known-1.given } })
 
 abbrev called-second : In-Read-second_read → After-read_optional_log_id-second_read
-called-second c = (record { before = c.before.before; type_inv = record { bytes = c.type_inv.bytes } })
+called-second c = (record { before = c.before.before; type_inv = record { bytes = c.shared_slice_known-1.given } })
 
 abbrev refused-second : After-why_optional_log_id-in_default-second_read → After-read_optional_log_id-second_read
-refused-second c = (record { before = c.before.before.before; type_inv = record { bytes = c.type_inv.bytes } })
+refused-second c = (record { before = c.before.before.before; type_inv = record { bytes = c.shared_slice_known-1.given } })
 
 abbrev after-second : After-read_optional_log_id-third_read → In-Read-second_read
-after-second c = (record { before = c.before.before.before; type_inv = record { bytes = c.type_inv.bytes } })
+after-second c = (record { before = c.before.before.before; type_inv = record { bytes = c.shared_slice_known-1.given } })
 
 abbrev called-third : In-Read-third_read → After-read_optional_log_id-third_read
-called-third c = (record { before = c.before.before; type_inv = record { bytes = c.type_inv.bytes } })
+called-third c = (record { before = c.before.before; type_inv = record { bytes = c.shared_slice_known-1.given } })
 
 abbrev refused-third : After-why_optional_log_id-in_default-third_read → After-read_optional_log_id-third_read
-refused-third c = (record { before = c.before.before.before; type_inv = record { bytes = c.type_inv.bytes } })
+refused-third c = (record { before = c.before.before.before; type_inv = record { bytes = c.shared_slice_known-1.given } })
 
 -- where the function began, from the call that reads each field
 abbrev start_first : After-read_optional_log_id-first_read → Start

@@ -28,37 +28,37 @@ to-expires-ms = dep to-issued-ms (λ a. uint 8)
 
 -- the call that reads each field, from after the field and from after its refusal; the place after a field, from the call that reads the next
 abbrev called-observation-start-ms : In-Read → After-read_u64-observation_start_ms_read
-called-observation-start-ms c = (record { before = c.before.before; type_inv = record { bytes = c.type_inv.bytes } })
+called-observation-start-ms c = (record { before = c.before.before; type_inv = record { bytes = c.shared_slice_known-1.given } })
 
 abbrev refused-observation-start-ms : After-why_u64 → After-read_u64-observation_start_ms_read
-refused-observation-start-ms c = (record { before = c.before.before.before; type_inv = record { bytes = c.type_inv.bytes } })
+refused-observation-start-ms c = (record { before = c.before.before.before; type_inv = record { bytes = c.shared_slice_known-1.given } })
 
 abbrev after-observation-start-ms : After-read_u64-decision_ms_read → In-Read
-after-observation-start-ms c = (record { before = c.before.before.before; type_inv = record { bytes = c.type_inv.bytes } })
+after-observation-start-ms c = (record { before = c.before.before.before; type_inv = record { bytes = c.shared_slice_known-1.given } })
 
 abbrev called-decision-ms : In-Read-decision_ms_read → After-read_u64-decision_ms_read
-called-decision-ms c = (record { before = c.before.before; type_inv = record { bytes = c.type_inv.bytes } })
+called-decision-ms c = (record { before = c.before.before; type_inv = record { bytes = c.shared_slice_known-1.given } })
 
 abbrev refused-decision-ms : After-why_u64-in_default-decision_ms_read → After-read_u64-decision_ms_read
-refused-decision-ms c = (record { before = c.before.before.before; type_inv = record { bytes = c.type_inv.bytes } })
+refused-decision-ms c = (record { before = c.before.before.before; type_inv = record { bytes = c.shared_slice_known-1.given } })
 
 abbrev after-decision-ms : After-read_u64-issued_ms_read → In-Read-decision_ms_read
-after-decision-ms c = (record { before = c.before.before.before; type_inv = record { bytes = c.type_inv.bytes } })
+after-decision-ms c = (record { before = c.before.before.before; type_inv = record { bytes = c.shared_slice_known-1.given } })
 
 abbrev called-issued-ms : In-Read-issued_ms_read → After-read_u64-issued_ms_read
-called-issued-ms c = (record { before = c.before.before; type_inv = record { bytes = c.type_inv.bytes } })
+called-issued-ms c = (record { before = c.before.before; type_inv = record { bytes = c.shared_slice_known-1.given } })
 
 abbrev refused-issued-ms : After-why_u64-in_default-issued_ms_read → After-read_u64-issued_ms_read
-refused-issued-ms c = (record { before = c.before.before.before; type_inv = record { bytes = c.type_inv.bytes } })
+refused-issued-ms c = (record { before = c.before.before.before; type_inv = record { bytes = c.shared_slice_known-1.given } })
 
 abbrev after-issued-ms : After-read_u64-expires_ms_read → In-Read-issued_ms_read
-after-issued-ms c = (record { before = c.before.before.before; type_inv = record { bytes = c.type_inv.bytes } })
+after-issued-ms c = (record { before = c.before.before.before; type_inv = record { bytes = c.shared_slice_known-1.given } })
 
 abbrev called-expires-ms : In-Read-expires_ms_read → After-read_u64-expires_ms_read
-called-expires-ms c = (record { before = c.before.before; type_inv = record { bytes = c.type_inv.bytes } })
+called-expires-ms c = (record { before = c.before.before; type_inv = record { bytes = c.shared_slice_known-1.given } })
 
 abbrev refused-expires-ms : After-why_u64-in_default-expires_ms_read → After-read_u64-expires_ms_read
-refused-expires-ms c = (record { before = c.before.before.before; type_inv = record { bytes = c.type_inv.bytes } })
+refused-expires-ms c = (record { before = c.before.before.before; type_inv = record { bytes = c.shared_slice_known-1.given } })
 
 -- where the function began, from the call that reads each field
 abbrev start-observation-start-ms : After-read_u64-observation_start_ms_read → Start

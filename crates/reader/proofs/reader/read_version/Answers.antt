@@ -25,8 +25,8 @@ returns-in_default c = ap (λ a. no (number_of a)) (c.why_u16.ensures ∙ ap why
 
 pub returns-then-value-ne-VERSION : goal.returns-then-value-ne-VERSION
 unfolding version pick
-returns-then-value-ne-VERSION c = sym (via-no _ _ _ _ _ (checked-bad _ _ _ (is (record { before = c.before.before; type_inv = record { bytes = c.type_inv.bytes } })) (ap require (ne_eqb _ _ c.if-value-ne-VERSION.true))))
+returns-then-value-ne-VERSION c = sym (via-no _ _ _ _ _ (checked-bad _ _ _ (is (record { before = c.before.before; type_inv = record { bytes = c.shared_slice_known-1.given } })) (ap require (ne_eqb _ _ c.if-value-ne-VERSION.true))))
 
 pub returns : goal.returns
 unfolding version pick
-returns c = sym (via-ok _ _ _ _ _ (checked-ok _ _ _ (is (record { before = c.before.before; type_inv = record { bytes = c.type_inv.bytes } })) (ap require (eq-eqb _ _ c.if-value-ne-VERSION.false))))
+returns c = sym (via-ok _ _ _ _ _ (checked-ok _ _ _ (is (record { before = c.before.before; type_inv = record { bytes = c.shared_slice_known-1.given } })) (ap require (eq-eqb _ _ c.if-value-ne-VERSION.false))))

@@ -6,6 +6,7 @@ use borrow.Author.Tests.{not-true, not-false}
 use Rattle.records.specs.Evidence.{valid_log_id, valid_evidence}
 use Rattle.records.proofs.evidence.is_valid_evidence.Goals as goal
 use Rattle.records.proofs.evidence.is_valid_evidence.Goals.{Else-not-is_valid_log_id}
+use Rattle.records.proofs.evidence.is_valid_evidence.Goals.{else-evidence-via-then-evidence+else-not-is_valid_snapshot_id, else-evidence-via-else-evidence}
 
 pub returns-then-not-is_valid_log_id : goal.returns-then-not-is_valid_log_id
 unfolding valid_evidence
@@ -32,7 +33,8 @@ returns c =
       c.are_valid_stages.ensures,
       c.is_valid_continuation.ensures,
     )
-    (⊎_elim
-    (λ w. simp (w.0.taken, sym w.1.ensures ∙ not-false _ w.2.left))
-    (λ w. rw w.left)
-    c.else-evidence.branch)
+    (elim c.else-evidence.branch [
+      | else-evidence-via-then-evidence+else-not-is_valid_snapshot_id w ↦
+          simp (w.if-evidence.true, sym w.is_valid_snapshot_id.ensures ∙ w.if-not-is_valid_snapshot_id.false)
+      | else-evidence-via-else-evidence w ↦ rw w.if-evidence.false
+    ])

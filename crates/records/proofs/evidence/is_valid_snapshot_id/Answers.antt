@@ -9,17 +9,13 @@ use Rattle.identity.specs.Text.{max_snapshot_id_bytes}
 use Rattle.records.proofs.evidence.is_valid_snapshot_id.Goals as goal
 use Rattle.records.proofs.evidence.is_valid_snapshot_id.Goals.{Start}
 
--- the array has 256 bytes
-len256 : (c : Start) → length c.args.id.bytes ≡ 256
-len256 c = search rules
-
 pub returns-then-len-gt-MAX_VOTER_SNAPSHOT_ID_BYTES : goal.returns-then-len-gt-MAX_VOTER_SNAPSHOT_ID_BYTES
 returns-then-len-gt-MAX_VOTER_SNAPSHOT_ID_BYTES c = rw (lt-leb c.args.id.len max_snapshot_id_bytes (omega arith))
 
 pub slice_bounds-is_snapshot_id-end : goal.slice_bounds-is_snapshot_id-end
 slice_bounds-is_snapshot_id-end c =
     let id = c.args.id in
-    let h = len256 c.before in
+    let h : length id.bytes ≡ 256 = search rules in
     let l : id.len ≤ 256 = omega (arith, c.if-len-gt-MAX_VOTER_SNAPSHOT_ID_BYTES.false) in
     let k : id.len ≡ length (take id.len id.bytes) = simp length-take (omega arith) in
     k

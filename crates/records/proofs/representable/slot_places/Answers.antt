@@ -8,6 +8,7 @@ use Rattle.records.specs.Records.{all_below}
 use Rattle.records.specs.RecordsLaws.{all_below-turn}
 use Rattle.records.proofs.representable.slot_places.Goals as goal
 use Rattle.records.proofs.representable.slot_places.Invariants.{held}
+use Rattle.records.proofs.representable.slot_places.Goals.{then-table-i, else-table-i}
 
 pub loop-i-init : goal.loop-i-init
 unfolding all_below
@@ -18,10 +19,10 @@ loop-i-preserved c =
     let t = c.args.table in
     let i = c.loop-i.i in (
       omega arith,
-      ⊎_elim
-          (λ w. w.3 ∙ all_below-turn (held t) i _ _ c.loop-i.invariant.1 (rw (le-leb t.count i w.0.taken) w.2.ensures))
-          (λ w. w.3 ∙ all_below-turn (held t) i _ _ c.loop-i.invariant.1 (rw (lt-leb t.count i w.0.left) w.2.ensures))
-          c.if-table-i.branch,
+      elim c.if-table-i.branch [
+        | then-table-i w ↦ w.all-is ∙ all_below-turn (held t) i _ _ c.loop-i.invariant.1 (rw (le-leb t.count i w.if-table-i.true) w.is_blank_voter_slot_record-all.ensures)
+        | else-table-i w ↦ w.all-is ∙ all_below-turn (held t) i _ _ c.loop-i.invariant.1 (rw (lt-leb t.count i w.if-table-i.false) w.is_representable_slot_record-all.ensures)
+      ],
     )
 
 pub returns : goal.returns

@@ -14,8 +14,8 @@ returns-then-len-gt-MAX_VOTER_SPIFFE_ID_BYTES c = rw (lt-leb c.args.len max_spif
 pub slice_bounds-is_name-end : goal.slice_bounds-is_name-end
 slice_bounds-is_name-end c =
     let a = c.args in
-    let h : length a.t2 ≡ 2048 = search rules in
-    sym (length-take-le a.len a.t2 (omega arith))
+    let h : length a.bytes ≡ 2048 = search rules in
+    sym (length-take-le a.len a.bytes (omega arith))
 
 pub returns : goal.returns
 returns c =

@@ -9,6 +9,7 @@ use Rattle.records.specs.RecordsLaws.{all_below-turn}
 use Rattle.records.specs.ValidationLaws.{distinct_without}
 use Rattle.records.proofs.validation.results_distinct.Goals as goal
 use Rattle.records.proofs.validation.results_distinct.Invariants.{test_at}
+use Rattle.records.proofs.validation.results_distinct.Goals.{then-slots-i, else-slots-i}
 
 pub loop-i-init : goal.loop-i-init
 unfolding all_below
@@ -19,10 +20,10 @@ loop-i-preserved c =
     let t = c.args.table in
     let i = c.loop-i.i in (
       omega arith,
-      ⊎_elim
-          (λ w. w.2 ∙ all_below-turn (test_at t) i _ _ c.loop-i.invariant.1 w.1.ensures)
-          (λ w. w.1 ∙ (sym (and-true _) ∙ all_below-turn (test_at t) i _ true c.loop-i.invariant.1 (sym (distinct_without t i w.0.left))))
-          c.if-slots-i.branch,
+      elim c.if-slots-i.branch [
+        | then-slots-i w ↦ w.all-is ∙ all_below-turn (test_at t) i _ _ c.loop-i.invariant.1 w.distinct_below-all.ensures
+        | else-slots-i w ↦ w.all-is ∙ (sym (and-true _) ∙ all_below-turn (test_at t) i _ true c.loop-i.invariant.1 (sym (distinct_without t i w.if-slots-i.false)))
+      ],
     )
 
 pub returns : goal.returns

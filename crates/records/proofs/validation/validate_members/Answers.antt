@@ -14,6 +14,7 @@ use Rattle.records.specs.ValidationLaws.{member_answer, member-claims, members-a
 use Rattle.records.specs.declared.records.VoterSlotTable.{VoterSlotTable}
 use Rattle.records.proofs.validation.validate_members.Goals as goal
 use Rattle.records.proofs.validation.validate_members.Goals.{After-claims_of-claims, After-is_other_request-other, After-same_voter_slot_member, After-same_voter_slot_member-unchanged, After-struct_known-in-loop-i-1, At-loop-i, Joined-slots-i}
+use Rattle.records.proofs.validation.validate_members.Goals.{then-slots-i, else-slots-i}
 
 -- the places of a turn, and the answer of its slot
 module _ (k : After-struct_known-in-loop-i-1) where
@@ -62,26 +63,33 @@ loop-i-init c = (omega arith, refl)
 pub validate_target-answer-requires : goal.validate_target-answer-requires
 validate_target-answer-requires c =
     let k = c.before.before.before.before in
-    (ap (λ (b : Bool). b && one-slot k) (first k).same_voter_slot_member.ensures, ((placed k).is_other_request-other.ensures, c.if-slots-i.true))
+    record {
+      current_value = ap (λ (b : Bool). b && one-slot k) (first k).same_voter_slot_member.ensures;
+      other_value = (placed k).is_other_request-other.ensures;
+      slot_value = c.if-slots-i.true;
+    }
 
 -- the answer of the slot, whichever way it was found
 answered : (c : Joined-slots-i) → c.if-slots-i.answer ≡ member_answer (t c.before) (place c.before)
 answered c =
     let k = c.before in
-    ⊎_elim (λ w. w.5 ∙ (w.4.ensures ∙ member-claims (t k) _ (place k) (claimed k).claims_of-claims.ensures)) (λ w. w.1 ∙ other-answer k w.0.left) c.if-slots-i.branch
+    elim c.if-slots-i.branch [
+      | then-slots-i w ↦ w.answer-is ∙ (w.validate_target-answer.ensures ∙ member-claims (t k) _ (place k) (claimed k).claims_of-claims.ensures)
+      | else-slots-i w ↦ w.answer-is ∙ other-answer k w.if-slots-i.false
+    ]
 
 pub returns-then-not-accepted : goal.returns-then-not-accepted
 returns-then-not-accepted c =
     let d = c.before.before in
     let l = turn d.before in
     let v = answered d in
-    v ∙ sym (members-refused (t d.before) l.loop.i (t d.before).count (below d.before) l.loop.inv.1 (refused _ _ _ v c.accepted.ensures c.if-not-accepted.true-raw))
+    v ∙ sym (members-refused (t d.before) l.loop-i.i (t d.before).count (below d.before) l.loop-i.invariant.1 (refused _ _ _ v c.accepted.ensures c.if-not-accepted.true-raw))
 
 pub loop-i-preserved : goal.loop-i-preserved
 loop-i-preserved c =
     let d = c.before.before in
     let l = turn d.before in
-    (omega (arith, below d.before), members-accepted (t d.before) l.loop.i l.loop.inv.1 (passed _ _ _ (answered d) c.accepted.ensures c.if-not-accepted.false-raw))
+    (omega (arith, below d.before), members-accepted (t d.before) l.loop-i.i l.loop-i.invariant.1 (passed _ _ _ (answered d) c.accepted.ensures c.if-not-accepted.false-raw))
 
 pub returns : goal.returns
 returns c =

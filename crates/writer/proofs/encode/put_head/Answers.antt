@@ -27,7 +27,7 @@ room1 c = room-left e1 ((uint 2).enc 1) _ _ (room2 c)
 
 -- where the function began, from after each put
 abbrev start1 : After-put_bytes-at → Start
-start1 c = (record { before = c.before.before.before.before; type_inv = record { buffer = ? } })
+start1 c = c.before.before.before.before
 
 abbrev start2 : After-put_be → Start
 start2 c = start1 c.before.before.before.before
@@ -40,7 +40,7 @@ wrote2 : (c : After-put_be) → Put e2 (start2 c).args.at (start2 c).args.buffer
 wrote2 c = then ((uint 2).enc 1) (wrote1 c.before.before.before.before) (room2 (start2 c)) c.put_be.ensures
 
 pub put_bytes-at-requires : goal.put_bytes-at-requires
-put_bytes-at-requires c = room1 (record { before = c.before.before.before; type_inv = record { buffer = ? } })
+put_bytes-at-requires c = room1 c.before.before.before
 
 pub put_be-requires : goal.put_be-requires
 put_be-requires c = room ((uint 2).enc 1) (wrote1 c.before.before.before) (room2 (start1 c.before.before.before))

@@ -9,7 +9,7 @@ use Rattle.writer.specs.PutLaws.{firsts}
 use Rattle.writer.proofs.encode.put_members.Given as goal
 
 abbrev pub invariant-loop-i : goal.invariant-loop-i
-invariant-loop-i l = (l.i ≤ l.places) × Put (firsts member blank_voter_slot_member l.i l.initial.buffer) l.count l.at l.buffer l.to × (length l.buffer ≡ length l.at)
+invariant-loop-i l = (l.i ≤ l.count) × Put (firsts member blank_voter_slot_member l.i l.places) l.at l.initial.buffer l.buffer l.to × (length l.buffer ≡ length l.initial.buffer)
 
 abbrev pub decreases-loop-i : goal.decreases-loop-i
-decreases-loop-i l = l.places - l.i
+decreases-loop-i l = l.count - l.i

@@ -20,7 +20,7 @@ abbrev start0 : Else-optional → Start
 start0 c = c.before.before.before.before.before.before.before
 
 abbrev start2 : After-put_log_id → Start
-start2 c = start1 (record { before = c.before.before.before; type_inv = record { buffer = ? } })
+start2 c = start1 (record { before = c.before.before.before; type_inv = record { buffer = c.slice_known-2-1.given } })
 
 -- there is room for the flag, and after a yes for the value
 room1 : (c : Start) → c.args.at + length (flag.enc c.args.optional.is_some) ≤ length c.args.buffer.now
@@ -32,16 +32,16 @@ unfolding optional_log_id via
 room2 c = room-is _ _ (opt-some log_id blank_voter_slot_log_id (start1 c).args.optional.cut (start1 c).args.optional.is_some c.if-optional.true) (start1 c).requires
 
 wrote2 : (c : After-put_log_id) → Put (flag.enc (start2 c).args.optional.is_some ++ log_id.enc (start2 c).args.optional.cut) (start2 c).args.at (start2 c).args.buffer.now c.put_log_id.new.0 c.put_log_id.result
-wrote2 c = then _ c.put_flag-at.ensures (room2 (record { before = c.before.before.before; type_inv = record { buffer = ? } })) c.put_log_id.ensures
+wrote2 c = then _ c.put_flag-at.ensures (room2 (record { before = c.before.before.before; type_inv = record { buffer = c.slice_known-2-1.given } })) c.put_log_id.ensures
 
 pub put_flag-at-requires : goal.put_flag-at-requires
 put_flag-at-requires c = room1 c.before.before
 
 pub put_log_id-requires : goal.put_log_id-requires
-put_log_id-requires c = room _ c.put_flag-at.ensures (room2 (record { before = c.before.before; type_inv = record { buffer = ? } }))
+put_log_id-requires c = room _ c.put_flag-at.ensures (room2 (record { before = c.before.before; type_inv = record { buffer = c.slice_known-2-1.given } }))
 
 pub shape_of-buffer-then-optional : goal.shape_of-buffer-then-optional
-shape_of-buffer-then-optional c = ap length (wrote2 c.before.before.before).bytes ∙ length-put _ _ _ (room2 (record { before = c.before.before.before.before.before.before; type_inv = record { buffer = c.type_inv.buffer } }))
+shape_of-buffer-then-optional c = ap length (wrote2 c.before.before.before).bytes ∙ length-put _ _ _ (room2 (record { before = c.before.before.before.before.before.before; type_inv = record { buffer = c.slice_known-2-1.given } }))
 
 pub returns-then-optional : goal.returns-then-optional
 unfolding optional_log_id via

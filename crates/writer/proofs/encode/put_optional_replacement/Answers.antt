@@ -20,7 +20,7 @@ abbrev start0 : Else-is_some → Start
 start0 c = c.before.before.before.before.before.before.before
 
 abbrev start2 : After-put_replacement → Start
-start2 c = start1 (record { before = c.before.before; type_inv = record { buffer = ? } })
+start2 c = start1 (record { before = c.before.before; type_inv = record { buffer = c.slice_known-2-1.given } })
 
 -- there is room for the flag, and after a yes for the value
 room1 : (c : Start) → c.args.at + length (flag.enc c.args.is_some) ≤ length c.args.buffer.now
@@ -30,16 +30,16 @@ room2 : (c : Then-is_some) → (start1 c).args.at + length (flag.enc (start1 c).
 room2 c = room-is _ _ (opt-some replacement blank_voter_replacement_record (start1 c).args.operation (start1 c).args.is_some c.if-is_some.true) (start1 c).requires.0
 
 wrote2 : (c : After-put_replacement) → Put (flag.enc (start2 c).args.is_some ++ replacement.enc (start2 c).args.operation) (start2 c).args.at (start2 c).args.buffer.now c.put_replacement.new.0 c.put_replacement.result
-wrote2 c = then _ c.put_flag-at.ensures (room2 (record { before = c.before.before; type_inv = record { buffer = ? } })) c.put_replacement.ensures
+wrote2 c = then _ c.put_flag-at.ensures (room2 (record { before = c.before.before; type_inv = record { buffer = c.slice_known-2-1.given } })) c.put_replacement.ensures
 
 pub put_flag-at-requires : goal.put_flag-at-requires
 put_flag-at-requires c = room1 c.before.before
 
 pub put_replacement-requires : goal.put_replacement-requires
-put_replacement-requires c = (room _ c.put_flag-at.ensures (room2 (record { before = c.before; type_inv = record { buffer = ? } })), (start1 (record { before = c.before; type_inv = record { buffer = ? } })).requires.1)
+put_replacement-requires c = (room _ c.put_flag-at.ensures (room2 (record { before = c.before; type_inv = record { buffer = c.slice_known-2-1.given } })), (start1 (record { before = c.before; type_inv = record { buffer = c.slice_known-2-1.given } })).requires.1)
 
 pub shape_of-buffer-then-is_some : goal.shape_of-buffer-then-is_some
-shape_of-buffer-then-is_some c = ap length (wrote2 c.before.before.before).bytes ∙ length-put _ _ _ (room2 (record { before = c.before.before.before.before.before; type_inv = record { buffer = c.type_inv.buffer } }))
+shape_of-buffer-then-is_some c = ap length (wrote2 c.before.before.before).bytes ∙ length-put _ _ _ (room2 (record { before = c.before.before.before.before.before; type_inv = record { buffer = c.slice_known-2-1.given } }))
 
 pub returns-then-is_some : goal.returns-then-is_some
 returns-then-is_some c = put_is (sym (opt-some replacement blank_voter_replacement_record (start2 c.before.before.before).args.operation (start2 c.before.before.before).args.is_some c.if-is_some.true)) (wrote2 c.before.before.before)

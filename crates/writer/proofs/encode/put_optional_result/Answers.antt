@@ -20,7 +20,7 @@ abbrev start0 : Else-is_some → Start
 start0 c = c.before.before.before.before.before.before.before
 
 abbrev start2 : After-put_result → Start
-start2 c = start1 (record { before = c.before.before; type_inv = record { buffer = ? } })
+start2 c = start1 (record { before = c.before.before; type_inv = record { buffer = c.slice_known-2-1.given } })
 
 -- there is room for the flag, and after a yes for the value
 room1 : (c : Start) → c.args.at + length (flag.enc c.args.is_some) ≤ length c.args.buffer.now
@@ -30,16 +30,16 @@ room2 : (c : Then-is_some) → (start1 c).args.at + length (flag.enc (start1 c).
 room2 c = room-is _ _ (opt-some replacement_result blank_voter_replacement_result (start1 c).args.res (start1 c).args.is_some c.if-is_some.true) (start1 c).requires
 
 wrote2 : (c : After-put_result) → Put (flag.enc (start2 c).args.is_some ++ replacement_result.enc (start2 c).args.res) (start2 c).args.at (start2 c).args.buffer.now c.put_result.new.0 c.put_result.result
-wrote2 c = then _ c.put_flag-at.ensures (room2 (record { before = c.before.before; type_inv = record { buffer = ? } })) c.put_result.ensures
+wrote2 c = then _ c.put_flag-at.ensures (room2 (record { before = c.before.before; type_inv = record { buffer = c.slice_known-2-1.given } })) c.put_result.ensures
 
 pub put_flag-at-requires : goal.put_flag-at-requires
 put_flag-at-requires c = room1 c.before.before
 
 pub put_result-requires : goal.put_result-requires
-put_result-requires c = room _ c.put_flag-at.ensures (room2 (record { before = c.before; type_inv = record { buffer = ? } }))
+put_result-requires c = room _ c.put_flag-at.ensures (room2 (record { before = c.before; type_inv = record { buffer = c.slice_known-2-1.given } }))
 
 pub shape_of-buffer-then-is_some : goal.shape_of-buffer-then-is_some
-shape_of-buffer-then-is_some c = ap length (wrote2 c.before.before.before).bytes ∙ length-put _ _ _ (room2 (record { before = c.before.before.before.before.before; type_inv = record { buffer = c.type_inv.buffer } }))
+shape_of-buffer-then-is_some c = ap length (wrote2 c.before.before.before).bytes ∙ length-put _ _ _ (room2 (record { before = c.before.before.before.before.before; type_inv = record { buffer = c.slice_known-2-1.given } }))
 
 pub returns-then-is_some : goal.returns-then-is_some
 returns-then-is_some c = put_is (sym (opt-some replacement_result blank_voter_replacement_result (start2 c.before.before.before).args.res (start2 c.before.before.before).args.is_some c.if-is_some.true)) (wrote2 c.before.before.before)

@@ -40,23 +40,23 @@ abbrev start1 : After-put_be-at → Start
 start1 c = c.before.before.before
 
 abbrev start2 : After-put_bytes → Start
-start2 c = start1 (record { before = c.before.before.before.before.before.before.before.before; type_inv = record { buffer = ? } })
+start2 c = start1 c.before.before.before.before.before.before.before.before
 
 -- what was written after each put
 wrote1 : (c : After-put_be-at) → Put (e1 (start1 c).args.id) (start1 c).args.at (start1 c).args.buffer.now c.put_be-at.new.0 c.put_be-at.result
 wrote1 c = c.put_be-at.ensures
 
 wrote2 : (c : After-put_bytes) → Put (e2 (start2 c).args.id) (start2 c).args.at (start2 c).args.buffer.now c.put_bytes.new.0 c.put_bytes.result
-wrote2 c = then _ (wrote1 (record { before = c.before.before.before.before.before.before.before.before; type_inv = record { buffer = ? } })) (room2 (start2 c)) c.put_bytes.ensures
+wrote2 c = then _ (wrote1 c.before.before.before.before.before.before.before.before) (room2 (start2 c)) c.put_bytes.ensures
 
 pub put_be-at-requires : goal.put_be-at-requires
 put_be-at-requires c = room1 c.before.before
 
 pub slice_bounds-put_bytes-end : goal.slice_bounds-put_bytes-end
-slice_bounds-put_bytes-end c = sym (length-take-le _ _ (long (start1 (record { before = c.before.before.before.before.before.before.before; type_inv = record { buffer = ? } }))))
+slice_bounds-put_bytes-end c = sym (length-take-le _ _ (long (start1 c.before.before.before.before.before.before.before)))
 
 pub put_bytes-requires : goal.put_bytes-requires
-put_bytes-requires c = room _ (wrote1 (record { before = c.before.before.before.before.before.before.before; type_inv = record { buffer = ? } })) (room2 (start1 (record { before = c.before.before.before.before.before.before.before; type_inv = record { buffer = ? } })))
+put_bytes-requires c = room _ (wrote1 c.before.before.before.before.before.before.before) (room2 (start1 c.before.before.before.before.before.before.before))
 
 pub shape_of-buffer : goal.shape_of-buffer
 shape_of-buffer c = ap length (wrote2 c.before.before.before).bytes ∙ length-put _ _ _ (room2 (start2 c.before.before.before))

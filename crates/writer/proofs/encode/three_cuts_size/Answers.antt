@@ -30,9 +30,9 @@ overflow_add-result c =
 pub overflow_add-result-2 : goal.overflow_add-result-2
 overflow_add-result-2 c =
     let x = c.args.cuts in
-    omega (arith, first-is (record { before = c.before; type_inv = record { second = ?; first = ? } }), second_is (record { before = c.before; type_inv = record { second = ?; first = ? } }), third-is c, cut_most x.first, cut_most x.second, cut_most x.third)
+    omega (arith, first-is (record { before = c.before; type_inv = record { second = c.row_known-2-1.given; first = c.row_known-1.given } }), second_is (record { before = c.before; type_inv = record { second = c.row_known-2-1.given; first = c.row_known-1.given } }), third-is c, cut_most x.first, cut_most x.second, cut_most x.third)
 
 pub returns : goal.returns
 returns c =
-    ap₂ ◌+◌ (ap₂ ◌+◌ (first-is (record { before = c.before; type_inv = record { second = ?; first = ? } })) (second_is (record { before = c.before; type_inv = record { second = ?; first = ? } }))) (third-is c)
+    ap₂ ◌+◌ (ap₂ ◌+◌ (first-is (record { before = c.before; type_inv = record { second = c.row_known-2-1.given; first = c.row_known-1.given } })) (second_is (record { before = c.before; type_inv = record { second = c.row_known-2-1.given; first = c.row_known-1.given } }))) (third-is c)
     ∙ sym (three_cuts-long c.args.cuts)
