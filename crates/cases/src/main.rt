@@ -18,8 +18,9 @@ use std::io::Read;
 fn main(rt: HostRuntime) {
     let mut body = [0u8; LONGEST_BODY];
     let mut input = rt.stdin();
-    print_heading(&rt);
-    run(&mut body, &mut input, &rt);
+    if print_heading(&rt) {
+        run(&mut body, &mut input, &rt);
+    }
 }
 
 // One question after another. The turns are counted, since nothing says that the input ends.
@@ -32,13 +33,12 @@ fn run(body: &mut [u8; LONGEST_BODY], input: &mut impl Read, output: &impl Print
     }
 }
 
-// One question: whether to go on.
+// One question: whether to go on. The program ends where its output takes no more.
 fn turn(number: u64, body: &mut [u8], input: &mut impl Read, output: &impl Print) -> bool {
     let Next::Asked(mark, size) = next_question(number, body, input, output) else {
         return false;
     };
-    report(number, mark, ask(question_of(mark), body, size), output);
-    true
+    report(number, mark, ask(question_of(mark), body, size), output)
 }
 
 // The reply to a question whose body is the first n bytes.

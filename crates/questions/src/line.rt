@@ -53,14 +53,16 @@ impl Line {
         self.text(&digits[..k])
     }
 
-    pub fn write(self, output: &impl Print) {
-        write_front(&self.bytes, self.at, output);
+    // Whether it was written.
+    pub fn write(self, output: &impl Print) -> bool {
+        write_front(&self.bytes, self.at, output)
     }
 }
 
-// An output that takes no more is no fault here, and nothing is said of it.
-fn write_front(bytes: &[u8], n: usize, output: &impl Print) {
+fn write_front(bytes: &[u8], n: usize, output: &impl Print) -> bool {
     if n <= bytes.len() {
-        let _ = output.write_all(&bytes[..n]);
+        output.write_all(&bytes[..n]).is_ok()
+    } else {
+        false
     }
 }
