@@ -1,4 +1,5 @@
 // The line that a program writes for a question.
+use std::io::Print;
 
 // More bytes than any line of the programs has.
 const LINE_SIZE: usize = 96;
@@ -52,13 +53,16 @@ impl Line {
         self.text(&digits[..k])
     }
 
-    pub fn write(self) {
-        write_front(&self.bytes, self.at);
+    // Whether it was written.
+    pub fn write(self, output: &impl Print) -> bool {
+        write_front(&self.bytes, self.at, output)
     }
 }
 
-fn write_front(bytes: &[u8], n: usize) {
+fn write_front(bytes: &[u8], n: usize, output: &impl Print) -> bool {
     if n <= bytes.len() {
-        io::write_all(1, &bytes[..n]);
+        output.write_all(&bytes[..n]).is_ok()
+    } else {
+        false
     }
 }

@@ -3,6 +3,7 @@ use crate::line;
 use crate::line::Line;
 use crate::question::{Mark, put_mark};
 use identity::answer::Answer;
+use std::io::Print;
 
 #[derive(Clone, Copy)]
 pub enum Reply {
@@ -22,15 +23,16 @@ pub fn number(answer: Answer) -> u64 {
     identity::answer::number(answer) as u64
 }
 
-// The first line, before the line of any question.
-pub fn print_heading() {
-    io::write_all(1, b"cases 1\n");
+// The first line, before the line of any question: whether it was written.
+pub fn print_heading(output: &impl Print) -> bool {
+    output.write_all(b"cases 1\n").is_ok()
 }
 
-// The line of one question.
-pub fn report(number: u64, mark: Mark, reply: Reply) {
+// The line of one question: whether it was written. An output that takes no more is no fault of the
+// program, and nothing is said of it.
+pub fn report(number: u64, mark: Mark, reply: Reply, output: &impl Print) -> bool {
     let line = put_mark(line::new().number(number).byte(b' '), mark);
-    put_reply(line.byte(b' '), reply).byte(b'\n').write();
+    put_reply(line.byte(b' '), reply).byte(b'\n').write(output)
 }
 
 // The line with the reply.

@@ -11,6 +11,8 @@ ghost use Rattle.std.specs.Prelude.{◌+◌, ◌-◌, ◌≤◌, ◌≡◌, leng
 ghost use Rattle.journal.specs.Play.{play_of};
 
 use journal::play::*;
+use std::io;
+use std::io::{ErrorKind, Read};
 
 // The bytes that are read and not played yet lie from `start` to `held`; `last`: no more will come;
 // `failed`: a read failed, so that what is cut short by it is not played.
@@ -22,10 +24,11 @@ struct Input {
     failed: bool,
 }
 
-// How many bytes a read brought, and whether it failed.
+// How many bytes a read brought, and whether it was interrupted, or failed.
 #[derive(Clone, Copy)]
 struct Got {
     more: usize,
+    interrupted: bool,
     failed: bool,
 }
 
@@ -35,17 +38,23 @@ const INPUT_SIZE: usize = 131072;
 // Room for 992 lines.
 const OUTPUT_SIZE: usize = 65536;
 
-fn main() {
+fn main(rt: HostRuntime) {
     let mut input = [0u8; INPUT_SIZE];
     let mut output = [0u8; OUTPUT_SIZE];
-    if put(b"replay 1\n") {
-        run(&mut input, &mut output);
+    let mut from = rt.stdin();
+    if put(b"replay 1\n", &rt) {
+        run(&mut input, &mut output, &mut from, &rt);
     }
 }
 
 // Plays to the end of the input. The turns are counted down, since nothing says that the input
 // ends.
-fn run(input: &mut [u8; INPUT_SIZE], output: &mut [u8; OUTPUT_SIZE]) {
+fn run(
+    input: &mut [u8; INPUT_SIZE],
+    output: &mut [u8; OUTPUT_SIZE],
+    from: &mut impl Read,
+    rt: &(impl Print + Eprint),
+) {
     let mut journal = new_journal();
     let mut at = Input {
         start: 0,
@@ -56,7 +65,7 @@ fn run(input: &mut [u8; INPUT_SIZE], output: &mut [u8; OUTPUT_SIZE]) {
     let mut turns = u64::MAX;
     while 0 < turns {
         let played = play_part(journal, input, at, output);
-        if !write_part(output, played.written) {
+        if !write_part(output, played.written, rt) {
             break;
         }
         journal = played.journal;
@@ -65,7 +74,7 @@ fn run(input: &mut [u8; INPUT_SIZE], output: &mut [u8; OUTPUT_SIZE]) {
             break;
         }
         if played.read == 0 {
-            at = refill(input, at);
+            at = refill(input, at, from, rt);
         }
         if at.failed {
             break;
@@ -84,54 +93,73 @@ fn play_part(journal: Journal, input: &[u8], at: Input, output: &mut [u8]) -> Pl
     play(journal, &input[start..held], at.last, output)
 }
 
-fn write_part(output: &[u8], written: usize) -> bool
+fn write_part(output: &[u8], written: usize, rt: &(impl Print + Eprint)) -> bool
     requires { written ≤ length output.now }
 {
-    put(&output[..written])
+    put(&output[..written], rt)
 }
 
 // An output that takes no more ends the program. Where nobody reads it, that is no fault, and
 // nothing is said of it.
-fn put(bytes: &[u8]) -> bool {
-    if io::write_all(1, bytes) {
-        return true;
+fn put(bytes: &[u8], rt: &(impl Print + Eprint)) -> bool {
+    match rt.write_all(bytes) {
+        Ok(()) => true,
+        Err(error) => {
+            if error.kind() != ErrorKind::BrokenPipe {
+                let _ = eprintln!(rt; "replay: standard output: {error}");
+            }
+            false
+        }
     }
-    if os::errno() != libc::EPIPE {
-        os::fail(b"replay: standard output");
-    }
-    false
 }
 
 // Moves what is left to the front, and reads once. A read that is interrupted brings nothing, and
 // is tried again after a turn in which nothing is ready.
-fn refill(input: &mut [u8; INPUT_SIZE], at: Input) -> Input
+fn refill(
+    input: &mut [u8; INPUT_SIZE],
+    at: Input,
+    from: &mut impl Read,
+    rt: &impl Eprint,
+) -> Input
     requires { (at.start ≤ at.held) × (at.held ≤ 131072) }
     ensures { ((result.start ≡ 0) × (result.held ≤ 131072)) × ((at.held - at.start ≤ result.held) × (take (at.held - at.start) input.new ≡ take (at.held - at.start) (drop at.start input.old))) }
 {
     let held = shift(input, at.start, at.held);
-    let got = read_more(input, held);
-    let interrupted = got.failed & (os::errno() == libc::EINTR);
-    let failed = got.failed & !interrupted;
-    if failed {
-        os::fail(b"replay: standard input");
-    }
+    let got = read_more(input, held, from, rt);
     Input {
         start: 0,
         held: held + got.more,
-        last: (got.more == 0) & !got.failed,
-        failed,
+        last: (got.more == 0) & !got.interrupted & !got.failed,
+        failed: got.failed,
     }
 }
 
-fn read_more(input: &mut [u8], held: usize) -> Got
+fn read_more(input: &mut [u8], held: usize, from: &mut impl Read, rt: &impl Eprint) -> Got
     requires { held ≤ length input.old }
     ensures { (held + result.more ≤ length input.new) × (take held input.new ≡ take held input.old) }
 {
-    let got = libc::read(0, &mut input[held..]);
-    let more = io::count(got, &input[held..]);
+    match from.read(&mut input[held..]) {
+        Ok(more) => Got {
+            more,
+            interrupted: false,
+            failed: false,
+        },
+        Err(error) => not_read(&error, rt),
+    }
+}
+
+// What a read brought that gave an error. One that failed is said.
+fn not_read(error: &io::Error, rt: &impl Eprint) -> Got
+    ensures { result.more ≡ 0 }
+{
+    let interrupted = error.kind() == ErrorKind::Interrupted;
+    if !interrupted {
+        let _ = eprintln!(rt; "replay: standard input: {error}");
+    }
     Got {
-        more,
-        failed: got < 0,
+        more: 0,
+        interrupted,
+        failed: !interrupted,
     }
 }
 

@@ -5,7 +5,7 @@ use lib.ListN.{length}
 use Rattle.raw.proofs.table.copy.Given as goal
 
 abbrev pub invariant-loop-i : goal.invariant-loop-i
-invariant-loop-i l = length l.to ≡ length l.start
+invariant-loop-i l = length l.to ≡ length l.initial.to
 
 abbrev pub decreases-loop-i : goal.decreases-loop-i
-decreases-loop-i l = l.from - l.i
+decreases-loop-i l = l.end - l.i

@@ -5,7 +5,7 @@ use lib.ListN.{length}
 use Rattle.raw.proofs.write.put_slots.Given as goal
 
 abbrev pub invariant-loop-i : goal.invariant-loop-i
-invariant-loop-i l = (l.i ≤ 9) × (length l.raw ≡ length l.slots)
+invariant-loop-i l = (l.i ≤ 9) × (length l.raw ≡ length l.initial.raw)
 
 abbrev pub decreases-loop-i : goal.decreases-loop-i
 decreases-loop-i l = 9 - l.i

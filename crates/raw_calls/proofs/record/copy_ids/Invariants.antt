@@ -5,7 +5,7 @@ use lib.ListN.{length}
 use Rattle.raw_calls.proofs.record.copy_ids.Given as goal
 
 abbrev pub invariant-loop-i : goal.invariant-loop-i
-invariant-loop-i l = (length l.ids ≡ length l.start) × ((l.j + 8 * (l.body - l.i) ≤ 70000) × (l.body ≤ 140000))
+invariant-loop-i l = (length l.ids ≡ length l.initial.ids) × ((l.j + 8 * (l.end - l.i) ≤ 70000) × (l.end ≤ 140000))
 
 abbrev pub decreases-loop-i : goal.decreases-loop-i
-decreases-loop-i l = l.body - l.i
+decreases-loop-i l = l.end - l.i

@@ -5,7 +5,7 @@ use lib.ListN.{length}
 use Rattle.raw_calls.proofs.record.lay_sets.Given as goal
 
 abbrev pub invariant-loop-laid : goal.invariant-loop-laid
-invariant-loop-laid l = (length l.sets ≡ length l.body) × ((length l.counts ≡ length l.count) × (l.initial.counts < 256))
+invariant-loop-laid l = (length l.sets ≡ length l.initial.sets) × ((length l.counts ≡ length l.initial.counts) × (l.count < 256))
 
 abbrev pub decreases-loop-laid : goal.decreases-loop-laid
-decreases-loop-laid l = l.initial.counts - l.i
+decreases-loop-laid l = l.count - l.i
