@@ -4,9 +4,9 @@
     python3 fuzz/build.py [OUT [LIBRARY [PROGRAM]]]
 
 Linked are the original Rust with the oracle's modules and fuzz/src, all with counters, and the port twice: as it is delivered
-(target/staticlib/libvoter_slots.a and target/obj/replay.o, or the two files named), and from the same source with counters. The
-latter is compiled by scripts/unproved.py, which proves nothing: it tells the fuzzer how far an input gets. It takes a minute from
-nothing, and seconds where the source is as it was.
+(target/staticlib/libvoter_slots.a and crates/replay/out/replay.o, or the two files named), and from the same source with counters.
+The latter is compiled by scripts/unproved.py, which proves nothing: it tells the fuzzer how far an input gets. It takes a minute or
+two from nothing, and seconds where the source is as it was.
 """
 import glob
 import os
@@ -14,7 +14,9 @@ import shutil
 import subprocess
 import sys
 
-KIT = os.path.dirname(os.path.dirname(subprocess.check_output(['rt', 'doc'], text=True).strip()))
+sys.path.append('scripts')
+import kit  # noqa: E402
+
 WORK = 'target/fuzz'
 RUST_TARGET = 'x86_64-unknown-linux-gnu'
 # Counters at each edge, the table of their addresses, and calls at each comparison.
@@ -24,57 +26,26 @@ RUST_WORDS = ('-C passes=sancov-module -C llvm-args=-sanitizer-coverage-level=3 
               '-C llvm-args=-sanitizer-coverage-pc-table -C llvm-args=-sanitizer-coverage-trace-compares -C codegen-units=1')
 EXPORTS = ['voter_slots_' + kind + name for kind in ('', 'table_') for name in ('read', 'write', 'apply', 'observe', 'retired')]
 CONSTRUCTOR = 'sancov.module_ctor_8bit_counters'
-# In place of the kit's linker: the object file itself is wanted.
-KEEP_OBJECT = '''
-while [ $# -gt 0 ]; do
-  case $1 in -o) out=$2; shift ;; *.o) cp "$1" "$out" ;; esac
-  shift
-done
-'''
 
 
 def run(*words, **more):
     subprocess.run(words, check=True, **more)
 
 
-def linked(source, folder, but):
-    """A folder with a link to each part of another, but for some."""
-    os.makedirs(folder)
-    for part in os.listdir(source):
-        if part not in but:
-            os.symlink(os.path.join(source, part), os.path.join(folder, part))
-
-
-def script(path, text):
-    with open(path, 'w', encoding='utf-8') as file:
-        file.write('#!/bin/sh\n' + text)
-    os.chmod(path, 0o755)
-
-
-def kit(folder, clang_words):
-    """The kit, with a clang that gets more words, and a linker that gives the object file as it is."""
-    folder, own = os.path.abspath(folder), 'on/' + os.uname().machine
+def code_copy(name):
+    """A copy of the crates' code, outside of the checkout."""
+    folder = kit.room(name)
     shutil.rmtree(folder, ignore_errors=True)
-    linked(KIT, folder, ('on',))
-    for path, but in ((own, ('bin', 'toolchain')), (own + '/bin', ('rattle-link',)), (own + '/toolchain', ('bin',)), (own + '/toolchain/bin', ('clang',))):
-        linked(os.path.join(KIT, path), os.path.join(folder, path), but)
-    script(f'{folder}/{own}/toolchain/bin/clang', f'exec "{KIT}/{own}/toolchain/bin/clang" {clang_words} "$@"\n')
-    script(f'{folder}/{own}/bin/rattle-link', KEEP_OBJECT)
-    return folder
-
-
-def code_copy(folder):
-    """A copy of the crates' code."""
-    shutil.rmtree(folder, ignore_errors=True)
-    shutil.copytree('crates', folder + '/crates', ignore=shutil.ignore_patterns('proofs', 'specs', 'must-fail', 'stdin', 'stdout'))
+    shutil.copytree('crates', folder + '/crates', ignore=shutil.ignore_patterns('proofs', 'specs', 'must-fail', 'stdin', 'stdout', 'out'))
     shutil.copy('crates.txt', folder)
     return folder
 
 
-def compiled(folder, home):
-    """The library and the replay program's object file, from the code in a folder, by the kit that is named."""
+def compiled(folder, clang_words):
+    """The library and the replay program's object file, from the code in a folder, with more words for the compiler."""
+    environment = dict(os.environ, UNPROVED_CLANG=clang_words, UNPROVED_OBJECT='1')
     for words in (['library', 'voter_slots'], ['program', 'replay', 'replay.o']):
-        run(sys.executable, '-B', os.path.abspath('scripts/unproved.py'), *words, cwd=folder, env=dict(os.environ, RATTLE_HOME=home), stdout=subprocess.DEVNULL)
+        run(sys.executable, '-B', os.path.abspath('scripts/unproved.py'), *words, cwd=folder, env=environment, stdout=subprocess.DEVNULL)
     return folder + '/target/staticlib/libvoter_slots.a', folder + '/replay.o'
 
 
@@ -121,20 +92,21 @@ def guided_parts():
     parts = [f'{WORK}/guided-{part}.o' for part in ('library', 'program')]
     newest = max(map(os.path.getmtime, glob.glob('crates/*/src/*') + [__file__]))
     if not all(os.path.exists(part) and os.path.getmtime(part) > newest for part in parts):
-        library, program = compiled(code_copy(WORK + '/code'), kit(WORK + '/kit', CLANG_WORDS))
+        library, program = compiled(code_copy('fuzz'), CLANG_WORDS)
         renamed(only_object(library), parts[0], {name: 'guided_' + name for name in EXPORTS}, 'library')
         renamed(program, parts[1], program_names('guided'), 'program')
     return parts
 
 
-def main(out=WORK + '/harness', library='target/staticlib/libvoter_slots.a', program='target/obj/replay.o'):
+def main(out=WORK + '/harness', library='target/staticlib/libvoter_slots.a', program='crates/replay/out/replay.o'):
     os.makedirs(WORK, exist_ok=True)
     rust = build_rust()
     guided = guided_parts()
     plain = [renamed(only_object(library), out + '-library.o', {name: name for name in EXPORTS}),
              renamed(program, out + '-program.o', program_names('plain'))]
     entries = ['-Wl,-u,LLVMFuzzerCustomMutator', '-Wl,-u,LLVMFuzzerCustomCrossOver']
-    run('clang', '-fsanitize=fuzzer', '-fuse-ld=lld', '-no-pie', *entries, '-o', out, 'fuzz/src/parts.c', rust, *guided, *plain, KIT + '/lib/libos_c.a', '-lpthread', '-ldl', '-lm')
+    run('clang', '-fsanitize=fuzzer', '-fuse-ld=lld', '-no-pie', *entries, '-o', out, 'fuzz/src/parts.c', rust, *guided, *plain,
+        f'{kit.folder()}/c/libos_c.a', f'{kit.folder()}/c/liblibc_c.a', '-lpthread', '-ldl', '-lm')
 
 
 if __name__ == '__main__':

@@ -23,7 +23,7 @@ WORK = 'target/fuzz/planted'
 
 def edited(edit):
     """A copy of the crates with the edit made."""
-    copy = build.code_copy(WORK + '/copy')
+    copy = build.code_copy('planted')
     crate = re.search(r'(?:near-misses|crates)/(\w+)/', edit).group(1)
     path = None
     with open(edit, encoding='utf-8') as file:
@@ -42,10 +42,10 @@ def edited(edit):
     return copy
 
 
-def built(edit, home):
+def built(edit):
     """The harness with the edited port in place of the delivered one."""
     harness = WORK + '/harness'
-    build.main(harness, *build.compiled(edited(edit), home))
+    build.main(harness, *build.compiled(edited(edit), ''))
     return harness
 
 
@@ -55,9 +55,9 @@ def main(*words):
     starts = [] if bare else ['target/fuzz/seeds']
     shutil.rmtree(WORK, ignore_errors=True)
     os.makedirs(WORK)
-    home, missed = build.kit(WORK + '/kit', ''), 0
+    missed = 0
     for edit in edits:
-        harness = built(edit, home)
+        harness = built(edit)
         corpus = WORK + '/corpus'
         shutil.rmtree(corpus, ignore_errors=True)
         os.makedirs(corpus)

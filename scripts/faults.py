@@ -27,14 +27,16 @@ SIGNALLED = ('whole-replacement', 'supersession', 'every-answer')
 LIMITED = ('worked-example', 'whole-replacement', 'every-answer')
 # Logs for the service. Each starts with a table, and no unknown mark ends it.
 SERVED = ('whole-replacement', 'supersession')
-ENDING = (signal.SIGTERM, signal.SIGINT, signal.SIGHUP, signal.SIGPIPE, signal.SIGKILL)
+ENDING = (signal.SIGTERM, signal.SIGINT, signal.SIGHUP, signal.SIGKILL)
+# Every Rattle program ignores this one from its start, as Rust's do: a write that nobody reads fails.
+IGNORED = (signal.SIGPIPE,)
 
 # A shell has a command in the background ignore SIGINT, and nohup SIGHUP; other starters block
 # signals. The programs below would inherit that.
 for _number in ENDING[:3]:
     if signal.getsignal(_number) is signal.SIG_IGN:
         signal.signal(_number, signal.SIG_DFL)
-signal.pthread_sigmask(signal.SIG_UNBLOCK, ENDING + (signal.SIGCONT,))
+signal.pthread_sigmask(signal.SIG_UNBLOCK, ENDING + IGNORED + (signal.SIGCONT,))
 # Kinds of fault that kill, and errors that a system gives.
 KILLS = ('before', 'after', 'half')
 ERRORS = (errno.ENOSPC, errno.EIO)
@@ -67,19 +69,20 @@ def waiting(program, log, count, lines):
 
 def signals(program, logs):
     """A signal that ends the program, after each record, in the head of the next one and in its
-    body: every line that was due is there, and nothing more. One that stops it for a while changes
-    nothing."""
+    body: every line that was due is there, and nothing more. One that is ignored, or that stops it
+    for a while, changes nothing."""
     cases = 0
     for name in SIGNALLED:
         log, lines = logs[name]
         lines = lines.splitlines(keepends=True)
         ends = marks(log)
         for number, (end, after) in enumerate(zip(ends, ends[1:])):
-            for ending, place in itertools.product(ENDING, sorted({end, end + 2, (end + after) // 2})):
+            for sent, place in itertools.product(ENDING + IGNORED, sorted({end, end + 2, (end + after) // 2})):
                 run = waiting(program, log, place, lines[:1 + number])
-                run.send_signal(ending)
-                rest, said = run.communicate(timeout=PATIENCE)
-                held(f'{name}, {ending.name} at {place}', (b'', b'', -ending), (rest, said, run.returncode))
+                run.send_signal(sent)
+                rest, said = run.communicate(None if sent in ENDING else log[place:], timeout=PATIENCE)
+                due = (b'', b'', -sent) if sent in ENDING else (b''.join(lines[1 + number:]), b'', 0)
+                held(f'{name}, {sent.name} at {place}', due, (rest, said, run.returncode))
                 cases += 1
             run = waiting(program, log, end + 2, lines[:1 + number])
             run.send_signal(signal.SIGSTOP)
@@ -97,7 +100,7 @@ def blocked(program, logs):
     table = logs['worked-example'][0][:184]
     log = table + b'MK\0\0' * 60000
     lines = HEAD + b'1 TB 0 1\n' + b''.join(b'%d MK 33 1\n' % number for number in range(2, 60002))
-    for ending in ENDING:
+    for sent in ENDING + IGNORED:
         with open(os.path.join(FOLDER, 'log'), 'wb') as file:
             file.write(log)
         with open(os.path.join(FOLDER, 'log'), 'rb') as file:
@@ -105,13 +108,16 @@ def blocked(program, logs):
         first = os.read(run.stdout.fileno(), 100)
         # The pipe is full once the program sleeps in a write.
         asleep(run.pid)
-        run.send_signal(ending)
+        run.send_signal(sent)
         rest, said = run.communicate(timeout=PATIENCE)
         given = first + rest
-        held(f'{ending.name} in a write', (lines[:len(given)], b'', -ending), (given, said, run.returncode))
+        if sent in IGNORED:
+            held(f'{sent.name} in a write', (lines, b'', 0), (given, said, run.returncode))
+            continue
+        held(f'{sent.name} in a write', (lines[:len(given)], b'', -sent), (given, said, run.returncode))
         if len(given) == len(lines):
             raise Difference('the pipe took all lines: no write was waited for')
-    return len(ENDING)
+    return len(ENDING + IGNORED)
 
 
 def asleep(pid):

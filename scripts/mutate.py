@@ -18,18 +18,18 @@ What is changed: the bodies of functions in crates/*/src; no contract, constant,
               that holds the same, a called function for one with the same signature
 
 How it is judged: a function's body matters to the proof of that function alone, since callers use
-its contract. So mutants of several functions of a crate are checked together, by `rt dev`, over
-what a first check of the unchanged crate kept. Each function then has its own line in the verdict.
+its contract. So mutants of several functions of a crate are checked together, over what a first
+check of the unchanged crate kept. Each function then has its own line in the verdict.
 A mutant counts as refused where its function's own proof has an error of its own; one that is not
 proved only because it calls another changed function is checked again without that one. A mutant
 that the compiler refuses is counted, and another one of that function takes its place. All is done
-on a copy in target/mutate; the crates must be proved before (`rt check`).
+on a copy outside of the checkout; the crates must be proved before (`rt check` in each).
 
-Mutants that are let through are checked once more, those of a crate together and from nothing, by
-`rt check`. Then each is built into the programs replay, cases and call_cases, and what they write
+Mutants that are let through are checked once more, those of a crate together and from nothing.
+Then each is built into the programs replay, cases and call_cases, and what they write
 is held to what the gate holds it to (their files 'stdout', and scripts/replays.py). The results are
-target/mutate/CRATE.tsv, one line a mutant, and the tables that are printed at the end;
-target/mutate/log has what the prover said.
+target/mutate/CRATE.tsv, one line a mutant, and the tables that are printed at the end. What the
+prover said is in the folder `log` of the copy, which the run names.
 """
 import os
 import random
@@ -37,12 +37,13 @@ import re
 import subprocess
 import sys
 
+import kit
 from source import CLOSE, OPEN, Source, closing, split
-from trial import TOGETHER, Room, by_hand, judge, proof_of, reached_prover, read
+from trial import TOGETHER, Room, by_hand, judge, proofs_of, reached_prover, read
 
 CRATES = ['identity', 'records', 'layout', 'reader', 'writer', 'codec', 'control', 'journal', 'replay', 'voter_slots']
 LEAST = 7  # mutants of a crate, however small
-ROOM = 'target/mutate'
+RESULTS = 'target/mutate'
 
 INTEGERS = {'u8', 'u16', 'u32', 'u64', 'usize', 'i8', 'i16', 'i32', 'i64', 'isize'}
 KEYWORDS = set('as break const continue else enum extern false fn for if impl in let loop match mod mut pub ref return self struct true type use while'.split())
@@ -452,7 +453,7 @@ def try_batch(room, source, crate, row, label, report):
     while current:
         turn += 1
         room.write(applied(source, current))
-        said, _, took = room.dev(crate, f'{crate}.{label}.{turn}')
+        said, _, took = room.check(crate, f'{crate}.{label}.{turn}')
         room.write(originals(source, current))
         spent += took
         if reached_prover(said):
@@ -467,7 +468,7 @@ def try_batch(room, source, crate, row, label, report):
         bad = refused_by_compiler(source, said, current)
         if not bad:
             if len(current) > 1:
-                sys.exit(f'bin/mutate: cannot tell which mutant the compiler refused: {ROOM}/log/{crate}.{label}.{turn}')
+                sys.exit(f'bin/mutate: cannot tell which mutant the compiler refused: {room.folder}/log/{crate}.{label}.{turn}')
             bad = list(current)
         for m in bad:
             m.verdict = 'compiler'
@@ -483,7 +484,8 @@ def row_of(source, m):
 
 
 def save(source, crate, results):
-    with open(f'{ROOM}/{crate}.tsv', 'w') as out:
+    os.makedirs(RESULTS, exist_ok=True)
+    with open(f'{RESULTS}/{crate}.tsv', 'w') as out:
         for m in results:
             out.write('\t'.join(row_of(source, m)) + '\n')
 
@@ -514,12 +516,12 @@ def rename(room, source, crate, mutants):
     while mutants:
         row = list({m.f.full: m for m in reversed(mutants)}.values())
         mutants = [m for m in mutants if m not in row]
-        proofs = {proof_of(m.f): read(proof_of(m.f)) for m in row}
+        folders = {m.f.full: f'crates/{crate}/{proofs_of(m.f)}' for m in row}
+        proofs = {path: read(path) for folder in folders.values() for path in (folder + 'Answers.antt', folder + 'Invariants.antt') if os.path.exists(path)}
         room.write(applied(source, row))
         for m in row:
-            old, new = m.old.replace('_', '-'), m.new.replace('_', '-')
-            room.write({proof_of(m.f): re.sub(rf'(?<!\w){old}(?=-requires|\d|[^\w-]|$)', new, proofs[proof_of(m.f)])})
-        said, _, took = room.dev(crate, f'{crate}.renamed')
+            room.write({path: re.sub(rf'(?<!\w){m.old}(?!\w)', m.new, text) for path, text in proofs.items() if os.path.dirname(path) + '/' == folders[m.f.full]})
+        said, _, took = room.check(crate, f'{crate}.renamed')
         room.write({**originals(source, row), **proofs})
         for m in row:
             m.verdict, m.why = judge(said, m.f)
@@ -539,11 +541,10 @@ def confirm(room, source, crate, through):
         row = list({m.f.full: m for m in reversed(through)}.values())
         through = [m for m in through if m not in row]
         room.write(applied(source, row))
-        said, _, took = room.run(['check', crate], f'{crate}.through')
+        said, _, took = room.check_anew(crate, f'{crate}.through')
         room.write(originals(source, row))
-        room.restore(crate)
-        if not re.search(rf'^rt: {crate} proved', said, re.M):
-            sys.exit(f'bin/mutate: mutants that rt dev let through are not proved from nothing: see {ROOM}/log/{crate}.through')
+        if not re.search(r'^logic=proved ', said, re.M):
+            sys.exit(f'bin/mutate: mutants that were let through are not proved from nothing: see {room.folder}/log/{crate}.through')
         print(f'{crate}: {len(row)} let through, proved from nothing too ({took:.0f} s)', flush=True)
 
 
@@ -553,8 +554,8 @@ def caught(room, source, m):
     room.write(applied(source, [m]))
     try:
         for name in ('replay', 'cases', 'call_cases'):
-            program = os.path.abspath(f'{ROOM}/target/run/{name}')
-            built = subprocess.run([sys.executable, os.path.abspath('scripts/unproved.py'), 'program', name, program], cwd=ROOM, check=False,
+            program = f'{room.folder}/run/{name}'
+            built = subprocess.run([sys.executable, os.path.abspath('scripts/unproved.py'), 'program', name, program], cwd=room.folder, check=False,
                                    stdout=subprocess.PIPE, stderr=subprocess.STDOUT)
             if built.returncode:
                 sys.exit(built.stdout.decode(errors='replace'))
@@ -565,7 +566,7 @@ def caught(room, source, m):
                         return f'caught by rt ci: the program {name} writes something else'
                 except subprocess.TimeoutExpired:
                     return f'caught by rt ci: the program {name} hangs'
-        run = subprocess.run([sys.executable, '-B', 'scripts/replays.py', os.path.abspath(f'{ROOM}/target/run/replay')],
+        run = subprocess.run([sys.executable, '-B', 'scripts/replays.py', f'{room.folder}/run/replay'],
                              stdout=subprocess.PIPE, stderr=subprocess.STDOUT, check=False)
         if run.returncode:
             lines = run.stdout.decode(errors='replace').strip().splitlines()
@@ -588,8 +589,8 @@ def table(rows, key, names):
 def tables():
     rows = []
     for crate in CRATES:
-        if os.path.exists(f'{ROOM}/{crate}.tsv'):
-            rows += [line.split('\t') for line in read(f'{ROOM}/{crate}.tsv').splitlines()]
+        if os.path.exists(f'{RESULTS}/{crate}.tsv'):
+            rows += [line.split('\t') for line in read(f'{RESULTS}/{crate}.tsv').splitlines()]
     print('\nBy crate:\n')
     table(rows, lambda r: r[0], CRATES)
     print('\nBy kind of change:\n')
@@ -622,7 +623,8 @@ def main():
             for _, order in queue:
                 print('  ' + ' '.join(row_of(source, order[0])[1:6]))
         return 0
-    room = Room('bin/mutate', ROOM, wanted)
+    room = Room('bin/mutate', kit.room('mutate'), wanted)
+    print(f'checked in {room.folder}', flush=True)
     for crate in wanted:
         run_crate(room, source, crate, plan)
     tables()

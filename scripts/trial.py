@@ -2,15 +2,18 @@
 share.
 
 A function's body matters to the proof of that function alone, since callers use its contract. So
-changes of several functions of a crate are checked together, by `rt dev`, and each function has its
-own line in the verdict and its own errors.
+changes of several functions of a crate are checked together, and each function has its own line in
+the verdict and its own errors. A check is the kit's `rattle check`, run as `rt check` runs it.
 """
+import hashlib
 import os
 import re
 import shutil
 import subprocess
 import sys
 import time
+
+import kit
 
 TOGETHER = 40  # changes in one check
 
@@ -20,77 +23,118 @@ def read(path):
         return file.read()
 
 
+def linked(source, to):
+    """Copies a folder, what was proved by links where these can be made: a check replaces such a
+    file, and changes none."""
+    def copy(one, other):
+        try:
+            if one.endswith('.oantt') or '/rlib/' in one:
+                return os.link(one, other)
+        except OSError:
+            pass
+        return shutil.copy2(one, other)
+    shutil.rmtree(to, ignore_errors=True)
+    shutil.copytree(source, to, copy_function=copy)
+
+
+def sum_of(names):
+    """A sum of the files of some crates."""
+    found = hashlib.sha256()
+    for name in names:
+        for part in ('src', 'specs', 'proofs'):
+            for folder, folders, files in os.walk(f'crates/{name}/{part}'):
+                folders.sort()
+                for file in sorted(files):
+                    with open(os.path.join(folder, file), 'rb') as it:
+                        found.update(repr((folder, file, it.read())).encode())
+    return found.hexdigest()
+
+
 class Room:
-    """The copy in which changes are checked. The crates must be proved before."""
+    """The copy in which changes are checked, outside of the checkout. The libraries below the crates
+    are built first, where they are not as new as their files."""
 
     def __init__(self, command, folder, crates):
         self.command, self.folder = command, folder
-        missing = [c for c in crates if not os.path.exists(f'target/stamp/{c}')]
-        if missing:
-            sys.exit(f"{command}: not proved yet: {' '.join(missing)}; run 'rt check {' '.join(crates)}' first")
-        shutil.rmtree(f'{folder}/crates', ignore_errors=True)
         os.makedirs(f'{folder}/log', exist_ok=True)
-        shutil.copytree('crates', f'{folder}/crates', ignore=shutil.ignore_patterns('must-fail'))
+        libraries = []
+        for crate in crates:
+            libraries += [one for one in kit.below(crate)[0] if one not in libraries]
+        shutil.rmtree(f'{folder}/crates', ignore_errors=True)
+        shutil.copytree('crates', f'{folder}/crates', ignore=shutil.ignore_patterns('must-fail', 'out'))
         shutil.copy('crates.txt', f'{folder}/crates.txt')
-        for part in ('rlib', 'stamp'):
-            os.makedirs(f'{folder}/target/{part}', exist_ok=True)
-        for crate in sorted(os.listdir('target/stamp')):
-            if not os.path.exists(f'{folder}/target/stamp/{crate}') or read(f'{folder}/target/stamp/{crate}') != read(f'target/stamp/{crate}'):
-                self.restore(crate)
-
-    def restore(self, crate):
-        """The crate's library as it was proved in the repository."""
-        rlib = f'target/rlib/{crate}.rlib'
-        if os.path.isdir(rlib):
-            shutil.rmtree(f'{self.folder}/{rlib}', ignore_errors=True)
-            shutil.copytree(rlib, f'{self.folder}/{rlib}', symlinks=True)
-        shutil.copy(f'target/stamp/{crate}', f'{self.folder}/target/stamp/{crate}')
+        for library in libraries:
+            print(f'{library}: a library below', flush=True)
+            with open(f'{folder}/log/{library}.library', 'wb') as log:
+                if subprocess.run(['rt', 'lib'], cwd=f'crates/{library}', stdin=subprocess.DEVNULL, stdout=log, stderr=log, check=False).returncode:
+                    sys.exit(f'{command}: {library} is not proved: see {folder}/log/{library}.library')
+            linked(f'crates/{library}/out/rlib', f'{folder}/crates/{library}/out/rlib')
+        self.sums = {crate: sum_of(kit.below(crate)[0] + [crate]) for crate in crates}
 
     def write(self, texts):
         for path, text in texts.items():
             with open(f'{self.folder}/{path}', 'w') as file:
                 file.write(text)
 
-    def run(self, words, log):
+    def run(self, crate, log, keeps):
+        """Checks the crate as it stands in the copy, from nothing or over what the last check left."""
         began = time.time()
-        run = subprocess.run(['rt'] + words, cwd=self.folder, stdout=subprocess.PIPE, stderr=subprocess.STDOUT, env={**os.environ, 'RT_CUT': '0'})
+        jobs = str(min(4, len(os.sched_getaffinity(0))))
+        words = [f'{kit.folder()}/bin/rattle', 'check', *kit.check_words(crate), '--jobs', jobs, *(['--incremental', 'out/incremental'] if keeps else [])]
+        os.makedirs(f'{self.folder}/crates/{crate}/out', exist_ok=True)
+        run = subprocess.run(words, cwd=f'{self.folder}/crates/{crate}', stdin=subprocess.DEVNULL, stdout=subprocess.PIPE, stderr=subprocess.STDOUT, check=False)
         said = run.stdout.decode(errors='replace')
         with open(f'{self.folder}/log/{log}', 'w') as file:
             file.write(said)
         return said, run.returncode, time.time() - began
 
+    def left(self, crate):
+        """Where a check leaves its work for the next one."""
+        return f'{self.folder}/crates/{crate}/out/incremental'
+
     def kept(self, crate):
         """Where what a check left is kept for others, until the crate changes; and whether it is
         there."""
-        folder = f'{self.folder}/target/kept/{crate}'
-        return folder, os.path.exists(f'{folder}.stamp') and read(f'{folder}.stamp') == read(f'target/stamp/{crate}')
+        folder = f'{self.folder}/kept/{crate}'
+        return folder, os.path.exists(f'{folder}.sum') and read(f'{folder}.sum') == self.sums[crate]
 
     def keep(self, crate):
         """Keeps what the last check left."""
         folder, _ = self.kept(crate)
-        shutil.rmtree(folder, ignore_errors=True)
-        shutil.copytree(f'{self.folder}/target/inc/{crate}', folder, symlinks=True)
-        shutil.copy(f'target/stamp/{crate}', f'{folder}.stamp')
+        os.makedirs(os.path.dirname(folder), exist_ok=True)
+        linked(self.left(crate), folder)
+        with open(f'{folder}.sum', 'w') as file:
+            file.write(self.sums[crate])
+
+    def begin(self, crate):
+        """Has the first check of a crate begin with what `rt check` kept in the repository."""
+        if not os.path.isdir(self.left(crate)) and os.path.isdir(f'crates/{crate}/out/incremental'):
+            linked(f'crates/{crate}/out/incremental', self.left(crate))
 
     def prime(self, crate):
         """Checks the unchanged crate, and keeps what was checked."""
         if self.kept(crate)[1]:
             return
-        shutil.rmtree(f'{self.folder}/target/inc/{crate}', ignore_errors=True)
-        _, status, took = self.run(['dev', crate], f'{crate}.unchanged')
+        self.begin(crate)
+        _, status, took = self.run(crate, f'{crate}.unchanged', True)
         if status != 0:
             sys.exit(f'{self.command}: the unchanged crate {crate} is not proved: see {self.folder}/log/{crate}.unchanged')
         print(f'{crate}: unchanged, proved ({took:.0f} s)', flush=True)
         self.keep(crate)
 
-    def dev(self, crate, log):
+    def check(self, crate, log):
         """Checks the crate as it stands in the copy: over what was kept, or else over what the last
         check left."""
         folder, there = self.kept(crate)
         if there:
-            shutil.rmtree(f'{self.folder}/target/inc/{crate}', ignore_errors=True)
-            shutil.copytree(folder, f'{self.folder}/target/inc/{crate}', symlinks=True)
-        return self.run(['dev', crate], log)
+            linked(folder, self.left(crate))
+        else:
+            self.begin(crate)
+        return self.run(crate, log, True)
+
+    def check_anew(self, crate, log):
+        """Checks the crate as it stands in the copy, from nothing."""
+        return self.run(crate, log, False)
 
 
 # What the prover says where a proof names what the changed code does not have: refused for its
@@ -99,32 +143,34 @@ SHAPE = re.compile(r'has no (field )?`|this pattern needs|is not in scope')
 
 
 def errors_at(said, place):
-    """What the prover said of the proofs under a path; what only waits for another declaration is
-    left out."""
+    """What the prover said of the files of a crate under a path; what only waits for another
+    declaration is left out."""
     found, mine = [], False
     for line in said.split('\n'):
         if line.startswith('  '):
             if mine:
                 found[-1] += line[1:]
         else:
-            mine = place in line and ': error: ' in line and 'was not admitted' not in line
+            line = line.removeprefix('./')
+            mine = line.startswith(place) and ': error: ' in line and 'was not admitted' not in line
             if mine:
-                found.append(line[line.index(place) + len(place):])
+                found.append(line.removeprefix(place))
     return found
 
 
-def proof_of(f):
-    return f'crates/{f.crate}/proofs/' + '/'.join(f.full.split('::')[1:]) + '/Proof.antt'
+def proofs_of(f):
+    """The folder of a function's proof, in its crate."""
+    return 'proofs/' + '/'.join(f.full.split('::')[1:]) + '/'
 
 
 def own_errors(said, f):
     """What the prover said of a function's own proof."""
-    return errors_at(said, '/' + os.path.dirname(proof_of(f)) + '/')
+    return errors_at(said, proofs_of(f))
 
 
 def by_hand(f):
     """Whether a function's proof walks its code by hand, so that it cites the code's text."""
-    return os.path.exists(proof_of(f)) and 'Tie' not in read(proof_of(f))
+    return os.path.exists(f'crates/{f.crate}/{proofs_of(f)}Proof.antt')
 
 
 def kind_of_errors(errors):
@@ -151,8 +197,8 @@ def judge(said, f, code=True):
     errors = own_errors(said, f)
     if not errors and 'it calls' in word:
         return 'waits', word
-    # Where rattle made the proof, what does not close is said in the verdict.
-    if not errors and 'does not close' in word:
+    # Where a goal has no answer of the author's, what the search did not prove is said in the verdict.
+    if not errors and 'did not prove' in word:
         return 'fact', word
     if not errors or word.startswith('could not tell'):
         return 'no verdict', errors[0] if errors else word

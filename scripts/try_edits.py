@@ -10,19 +10,21 @@ one of them. Edits that are about different functions are checked together (scri
 edit of a definition is checked alone, and judged by the first error of all.
 
 The run fails where an edit is not refused, is refused for its shape alone, does not compile, or
-could not be judged. What the prover said of each edit is target/near-misses/CRATE/LABEL/.log, and
-what it said in each check target/near-misses/log.
+could not be judged. What the prover said of each edit is target/near-misses/CRATE/LABEL/.log. The
+copy that is checked, and what was said in each check, stand in a folder outside of the checkout,
+which the run names.
 """
 import os
 import re
 import shutil
 import sys
 
+import kit
 from edits import ROWS, BadEdit, all_edits, replaced, sources
 from source import Source
 from trial import TOGETHER, Room, errors_at, judge, kind_of_errors, own_errors, reached_prover, read
 
-ROOM = 'target/near-misses'
+LOGS = 'target/near-misses'
 # What is said of a verdict, the best first: an edit that is about several functions has the best of
 # theirs.
 VERDICTS = {
@@ -86,7 +88,7 @@ class Trial:
 
     def judge_definition(self, said):
         """A definition must be well formed itself: it is some law, proof or row that must fail."""
-        errors = errors_at(said, f'/crates/{self.edit.crate}/')
+        errors = errors_at(said, '')
         own = [error for name, path in self.declarations() for error in errors if error.startswith(path) and f': error: `{name}`:' in error]
         if own:
             self.verdict, self.why = 'compiler', own[0]
@@ -106,7 +108,7 @@ class Trial:
 
     def log(self, said):
         """What was said of this edit, for a reader."""
-        folder = f'{ROOM}/{self.edit.folder}/{self.edit.label}'
+        folder = f'{LOGS}/{self.edit.folder}/{self.edit.label}'
         shutil.rmtree(folder, ignore_errors=True)
         os.makedirs(folder)
         mine = said
@@ -171,7 +173,7 @@ def check(room, source, crate, row, label):
     texts = sources(edits)
     room.write(replaced(edits, texts))
     print(f'{crate}: check {label}, {len(row)} edits', flush=True)
-    said, _, took = room.dev(crate, f'{crate}.{label}')
+    said, _, took = room.check(crate, f'{crate}.{label}')
     room.write(texts)
     if reached_prover(said) or not row[0].functions:
         more = strays(source, crate, row, said) if row[0].functions else []
@@ -223,11 +225,10 @@ def main():
         print(f"bin/near-misses: there is no crate and no edit {' '.join(sorted(unknown))}", file=sys.stderr)
         return 2
     # The order of crates.txt, from the bottom up.
-    with open('crates.txt') as file:
-        order = [line.split(':')[0] for line in file if ':' in line and not line.startswith('#')]
-    crates = [crate for crate in order if any(edit.crate == crate for edit in chosen)]
+    crates = [crate for crate in kit.listed() if any(edit.crate == crate for edit in chosen)]
     trials = [Trial(source, edit) for edit in chosen]
-    room = Room('bin/near-misses', ROOM, crates)
+    room = Room('bin/near-misses', kit.room('near-misses'), crates)
+    print(f'checked in {room.folder}', flush=True)
     for crate in crates:
         run_crate(room, source, crate, [trial for trial in trials if trial.edit.crate == crate])
     bad = [trial for trial in trials if trial.verdict not in REFUSED]

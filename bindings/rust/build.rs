@@ -17,7 +17,7 @@ fn main() {
     if !archive.is_file() {
         eprintln!(
             "voter-slots: there is no {}.\n\
-             Build it with `rt staticlib voter_slots` in the root of the repository of voter slots,\n\
+             Build it with `scripts/proving target/library.log voter_slots` in the root of the repository of voter slots,\n\
              or let VOTER_SLOTS_LIB name the folder that has libvoter_slots.a.",
             archive.display()
         );
