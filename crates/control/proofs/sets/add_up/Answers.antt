@@ -28,4 +28,4 @@ returns c =
     let counts = c.args.counts.now in
     let len = c.args.len in
     let z = total-end counts c.loop-i.i (omega arith) in
-    left-none (total counts) len c.loop-i.false (omega arith)
+    left-none (total counts) len c.loop-i.left (omega arith)
