@@ -17,7 +17,7 @@ use Rattle.control.specs.Judgement.Move.{begins, finalizes}
 use Rattle.control.specs.Judgement.Verdict.{moves}
 use Rattle.control.specs.ObserveLaws.{added-to, added_none}
 use Rattle.control.specs.ObserveSight.{answer_of_observed, route_of_observed}
-use Rattle.control.specs.VerdictLaws.{begin-begins, command-none, is_move, is_step, room_as, routed-to, step-advance, target-as}
+use Rattle.control.specs.VerdictLaws.{begin-begins, is_move, is_step, room_as, routed-to, step-advance, target-as}
 use Rattle.control.specs.Verdicts.{advance_in, answer_of, begin_in, paired, route_of}
 
 -- ---- the verdict w of the code's judge is v

@@ -1,6 +1,5 @@
 -- `control::observe::carry_out` meets its contract: by the case; a maker has the room that its caller shows. Assumes nothing.
 use mathlib.Core.Path.{sym, ap, ◌∙◌}
-use Prim.Native.Nat.{◌-◌}
 use borrow.Author.Rules.{rules}
 use Rattle.identity.specs.declared.answer.Answer.{Answer}
 use Rattle.identity.specs.declared.answer.Answer.TheVariants.{Accepted}

@@ -1,7 +1,6 @@
 -- `control::observe::judge_known` meets its contract: one arm for each thing that is seen. Assumes nothing.
 use mathlib.Core.Path.{sym, ap, ◌∙◌}
 use mathlib.Core.Bool.{Bool, cond}
-use Prim.Native.Nat.{◌-◌}
 use lib.Dec.{eqb}
 use borrow.Author.Rules.{rules}
 use Rattle.identity.specs.declared.answer.Answer.TheVariants.{InvalidTransition}

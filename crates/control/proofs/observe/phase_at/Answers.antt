@@ -1,5 +1,5 @@
 -- `control::observe::phase_at` meets its contract: once the place was passed its phase is there. Assumes nothing.
-use Prim.Native.Nat.{ℕ, ◌-◌}
+use Prim.Native.Nat.{ℕ}
 use mathlib.Core.Path.{ap, ◌∙◌}
 use native.Mathlib.Omega.{arith}
 use Rattle.records.specs.Records.{slot_at}

@@ -1,7 +1,6 @@
 -- `control::observe::weigh_entry` meets its contract: 30 of the table, the verdict, validity where something is new. Assumes nothing.
 use mathlib.Core.Path.{sym, ap, ◌∙◌}
 use mathlib.Core.Bool.{Bool, cond}
-use Prim.Native.Nat.{◌-◌}
 use Rattle.identity.specs.Answer.{is_accepted}
 use Rattle.identity.specs.declared.answer.Answer.TheVariants.{Unrepresentable}
 use Rattle.records.specs.RepresentableLaws.{representable-count}

@@ -1,5 +1,5 @@
 -- `control::observe::with_phase` meets its contract: up to the place nothing is stored, and after it that one phase. Assumes nothing.
-use Prim.Native.Nat.{ℕ, ◌-◌}
+use Prim.Native.Nat.{ℕ}
 use mathlib.Core.Path.{refl, ap₂, ◌∙◌}
 use native.Mathlib.Omega.{arith}
 use Rattle.records.specs.declared.records.VoterSlotTable.{VoterSlotTable}

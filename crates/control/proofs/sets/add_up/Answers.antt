@@ -1,6 +1,5 @@
 -- `control::sets::add_up` meets its contract: what is left of the length is what is left of the counts, if they add up. Assumes nothing.
 use mathlib.Core.Path.{sym}
-use Prim.Native.Nat.{◌-◌}
 use native.Mathlib.Omega.{arith}
 use borrow.Author.Tests.{ne_eqb}
 use Rattle.control.specs.Observation.{total}

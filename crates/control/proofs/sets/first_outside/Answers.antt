@@ -1,7 +1,6 @@
 -- `control::sets::first_outside` meets its contract: the first of what is left is the first of all. Assumes nothing.
 use mathlib.Core.Path.{◌≡◌, refl, sym, ◌∙◌}
 use mathlib.Core.Bool.{◌||◌}
-use Prim.Native.Nat.{◌-◌}
 use native.Mathlib.Omega.{arith}
 use lib.ListN.{get_or}
 use Rattle.records.specs.ValidationLaws.{failed, held}
