@@ -7,7 +7,6 @@ use native.Mathlib.Omega.{arith}
 use lib.ListN.{length}
 use lib.Dec.{eqb}
 use Rattle.identity.specs.Text.{every}
-use Rattle.records.specs.ValidationLaws.{failed, held}
 use Rattle.records.specs.declared.records.VoterSlotTable.{VoterSlotTable}
 use Rattle.control.specs.Observation.{all_rising, is_held_node_id, is_rising, representable_sets, split_sets, total}
 use Rattle.control.specs.ObserveSight.{few_members}
@@ -29,13 +28,13 @@ pub returns-then-not-few-counted : goal.returns-then-not-few-counted
 returns-then-not-few-counted c =
     let a = c.args in
     let fits = fits-as a.table a.sets.now a.counts.now a.nodes.now c.has_few_members-few.ensures c.add_up-counted.ensures c.are_held-held.ensures c.are_held-nodes_held.ensures in
-    sym (weighed-unfit a.table a.sets.now a.counts.now a.nodes.now a.cut (failed fits c.if-not-few-counted.true-raw))
+    sym (weighed-unfit a.table a.sets.now a.counts.now a.nodes.now a.cut (sym fits ∙ c.if-not-few-counted.true))
 
 pub sets_rise-rising-requires : goal.sets_rise-rising-requires
 sets_rise-rising-requires c =
     let a = c.args in
     let fits = fits-as a.table a.sets.now a.counts.now a.nodes.now c.has_few_members-few.ensures c.add_up-counted.ensures c.are_held-held.ensures c.are_held-nodes_held.ensures in
-    let e = weighed-counted a.table a.sets.now a.counts.now a.nodes.now (held fits c.if-not-few-counted.false-raw) in
+    let e = weighed-counted a.table a.sets.now a.counts.now a.nodes.now (sym fits ∙ c.if-not-few-counted.false) in
     omega arith
 
 pub returns-then-not-rising-nodes_rise : goal.returns-then-not-rising-nodes_rise
@@ -43,18 +42,18 @@ returns-then-not-rising-nodes_rise c =
     let a = c.args in
     let fits = fits-as a.table a.sets.now a.counts.now a.nodes.now c.has_few_members-few.ensures c.add_up-counted.ensures c.are_held-held.ensures c.are_held-nodes_held.ensures in
     let rising = rises-as a.sets.now a.counts.now a.nodes.now c.sets_rise-rising.ensures c.rises-nodes_rise.ensures in
-    sym (weighed-unsorted a.table a.sets.now a.counts.now a.nodes.now a.cut (held fits c.if-not-few-counted.false-raw) (failed rising c.if-not-rising-nodes_rise.true-raw))
+    sym (weighed-unsorted a.table a.sets.now a.counts.now a.nodes.now a.cut (sym fits ∙ c.if-not-few-counted.false) (sym rising ∙ c.if-not-rising-nodes_rise.true))
 
 pub judge_sets-requires : goal.judge_sets-requires
 judge_sets-requires c =
     let a = c.args in
     let fits = fits-as a.table a.sets.now a.counts.now a.nodes.now c.has_few_members-few.ensures c.add_up-counted.ensures c.are_held-held.ensures c.are_held-nodes_held.ensures in
     let rising = rises-as a.sets.now a.counts.now a.nodes.now c.sets_rise-rising.ensures c.rises-nodes_rise.ensures in
-    weighed-supplied a.table a.sets.now a.counts.now a.nodes.now (held fits c.if-not-few-counted.false-raw) (held rising c.if-not-rising-nodes_rise.false-raw)
+    weighed-supplied a.table a.sets.now a.counts.now a.nodes.now (sym fits ∙ c.if-not-few-counted.false) (sym rising ∙ c.if-not-rising-nodes_rise.false)
 
 pub returns : goal.returns
 returns c =
     let a = c.args in
     let fits = fits-as a.table a.sets.now a.counts.now a.nodes.now c.has_few_members-few.ensures c.add_up-counted.ensures c.are_held-held.ensures c.are_held-nodes_held.ensures in
     let rising = rises-as a.sets.now a.counts.now a.nodes.now c.sets_rise-rising.ensures c.rises-nodes_rise.ensures in
-    c.judge_sets.ensures ∙ sym (weighed-passed a.table a.sets.now a.counts.now a.nodes.now a.cut (held fits c.if-not-few-counted.false-raw) (held rising c.if-not-rising-nodes_rise.false-raw))
+    c.judge_sets.ensures ∙ sym (weighed-passed a.table a.sets.now a.counts.now a.nodes.now a.cut (sym fits ∙ c.if-not-few-counted.false) (sym rising ∙ c.if-not-rising-nodes_rise.false))
