@@ -167,8 +167,6 @@ def record(entries, before=''):
 def listed(before, entries):
     """What stands before, and the entries in brackets, on their own lines where they are too long
     for one."""
-    if entries == entries[:1] and ' ' not in entries[0]:
-        return '    %s %s' % (before, entries[0])
     line = '    %s (%s)' % (before, ', '.join(entries))
     if len(line) <= MOST:
         return line
@@ -472,11 +470,11 @@ pub fn same_{0}s(a: [{1}; {2}], b: [{1}; {2}]) -> bool
 '''
 
 
-def joined(tests, operator):
-    """The tests with the operator between them, in brackets from the right."""
+def joined(tests):
+    """The tests with `&` between them, in brackets from the right."""
     whole = tests[-1]
     for one in reversed(tests[:-1]):
-        whole = ('%s%s(%s)' if operator in whole else '%s%s%s') % (one, operator, whole)
+        whole = ('%s & (%s)' if ' & ' in whole else '%s & %s') % (one, whole)
     return whole
 
 
@@ -505,7 +503,7 @@ def same_code(name, fields):
             lets += '    let %s = %s;\n' % (field.name, call)
             tests.append(field.name)
     same = snake(name)
-    return SAME_RECORD.format(same, name, lets, joined(tests, ' & '), found_with(ALL_TRUE, ('Equality', 'same_' + same)))
+    return SAME_RECORD.format(same, name, lets, joined(tests), found_with(ALL_TRUE, ('Equality', 'same_' + same)))
 
 
 def equality_code():
@@ -561,7 +559,8 @@ def write_invariants(module, function, how, uses, invariant, bound):
 
 def answer(goal, value, unfolding=''):
     """An answer to a goal."""
-    return 'pub {0} : goal.{0}\n{1}{0} c = {2}'.format(goal, 'unfolding %s\n' % unfolding if unfolding else '', value)
+    opened = 'unfolding %s\n' % unfolding if unfolding else ''
+    return 'pub {0} : goal.{0}\n{1}{2}'.format(goal, opened, clause(goal + ' c', '    ' + value.strip()))
 
 
 def equality_proofs():
@@ -580,7 +579,6 @@ def nine_proof(one):
     ], '(l.i ≤ %d) × (l.same ≡ eq_list same_%s (take l.i l.a) (take l.i l.b))' % (PLACES, one), PLACES)
     write_answers('equality', function, how, [
         'mathlib.Core.Path.{refl}',
-        'Prim.Native.Nat.{◌-◌}',
         'native.Mathlib.Omega.{arith}',
         'Rattle.records.specs.Equality.{eq_list, same_%s}' % one,
         'Rattle.records.specs.EqualityLaws.{eq_list-more, eq_list-end}',
@@ -606,15 +604,13 @@ def bytes_proof():
     ], '((l.i ≤ length l.a) × (length l.a ≡ length l.b)) × (l.same ≡ eq_bytes (take l.i l.a) (take l.i l.b))', 'length l.a')
     write_answers('equality', 'same_bytes', how, [
         'mathlib.Core.Path.{refl, sym}',
-        'Prim.Native.Nat.{◌-◌}',
         'native.Mathlib.Omega.{arith}',
         'lib.Dec.{eqb}',
         'Rattle.records.specs.Equality.{eq_list}',
         'Rattle.records.specs.EqualityLaws.{eq_list-lengths, eq_list-more, eq_list-end}',
     ], answer('returns-then-a-b', 'sym (eq_list-lengths eqb _ _ c.if-a-b.true)'),
         answer('loop-i-init', '((omega arith, c.if-a-b.false), refl)', 'eq_list'),
-        answer('loop-i-preserved', '''
-    (omega arith, eq_list-more eqb 0 _ _ c.loop-i.i _ _ (omega arith) (omega arith) c.loop-i.invariant.1 refl)'''),
+        answer('loop-i-preserved', '(omega arith, eq_list-more eqb 0 _ _ c.loop-i.i _ _ (omega arith) (omega arith) c.loop-i.invariant.1 refl)'),
         answer('returns', 'eq_list-end eqb _ _ c.loop-i.i _ (omega arith) (omega arith) c.loop-i.invariant.1'))
 
 
@@ -771,7 +767,7 @@ def is_blank_code(name, fields):
     blank, attribute = snake(name), ''
     if not has_bytes(fields):
         attribute = found_with(ALL_TRUE, ('Equality', 'same_' + blank), ('Blank', 'blank_' + blank)) + '\n'
-    return IS_BLANK.format(blank, name, ''.join(lets), joined(tests, ' & '), attribute)
+    return IS_BLANK.format(blank, name, ''.join(lets), joined(tests), attribute)
 
 
 def zero_code():
@@ -806,7 +802,7 @@ def is_blank_proof(name, fields):
         'Rattle.records.specs.Blank.{blank_%s}' % blank,
         'Rattle.records.specs.Equality.{all_true, same_%s}' % blank,
         'Rattle.records.specs.ZeroLaws.{zeros-blank}',
-    ], *answers, answer('returns', '\n' + listed('simp', known), 'all_true ' + unfolding))
+    ], *answers, answer('returns', listed('simp', known), 'all_true ' + unfolding))
 
 
 def zero_proofs():
@@ -829,7 +825,6 @@ def zero_nine_proof(one):
     ], '(l.i ≤ {0}) × (l.all ≡ eq_list same_{1} (take l.i l.x) (take l.i (replicate {0} blank_{1})))'.format(PLACES, one), PLACES)
     write_answers('zero', function, how, [
         'mathlib.Core.Path.{refl}',
-        'Prim.Native.Nat.{◌-◌}',
         'native.Mathlib.Omega.{arith}',
         'lib.ListN.{length-replicate}',
         'Rattle.records.specs.Blank.{blank_%s}' % one,
@@ -860,7 +855,7 @@ def zeros_proof():
     write_answers('zero', 'zeros', how, [
         'mathlib.Core.Path.{refl, sym, ap, ◌∙◌}',
         'mathlib.Core.Bool.{Bool, ◌&&◌}',
-        'Prim.Native.Nat.{◌<◌, ◌-◌}',
+        'Prim.Native.Nat.{◌<◌}',
         'native.Mathlib.Omega.{arith}',
         'lib.ListN.{length, get_or}',
         'lib.Seq.{take_all}',
@@ -873,8 +868,7 @@ def zeros_proof():
     let bytes = c.args.bytes.now in
     let h : i < length bytes = omega arith in
     (omega arith, ap (λ (t : Bool). t && is_zero (get_or bytes i 0)) c.loop-i.invariant.1 ∙ sym (all_more is_zero bytes i h))'''),
-        answer('returns', '''
-    c.loop-i.invariant.1 ∙ ap (every is_zero) (take_all c.loop-i.i c.args.bytes.now (omega arith))'''))
+        answer('returns', 'c.loop-i.invariant.1 ∙ ap (every is_zero) (take_all c.loop-i.i c.args.bytes.now (omega arith))'))
 
 
 # ---- what every value holds

@@ -9,7 +9,8 @@ use Rattle.records.proofs.zero.is_blank_lost_voter_attestation_v1.Goals as goal
 
 pub returns-then-not-zeros : goal.returns-then-not-zeros
 unfolding same_lost_voter_attestation_v1 blank_lost_voter_attestation_v1
-returns-then-not-zeros c = sym (all_first _ _ _ (sym (zeros-blank _ 16 _ (search rules) c.zeros.ensures) ∙ c.if-not-zeros.true))
+returns-then-not-zeros c =
+    sym (all_first _ _ _ (sym (zeros-blank _ 16 _ (search rules) c.zeros.ensures) ∙ c.if-not-zeros.true))
 
 pub returns : goal.returns
 unfolding all_true same_lost_voter_attestation_v1 blank_lost_voter_attestation_v1

@@ -7,5 +7,4 @@ use Rattle.records.proofs.zero.is_blank_snapshot_id.Goals as goal
 
 pub returns : goal.returns
 unfolding all_true same_snapshot_id blank_snapshot_id
-returns c =
-    simp (zeros-blank _ 256 _ (search rules) c.zeros-bytes.ensures)
+returns c = simp (zeros-blank _ 256 _ (search rules) c.zeros-bytes.ensures)

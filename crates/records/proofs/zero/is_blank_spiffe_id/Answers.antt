@@ -7,5 +7,4 @@ use Rattle.records.proofs.zero.is_blank_spiffe_id.Goals as goal
 
 pub returns : goal.returns
 unfolding all_true same_spiffe_id blank_spiffe_id
-returns c =
-    simp (zeros-blank _ 2048 _ (search rules) c.zeros-bytes.ensures)
+returns c = simp (zeros-blank _ 2048 _ (search rules) c.zeros-bytes.ensures)
