@@ -1,14 +1,14 @@
 -- `writer::encode::put_binding` meets its contract: one put after the other. Written by scripts/writers.py. Assumes nothing.
 use Prim.Native.Nat.{◌+◌}
-use mathlib.Core.Path.{◌≡◌, ap, ◌∙◌}
-use mathlib.Core.List.{◌++◌}
 use native.Mathlib.Omega.{arith}
+use mathlib.Core.Path.{◌≡◌}
+use mathlib.Core.List.{◌++◌}
 use lib.ListN.{length, length-append}
 use Rattle.format.specs.Combinators.{dep, via}
 use Rattle.format.specs.Num.{uint, raw}
-use Rattle.format.specs.Put.{Put, then, room, room-left, length-put}
-use Rattle.layout.specs.Layout.{binding}
+use Rattle.format.specs.Put.{then, room-left}
 use Rattle.layout.specs.Parts.{binding_of}
+use Rattle.layout.specs.Layout.{binding}
 use Rattle.records.specs.declared.records.VoterSlotMember.{VoterSlotMember}
 use Rattle.writer.proofs.encode.put_binding.Goals as goal
 
@@ -28,5 +28,4 @@ put_be-requires c = omega (arith, lengths c.args.member)
 
 pub returns : goal.returns
 unfolding binding via dep raw
-returns c =
-    then _ (then _ c.put_bytes-at.ensures (room-left _ _ _ _ c.requires) c.put_bytes-at-2.ensures) c.requires c.put_be.ensures
+returns c = then _ (then _ c.put_bytes-at.ensures (room-left _ _ _ _ c.requires) c.put_bytes-at-2.ensures) c.requires c.put_be.ensures
