@@ -22,19 +22,19 @@ to-incarnation = dep to-slot (λ a. uint 8)
 
 -- the call that reads each field, from after the field and from after its refusal; the place after a field, from the call that reads the next
 abbrev called-slot : In-Read → After-read_u16-slot_read
-called-slot c = (record { before = c.before.before; type_inv = record { bytes = c.type_inv.bytes } })
+called-slot c = (record { before = c.before.before; type_inv = record { bytes = c.shared_slice_known-1.given } })
 
 abbrev refused-slot : After-why_u16 → After-read_u16-slot_read
-refused-slot c = (record { before = c.before.before.before; type_inv = record { bytes = c.type_inv.bytes } })
+refused-slot c = (record { before = c.before.before.before; type_inv = record { bytes = c.shared_slice_known-1.given } })
 
 abbrev after-slot : After-read_u64-incarnation_read → In-Read
-after-slot c = (record { before = c.before.before.before; type_inv = record { bytes = c.type_inv.bytes } })
+after-slot c = (record { before = c.before.before.before; type_inv = record { bytes = c.shared_slice_known-1.given } })
 
 abbrev called-incarnation : In-Read-incarnation_read → After-read_u64-incarnation_read
-called-incarnation c = (record { before = c.before.before; type_inv = record { bytes = c.type_inv.bytes } })
+called-incarnation c = (record { before = c.before.before; type_inv = record { bytes = c.shared_slice_known-1.given } })
 
 abbrev refused-incarnation : After-why_u64 → After-read_u64-incarnation_read
-refused-incarnation c = (record { before = c.before.before.before; type_inv = record { bytes = c.type_inv.bytes } })
+refused-incarnation c = (record { before = c.before.before.before; type_inv = record { bytes = c.shared_slice_known-1.given } })
 
 -- where the function began, from the call that reads each field
 abbrev start-slot : After-read_u16-slot_read → Start

@@ -35,37 +35,37 @@ to-candidate = dep to-expected-configuration (λ a. candidate)
 
 -- the call that reads each field, from after the field and from after its refusal; the place after a field, from the call that reads the next
 abbrev called-cut : In-Read → After-read_log_id-cut_read
-called-cut c = (record { before = c.before.before; type_inv = record { bytes = c.type_inv.bytes } })
+called-cut c = (record { before = c.before.before; type_inv = record { bytes = c.shared_slice_known-1.given } })
 
 abbrev refused-cut : After-refused_begin_head → After-read_log_id-cut_read
-refused-cut c = (record { before = c.before.before.before.before; type_inv = record { bytes = c.type_inv.bytes } })
+refused-cut c = (record { before = c.before.before.before.before; type_inv = record { bytes = c.shared_slice_known-1.given } })
 
 abbrev after-cut : After-read_u64-expected_revision_read → In-Read
-after-cut c = (record { before = c.before.before.before; type_inv = record { bytes = c.type_inv.bytes } })
+after-cut c = (record { before = c.before.before.before; type_inv = record { bytes = c.shared_slice_known-1.given } })
 
 abbrev called-expected-revision : In-Read-expected_revision_read → After-read_u64-expected_revision_read
-called-expected-revision c = (record { before = c.before.before; type_inv = record { bytes = c.type_inv.bytes } })
+called-expected-revision c = (record { before = c.before.before; type_inv = record { bytes = c.shared_slice_known-1.given } })
 
 abbrev refused-expected-revision : After-refused_begin_head-in_default-expected_revision_read → After-read_u64-expected_revision_read
-refused-expected-revision c = (record { before = c.before.before.before.before; type_inv = record { bytes = c.type_inv.bytes } })
+refused-expected-revision c = (record { before = c.before.before.before.before; type_inv = record { bytes = c.shared_slice_known-1.given } })
 
 abbrev after-expected-revision : After-read_expected-expected_configuration_read → In-Read-expected_revision_read
-after-expected-revision c = (record { before = c.before.before.before; type_inv = record { bytes = c.type_inv.bytes } })
+after-expected-revision c = (record { before = c.before.before.before; type_inv = record { bytes = c.shared_slice_known-1.given } })
 
 abbrev called-expected-configuration : After-expected_configuration-1 → After-read_expected-expected_configuration_read
-called-expected-configuration c = (record { before = c.before.before.before; type_inv = record { bytes = c.type_inv.bytes } })
+called-expected-configuration c = (record { before = c.before.before.before; type_inv = record { bytes = c.shared_slice_known-1.given } })
 
 abbrev refused-expected-configuration : After-refused_begin_head-in_default-expected_configuration_to → After-read_expected-expected_configuration_read
-refused-expected-configuration c = (record { before = c.before.before.before.before; type_inv = record { bytes = c.type_inv.bytes } })
+refused-expected-configuration c = (record { before = c.before.before.before.before; type_inv = record { bytes = c.shared_slice_known-1.given } })
 
 abbrev after-expected-configuration : After-read_candidate-candidate_read → After-expected_configuration-1
-after-expected-configuration c = (record { before = c.before.before.before; type_inv = record { bytes = c.type_inv.bytes } })
+after-expected-configuration c = (record { before = c.before.before.before; type_inv = record { bytes = c.shared_slice_known-1.given } })
 
 abbrev called-candidate : After-candidate-1 → After-read_candidate-candidate_read
-called-candidate c = (record { before = c.before.before.before; type_inv = record { bytes = c.type_inv.bytes } })
+called-candidate c = (record { before = c.before.before.before; type_inv = record { bytes = c.shared_slice_known-1.given } })
 
 abbrev refused-candidate : After-refused_begin_head-in_default-candidate_to → After-read_candidate-candidate_read
-refused-candidate c = (record { before = c.before.before.before.before; type_inv = record { bytes = c.type_inv.bytes } })
+refused-candidate c = (record { before = c.before.before.before.before; type_inv = record { bytes = c.shared_slice_known-1.given } })
 
 -- where the function began, from the call that reads each field
 abbrev start-cut : After-read_log_id-cut_read → Start

@@ -26,19 +26,19 @@ to-binding = dep to-identity (λ a. binding)
 
 -- the call that reads each field, from after the field and from after its refusal; the place after a field, from the call that reads the next
 abbrev called-identity : In-Read → After-read_any_identity-identity_read
-called-identity c = (record { before = c.before.before; type_inv = record { bytes = c.type_inv.bytes } })
+called-identity c = (record { before = c.before.before; type_inv = record { bytes = c.shared_slice_known-1.given } })
 
 abbrev refused-identity : After-refused_member → After-read_any_identity-identity_read
-refused-identity c = (record { before = c.before.before.before.before; type_inv = record { bytes = c.type_inv.bytes } })
+refused-identity c = (record { before = c.before.before.before.before; type_inv = record { bytes = c.shared_slice_known-1.given } })
 
 abbrev after-identity : After-read_binding-binding_read → In-Read
-after-identity c = (record { before = c.before.before.before; type_inv = record { bytes = c.type_inv.bytes } })
+after-identity c = (record { before = c.before.before.before; type_inv = record { bytes = c.shared_slice_known-1.given } })
 
 abbrev called-binding : After-binding-1 → After-read_binding-binding_read
-called-binding c = (record { before = c.before.before.before; type_inv = record { bytes = c.type_inv.bytes } })
+called-binding c = (record { before = c.before.before.before; type_inv = record { bytes = c.shared_slice_known-1.given } })
 
 abbrev refused-binding : After-refused_member-in_default-binding_to → After-read_binding-binding_read
-refused-binding c = (record { before = c.before.before.before.before; type_inv = record { bytes = c.type_inv.bytes } })
+refused-binding c = (record { before = c.before.before.before.before; type_inv = record { bytes = c.shared_slice_known-1.given } })
 
 -- where the function began, from the call that reads each field
 abbrev start-identity : After-read_any_identity-identity_read → Start
@@ -109,5 +109,5 @@ overflow_add-result c = record { fits = lt_of_le_of_lt (to-binding.within _ (got
 pub returns : goal.returns
 unfolding candidate
 returns c =
-    outcome-ok _ (via-ok _ _ _ _ _ (got-binding (record { before = c.before.before; type_inv = record { bytes = c.type_inv.bytes } }))
-    ∙ ap (λ v. ok v (size-to-binding (record { before = c.before.before; type_inv = record { bytes = c.type_inv.bytes } }))) (sym c.member_of.ensures))
+    outcome-ok _ (via-ok _ _ _ _ _ (got-binding (record { before = c.before.before; type_inv = record { bytes = c.shared_slice_known-1.given } }))
+    ∙ ap (λ v. ok v (size-to-binding (record { before = c.before.before; type_inv = record { bytes = c.shared_slice_known-1.given } }))) (sym c.member_of.ensures))

@@ -28,28 +28,28 @@ to-configuration-epoch = dep to-configuration-id (λ a. uint 8)
 
 -- the call that reads each field, from after the field and from after its refusal; the place after a field, from the call that reads the next
 abbrev called-cluster-id : After-cluster_id-1 → After-read_array32-cluster_id_read
-called-cluster-id c = (record { before = c.before.before.before; type_inv = record { bytes = c.type_inv.bytes } })
+called-cluster-id c = (record { before = c.before.before.before; type_inv = record { bytes = c.shared_slice_known-1.given } })
 
 abbrev refused-cluster-id : After-refused_expected → After-read_array32-cluster_id_read
-refused-cluster-id c = (record { before = c.before.before.before.before; type_inv = record { bytes = c.type_inv.bytes } })
+refused-cluster-id c = (record { before = c.before.before.before.before; type_inv = record { bytes = c.shared_slice_known-1.given } })
 
 abbrev after-cluster-id : After-read_array32-configuration_id_read → After-cluster_id-1
-after-cluster-id c = (record { before = c.before.before.before; type_inv = record { bytes = c.type_inv.bytes } })
+after-cluster-id c = (record { before = c.before.before.before; type_inv = record { bytes = c.shared_slice_known-1.given } })
 
 abbrev called-configuration-id : After-configuration_id-1 → After-read_array32-configuration_id_read
-called-configuration-id c = (record { before = c.before.before.before; type_inv = record { bytes = c.type_inv.bytes } })
+called-configuration-id c = (record { before = c.before.before.before; type_inv = record { bytes = c.shared_slice_known-1.given } })
 
 abbrev refused-configuration-id : After-refused_expected-in_default-configuration_id_to → After-read_array32-configuration_id_read
-refused-configuration-id c = (record { before = c.before.before.before.before; type_inv = record { bytes = c.type_inv.bytes } })
+refused-configuration-id c = (record { before = c.before.before.before.before; type_inv = record { bytes = c.shared_slice_known-1.given } })
 
 abbrev after-configuration-id : After-read_u64-configuration_epoch_read → After-configuration_id-1
-after-configuration-id c = (record { before = c.before.before.before; type_inv = record { bytes = c.type_inv.bytes } })
+after-configuration-id c = (record { before = c.before.before.before; type_inv = record { bytes = c.shared_slice_known-1.given } })
 
 abbrev called-configuration-epoch : In-Read → After-read_u64-configuration_epoch_read
-called-configuration-epoch c = (record { before = c.before.before; type_inv = record { bytes = c.type_inv.bytes } })
+called-configuration-epoch c = (record { before = c.before.before; type_inv = record { bytes = c.shared_slice_known-1.given } })
 
 abbrev refused-configuration-epoch : After-refused_expected-in_default-configuration_epoch_read → After-read_u64-configuration_epoch_read
-refused-configuration-epoch c = (record { before = c.before.before.before.before; type_inv = record { bytes = c.type_inv.bytes } })
+refused-configuration-epoch c = (record { before = c.before.before.before.before; type_inv = record { bytes = c.shared_slice_known-1.given } })
 
 -- where the function began, from the call that reads each field
 abbrev start-cluster-id : After-read_array32-cluster_id_read → Start

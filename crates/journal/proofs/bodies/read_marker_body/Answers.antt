@@ -30,28 +30,28 @@ to-request-digest = dep to-request-id (λ a. raw 32)
 
 -- the call that reads each field, from after the field and from after its refusal; the place after a field, from the call that reads the next
 abbrev called-cut : In-Read → After-read_log_id-cut_read
-called-cut c = (record { before = c.before.before; type_inv = record { bytes = c.type_inv.bytes } })
+called-cut c = (record { before = c.before.before; type_inv = record { bytes = c.shared_slice_known-1.given } })
 
 abbrev refused-cut : After-refused_marker_body → After-read_log_id-cut_read
-refused-cut c = (record { before = c.before.before.before.before; type_inv = record { bytes = c.type_inv.bytes } })
+refused-cut c = (record { before = c.before.before.before.before; type_inv = record { bytes = c.shared_slice_known-1.given } })
 
 abbrev after-cut : After-read_array16-request_id_read → In-Read
-after-cut c = (record { before = c.before.before.before; type_inv = record { bytes = c.type_inv.bytes } })
+after-cut c = (record { before = c.before.before.before; type_inv = record { bytes = c.shared_slice_known-1.given } })
 
 abbrev called-request-id : After-request_id-1 → After-read_array16-request_id_read
-called-request-id c = (record { before = c.before.before.before; type_inv = record { bytes = c.type_inv.bytes } })
+called-request-id c = (record { before = c.before.before.before; type_inv = record { bytes = c.shared_slice_known-1.given } })
 
 abbrev refused-request-id : After-refused_marker_body-in_default-request_id_to → After-read_array16-request_id_read
-refused-request-id c = (record { before = c.before.before.before.before; type_inv = record { bytes = c.type_inv.bytes } })
+refused-request-id c = (record { before = c.before.before.before.before; type_inv = record { bytes = c.shared_slice_known-1.given } })
 
 abbrev after-request-id : After-read_array32-request_digest_read → After-request_id-1
-after-request-id c = (record { before = c.before.before.before; type_inv = record { bytes = c.type_inv.bytes } })
+after-request-id c = (record { before = c.before.before.before; type_inv = record { bytes = c.shared_slice_known-1.given } })
 
 abbrev called-request-digest : After-request_digest-1 → After-read_array32-request_digest_read
-called-request-digest c = (record { before = c.before.before.before; type_inv = record { bytes = c.type_inv.bytes } })
+called-request-digest c = (record { before = c.before.before.before; type_inv = record { bytes = c.shared_slice_known-1.given } })
 
 abbrev refused-request-digest : After-refused_marker_body-in_default-request_digest_to → After-read_array32-request_digest_read
-refused-request-digest c = (record { before = c.before.before.before.before; type_inv = record { bytes = c.type_inv.bytes } })
+refused-request-digest c = (record { before = c.before.before.before.before; type_inv = record { bytes = c.shared_slice_known-1.given } })
 
 -- where the function began, from the call that reads each field
 abbrev start-cut : After-read_log_id-cut_read → Start

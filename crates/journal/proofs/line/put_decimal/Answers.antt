@@ -17,7 +17,7 @@ pub slice_bounds-put_bytes-end : goal.slice_bounds-put_bytes-end
 slice_bounds-put_bytes-end c = simp length-take (omega arith)
 
 pub put_bytes-requires : goal.put_bytes-requires
-put_bytes-requires c = rw (is (record { before = c.before.before; type_inv = record { digits = ?; out = ? } })) c.requires
+put_bytes-requires c = rw (is (record { before = c.before.before; type_inv = record { digits = c.decimal-count.array_long; out = c.slice_known-1.given } })) c.requires
 
 pub returns : goal.returns
-returns c = put_same (is (record { before = c.before.before.before.before.before.before; type_inv = record { digits = ?; out = c.type_inv.out } })) c.put_bytes.ensures
+returns c = put_same (is (record { before = c.before.before.before.before.before.before; type_inv = record { digits = c.decimal-count.array_long; out = c.slice_known-1.given } })) c.put_bytes.ensures

@@ -40,16 +40,16 @@ overflow_sub-bytes c = head-within (bytes_of c) (from-of c) (count c)
 
 pub returns-then-bytes-at : goal.returns-then-bytes-at
 returns-then-bytes-at c =
-    let s : In-Read = record { before = c.before.before.before; type_inv = record { ids = c.type_inv.ids; bytes = c.type_inv.bytes } } in
+    let s : In-Read = record { before = c.before.before.before; type_inv = record { ids = c.slice_known-1.given; bytes = c.shared_slice_known-1.given } } in
     set-short (bytes_of s) (from-of s) (count s) (start s).args.ids.now c.not_laid-then-bytes-at.ensures c.if-bytes-at.true
 
 pub slice_bounds-lay_ids-count : goal.slice_bounds-lay_ids-count
-slice_bounds-lay_ids-count c = head-within (bytes_of (record { before = c.before.before; type_inv = record { ids = c.type_inv.ids; bytes = c.type_inv.bytes } })) (from-of (record { before = c.before.before; type_inv = record { ids = c.type_inv.ids; bytes = c.type_inv.bytes } })) (count (record { before = c.before.before; type_inv = record { ids = c.type_inv.ids; bytes = c.type_inv.bytes } }))
+slice_bounds-lay_ids-count c = head-within (bytes_of (record { before = c.before.before; type_inv = record { ids = c.slice_known-1.given; bytes = c.shared_slice_known-1.given } })) (from-of (record { before = c.before.before; type_inv = record { ids = c.slice_known-1.given; bytes = c.shared_slice_known-1.given } })) (count (record { before = c.before.before; type_inv = record { ids = c.slice_known-1.given; bytes = c.shared_slice_known-1.given } }))
 
 pub slice_bounds-lay_ids-start : goal.slice_bounds-lay_ids-start
-slice_bounds-lay_ids-start c = head-within (bytes_of (record { before = c.before.before; type_inv = record { ids = c.type_inv.ids; bytes = c.type_inv.bytes } })) (from-of (record { before = c.before.before; type_inv = record { ids = c.type_inv.ids; bytes = c.type_inv.bytes } })) (count (record { before = c.before.before; type_inv = record { ids = c.type_inv.ids; bytes = c.type_inv.bytes } }))
+slice_bounds-lay_ids-start c = head-within (bytes_of (record { before = c.before.before; type_inv = record { ids = c.slice_known-1.given; bytes = c.shared_slice_known-1.given } })) (from-of (record { before = c.before.before; type_inv = record { ids = c.slice_known-1.given; bytes = c.shared_slice_known-1.given } })) (count (record { before = c.before.before; type_inv = record { ids = c.slice_known-1.given; bytes = c.shared_slice_known-1.given } }))
 
 pub returns : goal.returns
 returns c =
-    let s : In-Read = record { before = c.before.before.before.before.before.before.before; type_inv = record { ids = c.type_inv.ids; bytes = c.type_inv.bytes } } in
+    let s : In-Read = record { before = c.before.before.before.before.before.before.before; type_inv = record { ids = c.slice_known-1.given; bytes = c.shared_slice_known-1.given } } in
     set_there (bytes_of s) (from-of s) (count s) c.if-bytes-at.false c.lay_ids.ensures

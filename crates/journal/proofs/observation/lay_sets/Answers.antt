@@ -13,7 +13,7 @@ use Rattle.journal.proofs.observation.lay_sets.Goals.{After-lay_set-laid, At-loo
 
 -- the loop's head, from after a set was read; the start, from there
 abbrev head : After-lay_set-laid → At-loop-i
-head c = (record { before = c.before.before.before.before.before; type_inv = record { bytes = c.type_inv.bytes } })
+head c = (record { before = c.before.before.before.before.before; type_inv = record { bytes = c.shared_slice_known-1.given } })
 
 abbrev start : At-loop-i → Start
 start c = c.before.before.before.before.before
@@ -23,11 +23,11 @@ bytes_of c = (start c).args.bytes.now
 
 -- where the set was read, from where it is known to be one
 abbrev laid : Else-not-laid → After-lay_set-laid
-laid c = (record { before = c.before.before.before.before.before; type_inv = record { bytes = c.type_inv.bytes } })
+laid c = (record { before = c.before.before.before.before.before; type_inv = record { bytes = c.shared_slice_known-1.given } })
 
 -- the set that was read, in the bytes after those before it
 one : (c : After-lay_set-laid)
-    → LaidSet c.lay_set-laid.result (drop (head c).loop-i.true (bytes_of (head c))) (head c).loop-i.held (head c).loop-i.ids c.lay_set-laid.new.1.0
+    → LaidSet c.lay_set-laid.result (drop (head c).loop-i.true (bytes_of (head c))) (head c).loop-i.held (head c).loop-i.ids c.lay_set-laid.new.ids.0
 one c = set_rest (bytes_of (head c)) (head c).loop-i.true c.lay_set-laid.ensures
 
 pub loop-i-init : goal.loop-i-init
@@ -40,22 +40,22 @@ lay_set-laid-requires c = simp (length-take, length-drop) (omega arith)
 
 pub returns-then-not-laid : goal.returns-then-not-laid
 returns-then-not-laid c =
-    let d : After-lay_set-laid = record { before = c.before.before.before.before.before; type_inv = record { bytes = c.type_inv.bytes } } in
+    let d : After-lay_set-laid = record { before = c.before.before.before.before.before; type_inv = record { bytes = c.shared_slice_known-1.given } } in
     sets-refused (bytes_of (head d)) (head d).loop-i.invariant.3 (one d) _ _ d.loop-i-test.true (failed refl c.if-not-laid.true)
 
 pub overflow_add-taken : goal.overflow_add-taken
 overflow_add-taken c =
-    let d = laid (record { before = c.before.before; type_inv = record { ids = c.type_inv.ids; bytes = c.type_inv.bytes } }) in
+    let d = laid (record { before = c.before.before; type_inv = record { ids = c.slice_known-in-loop-i-1.given; bytes = c.shared_slice_known-1.given } }) in
     omega (arith, (one d).few, (one d).within, length-drop (head d).loop-i.true (bytes_of (head d)))
 
 pub overflow_add-held : goal.overflow_add-held
 overflow_add-held c =
-    let d = laid (record { before = c.before.before.before; type_inv = record { ids = c.type_inv.ids; bytes = c.type_inv.bytes } }) in
+    let d = laid (record { before = c.before.before.before; type_inv = record { ids = c.slice_known-in-loop-i-1.given; bytes = c.shared_slice_known-1.given } }) in
     omega (arith, (one d).few, (one d).within, length-drop (head d).loop-i.true (bytes_of (head d)))
 
 pub loop-i-preserved : goal.loop-i-preserved
 loop-i-preserved c =
-    let known : Else-not-laid = record { before = c.before.before.before; type_inv = record { ids = c.type_inv.ids; bytes = c.type_inv.bytes } } in
+    let known : Else-not-laid = record { before = c.before.before.before; type_inv = record { ids = c.slice_known-in-loop-i-1.given; bytes = c.shared_slice_known-1.given } } in
     let d = laid known in
     let bytes = bytes_of (head d) in
     let l = (head d).loop-i in
@@ -69,6 +69,6 @@ loop-i-preserved c =
 
 pub returns : goal.returns
 returns c =
-    let h : At-loop-i = record { before = c.before.before; type_inv = record { bytes = c.type_inv.bytes } } in
+    let h : At-loop-i = record { before = c.before.before; type_inv = record { bytes = c.shared_slice_known-1.given } } in
     let e : h.loop-i.i ≡ (start h).args.sets = omega arith in
     sets_end (bytes_of h) (rw e at h.loop-i.invariant.3)

@@ -23,20 +23,20 @@ bytes c i = omega (arith, c.shared_slice_known-1.given i)
 
 -- the loop's head, from after the record was read; the start, from there
 abbrev head : After-record_at-found → At-loop-place
-head c = (record { before = c.before.before.before.before; type_inv = record { input = c.type_inv.input } })
+head c = (record { before = c.before.before.before.before; type_inv = record { input = c.shared_slice_known-1.given } })
 
 abbrev start : At-loop-place → Start
 start c = c.before.before.before.before.before.before
 
 -- where the record was read, from after its body was; that, from where a table that it brought is in place
 abbrev found : After-open_record-opened → After-record_at-found
-found c = (record { before = c.before.before.before; type_inv = record { input = c.type_inv.input } })
+found c = (record { before = c.before.before.before; type_inv = record { input = c.shared_slice_known-1.given } })
 
 abbrev opened : Joined-stands → After-open_record-opened
-opened c = (record { before = c.before.before.before; type_inv = record { input = c.type_inv.input } })
+opened c = (record { before = c.before.before.before; type_inv = record { input = c.shared_slice_known-1.given } })
 
 abbrev joined_of : After-put_turn-place → Joined-stands
-joined_of c = (record { before = c.before.before.before.before; type_inv = record { input = c.type_inv.input } })
+joined_of c = (record { before = c.before.before.before.before; type_inv = record { input = c.shared_slice_known-1.given } })
 
 -- the bytes, whether they are the last, and what stands at the loop's head
 abbrev input_of : At-loop-place → List ℕ
@@ -54,7 +54,7 @@ here-at c =
     let last = last_of (head c) in
     let at = (head c).loop-place.place.read in
     subst (λ (r : Record). Here input last at r) (sym c.record_at-found.ensures)
-    (here input last at (head c).loop-place.invariant.1.within (bytes (record { before = (head c).before.before.before.before.before; type_inv = record { input = (head c).type_inv.input } })))
+    (here input last at (head c).loop-place.invariant.1.within (bytes (record { before = (head c).before.before.before.before.before; type_inv = record { input = (head c).shared_slice_known-1.given } })))
 
 -- there are turns left, and no table yet
 left : (c : After-record_at-found) → (0 < (head c).loop-place.place.turns) × ((head c).loop-place.stands ≡ false)
@@ -95,16 +95,16 @@ slice_bounds-open_record-end c = let h = here-at c in omega arith
 
 pub put_turn-place-requires : goal.put_turn-place-requires
 put_turn-place-requires c =
-    let r = found (opened (record { before = c.before.before.before; type_inv = record { input = c.type_inv.input } })) in
+    let r = found (opened (record { before = c.before.before.before; type_inv = record { input = c.shared_slice_known-1.given } })) in
     let l = (head r).loop-place in
     ((left r).0, (l.inv.1.lines_fit, l.inv.1.counts-fit))
 
 pub loop-place-smaller : goal.loop-place-smaller
-loop-place-smaller c = put-less c.put_turn-place.ensures (left (found (opened (joined_of (record { before = c.before.before.before; type_inv = record { input = c.type_inv.input } }))))).0
+loop-place-smaller c = put-less c.put_turn-place.ensures (left (found (opened (joined_of (record { before = c.before.before.before; type_inv = record { input = c.shared_slice_known-1.given } }))))).0
 
 pub loop-place-preserved : goal.loop-place-preserved
 loop-place-preserved c =
-    let put : After-put_turn-place = record { before = c.before.before.before; type_inv = record { input = c.type_inv.input } } in
+    let put : After-put_turn-place = record { before = c.before.before.before; type_inv = record { input = c.shared_slice_known-1.given } } in
     let m = joined_of put in
     let d = found (opened m) in
     let input = input_of (head d) in
@@ -133,7 +133,7 @@ shape_of-out c = c.loop-place.invariant.0.long
 
 pub returns : goal.returns
 returns c =
-    let h : At-loop-place = record { before = c.before.before.before; type_inv = record { input = c.type_inv.input } } in
+    let h : At-loop-place = record { before = c.before.before.before; type_inv = record { input = c.shared_slice_known-1.given } } in
     let s = start h in
     let a = s.args in
     let l = h.loop-place in (

@@ -41,17 +41,17 @@ Opens c o out =
     let a = c.args in
     Goes a.input.now a.last (begun c) a.out.now o out × (Safe a.input.now (length out) o × (o.stands ≡ false → o.place.turns ≡ 0))
 
-opens : (c : Joined-not-opened) → Opens (record { before = c.before.before; type_inv = record { out = ?; input = c.type_inv.input } }) c.if-not-opened.opened c.if-not-opened.out
+opens : (c : Joined-not-opened) → Opens (record { before = c.before.before; type_inv = record { out = c.slice_known-1.given; input = c.shared_slice_known-1.given } }) c.if-not-opened.opened c.if-not-opened.out
 unfolding begun Opens
 opens c =
     let a = c.args in
     ⊎_elim
-    (λ w. subst (λ (o : Opened). Opens (record { before = c.before.before; type_inv = record { out = ?; input = c.type_inv.input } }) o c.if-not-opened.out) (sym w.6) (subst (λ (x : List ℕ). Opens (record { before = c.before.before; type_inv = record { out = ?; input = c.type_inv.input } }) w.2.result x) (sym w.5) w.2.ensures))
+    (λ w. subst (λ (o : Opened). Opens (record { before = c.before.before; type_inv = record { out = c.slice_known-1.given; input = c.shared_slice_known-1.given } }) o c.if-not-opened.out) (sym w.6) (subst (λ (x : List ℕ). Opens (record { before = c.before.before; type_inv = record { out = c.slice_known-1.given; input = c.shared_slice_known-1.given } }) w.2.result x) (sym w.5) w.2.ensures))
     (λ w.
-    let f = (begun-safe (record { before = c.before.before; type_inv = record { out = ?; input = c.type_inv.input } })).lines_fit in
-    subst (λ (o : Opened). Opens (record { before = c.before.before; type_inv = record { out = ?; input = c.type_inv.input } }) o c.if-not-opened.out) (sym w.2) (subst (λ (x : List ℕ). Opens (record { before = c.before.before; type_inv = record { out = ?; input = c.type_inv.input } }) (begun (record { before = c.before.before; type_inv = record { out = ?; input = c.type_inv.input } })) x) (sym w.1) (
-      goes_none a.input.now a.last (begun (record { before = c.before.before; type_inv = record { out = ?; input = c.type_inv.input } })) a.out.now (omega arith),
-      (begun-safe (record { before = c.before.before; type_inv = record { out = ?; input = c.type_inv.input } }), λ h. absurd (false≢true (sym h ∙ not-false _ w.0.left))),
+    let f = (begun-safe (record { before = c.before.before; type_inv = record { out = c.slice_known-1.given; input = c.shared_slice_known-1.given } })).lines_fit in
+    subst (λ (o : Opened). Opens (record { before = c.before.before; type_inv = record { out = c.slice_known-1.given; input = c.shared_slice_known-1.given } }) o c.if-not-opened.out) (sym w.2) (subst (λ (x : List ℕ). Opens (record { before = c.before.before; type_inv = record { out = c.slice_known-1.given; input = c.shared_slice_known-1.given } }) (begun (record { before = c.before.before; type_inv = record { out = c.slice_known-1.given; input = c.shared_slice_known-1.given } })) x) (sym w.1) (
+      goes_none a.input.now a.last (begun (record { before = c.before.before; type_inv = record { out = c.slice_known-1.given; input = c.shared_slice_known-1.given } })) a.out.now (omega arith),
+      (begun-safe (record { before = c.before.before; type_inv = record { out = c.slice_known-1.given; input = c.shared_slice_known-1.given } }), λ h. absurd (false≢true (sym h ∙ not-false _ w.0.left))),
     )))
     c.if-not-opened.branch
 
@@ -61,28 +61,28 @@ Ends c o out =
     let a = c.args in
     Goes a.input.now a.last (begun c) a.out.now o out × (o.place.turns ≡ 0)
 
-ends : (c : Joined-opened) → Ends (record { before = c.before.before.before; type_inv = record { out = ?; input = c.type_inv.input } }) c.if-opened.opened c.if-opened.out
+ends : (c : Joined-opened) → Ends (record { before = c.before.before.before; type_inv = record { out = c.slice_known-1.given; input = c.shared_slice_known-1.given } }) c.if-opened.opened c.if-opened.out
 unfolding Opens Ends
 ends c =
-    let p = opens (record { before = c.before.before; type_inv = record { input = c.type_inv.input } }) in
+    let p = opens (record { before = c.before.before; type_inv = record { input = c.shared_slice_known-1.given } }) in
     ⊎_elim
-    (λ w. subst (λ (o : Opened). Ends (record { before = c.before.before.before; type_inv = record { out = ?; input = c.type_inv.input } }) o c.if-opened.out) (sym w.6)
-    (subst (λ (x : List ℕ). Ends (record { before = c.before.before.before; type_inv = record { out = ?; input = c.type_inv.input } }) w.2.result x) (sym w.5) (goes_then p.0 w.2.ensures.0, w.2.ensures.1)))
-    (λ w. subst (λ (o : Opened). Ends (record { before = c.before.before.before; type_inv = record { out = ?; input = c.type_inv.input } }) o c.if-opened.out) (sym w.2)
-    (subst (λ (x : List ℕ). Ends (record { before = c.before.before.before; type_inv = record { out = ?; input = c.type_inv.input } }) c.if-not-opened.opened x) (sym w.1) (p.0, p.1.1 w.0.left)))
+    (λ w. subst (λ (o : Opened). Ends (record { before = c.before.before.before; type_inv = record { out = c.slice_known-1.given; input = c.shared_slice_known-1.given } }) o c.if-opened.out) (sym w.6)
+    (subst (λ (x : List ℕ). Ends (record { before = c.before.before.before; type_inv = record { out = c.slice_known-1.given; input = c.shared_slice_known-1.given } }) w.2.result x) (sym w.5) (goes_then p.0 w.2.ensures.0, w.2.ensures.1)))
+    (λ w. subst (λ (o : Opened). Ends (record { before = c.before.before.before; type_inv = record { out = c.slice_known-1.given; input = c.shared_slice_known-1.given } }) o c.if-opened.out) (sym w.2)
+    (subst (λ (x : List ℕ). Ends (record { before = c.before.before.before; type_inv = record { out = c.slice_known-1.given; input = c.shared_slice_known-1.given } }) c.if-not-opened.opened x) (sym w.1) (p.0, p.1.1 w.0.left)))
     c.if-opened.branch
 
 pub open_log-opened-requires : goal.open_log-opened-requires
 unfolding begun
-open_log-opened-requires c = (begun-safe (record { before = c.before.before.before; type_inv = record { out = ?; input = c.type_inv.input } }), not-true _ c.if-not-opened.true)
+open_log-opened-requires c = (begun-safe (record { before = c.before.before.before; type_inv = record { out = c.slice_known-1.given; input = c.shared_slice_known-1.given } }), not-true _ c.if-not-opened.true)
 
 pub play_on-opened-requires : goal.play_on-opened-requires
 unfolding Opens
-play_on-opened-requires c = ((opens (record { before = c.before.before.before; type_inv = record { input = c.type_inv.input } })).1.0, c.if-opened.true)
+play_on-opened-requires c = ((opens (record { before = c.before.before.before; type_inv = record { input = c.shared_slice_known-1.given } })).1.0, c.if-opened.true)
 
 pub shape_of-out : goal.shape_of-out
 unfolding Ends
-shape_of-out c = (ends (record { before = c.before.before; type_inv = record { input = c.type_inv.input } })).0.long
+shape_of-out c = (ends (record { before = c.before.before; type_inv = record { input = c.shared_slice_known-1.given } })).0.long
 
 -- what the argument is made of: bytes, and a table of its types
 bytes : (c : After-shared_slice_known-1) → Bytes c.args.input.now
@@ -97,11 +97,11 @@ unfolding Ends
 returns c =
     let start = c.before.before.before.before.before.before.before.before.before.before in
     let a = start.args in
-    let e = ends (record { before = c.before.before; type_inv = record { input = c.type_inv.input } }) in
+    let e = ends (record { before = c.before.before; type_inv = record { input = c.shared_slice_known-1.given } }) in
     let o = c.if-opened.opened in
     let out = c.if-opened.out in (
       ap (λ x. (x, out)) (c.played_to.ensures ∙ ap (λ (x : Answer). played_to x o) c.start_answer-answer.ensures)
           ∙ played a.from a.input.now a.last a.out.now o out
-          (subst (λ (s : Opened). Goes a.input.now a.last s a.out.now o out) (begun-is (record { before = c.before.before.before.before; type_inv = record { out = ?; input = c.type_inv.input } })) e.0) e.1,
-      λ _ v. run-line a.from.table (held start) v _ (ready-bytes _ a.last a.input.now (bytes (record { before = c.before.before.before.before.before.before.before.before.before; type_inv = record { input = c.type_inv.input } }))),
+          (subst (λ (s : Opened). Goes a.input.now a.last s a.out.now o out) (begun-is (record { before = c.before.before.before.before; type_inv = record { out = c.slice_known-1.given; input = c.shared_slice_known-1.given } })) e.0) e.1,
+      λ _ v. run-line a.from.table (held start) v _ (ready-bytes _ a.last a.input.now (bytes (record { before = c.before.before.before.before.before.before.before.before.before; type_inv = record { input = c.shared_slice_known-1.given } }))),
     )

@@ -39,10 +39,10 @@ valid c = valid-at c.loop-place.t (c.loop-place.invariant.1.valid (some c))
 
 -- the loop's head, from there; where the bytes are known, and the start, from the loop's head
 abbrev head : After-record_at-found → At-loop-place
-head c = (record { before = c.before.before.before.before; type_inv = record { input = c.type_inv.input } })
+head c = (record { before = c.before.before.before.before; type_inv = record { input = c.shared_slice_known-1.given } })
 
 abbrev known-input : At-loop-place → After-shared_slice_known-1
-known-input c = (record { before = c.before.before.before.before.before.before.before; type_inv = record { input = c.type_inv.input } })
+known-input c = (record { before = c.before.before.before.before.before.before.before; type_inv = record { input = c.shared_slice_known-1.given } })
 
 abbrev start : At-loop-place → Start
 start c = (known-input c).before.before
@@ -68,11 +68,11 @@ here-at c =
 -- ---- what was judged of it, and the table that is made
 
 -- each arm judged the record's body under its mark
-judged : (c : Joined-asks) → Judges (table_at (record { before = c.before.before.before; type_inv = record { input = c.type_inv.input } })) c.record_at-found.result.asks (body_at (record { before = c.before.before.before; type_inv = record { input = c.type_inv.input } })) c.match-asks.called
+judged : (c : Joined-asks) → Judges (table_at (record { before = c.before.before.before; type_inv = record { input = c.shared_slice_known-1.given } })) c.record_at-found.result.asks (body_at (record { before = c.before.before.before; type_inv = record { input = c.shared_slice_known-1.given } })) c.match-asks.called
 judged c =
-    let t = table_at (record { before = c.before.before.before; type_inv = record { input = c.type_inv.input } }) in
+    let t = table_at (record { before = c.before.before.before; type_inv = record { input = c.shared_slice_known-1.given } }) in
     let asks = c.record_at-found.result.asks in
-    let body = body_at (record { before = c.before.before.before; type_inv = record { input = c.type_inv.input } }) in
+    let body = body_at (record { before = c.before.before.before; type_inv = record { input = c.shared_slice_known-1.given } }) in
     ⊎_elim
     (λ w. judges-command t asks body c.match-asks.called w.2.result Mk w.5 w.1.given.1 refl w.2.ensures)
     (⊎_elim
@@ -87,18 +87,18 @@ judged c =
     c.match-asks.branch
 
 abbrev found_at : After-route_of_called → After-record_at-found
-found_at c = (record { before = c.before.before.before.before; type_inv = record { input = c.type_inv.input } })
+found_at c = (record { before = c.before.before.before.before; type_inv = record { input = c.shared_slice_known-1.given } })
 
 abbrev called_at : After-route_of_called → Called
 called_at c = c.match-asks.called
 
 makes-at : (c : After-route_of_called) → Makes (table_at (found_at c)) (body_at (found_at c)) (called_at c)
-makes-at c = makes (table_at (found_at c)) (found_at c).record_at-found.result.asks (body_at (found_at c)) (called_at c) (judged (record { before = c.before.before; type_inv = record { input = c.type_inv.input } }))
+makes-at c = makes (table_at (found_at c)) (found_at c).record_at-found.result.asks (body_at (found_at c)) (called_at c) (judged (record { before = c.before.before; type_inv = record { input = c.shared_slice_known-1.given } }))
 
-made_as : (c : Joined-route_of_called) → c.match-route_of_called.t ≡ made_by (table_at (found_at (record { before = c.before.before; type_inv = record { input = c.type_inv.input } }))) (body_at (found_at (record { before = c.before.before; type_inv = record { input = c.type_inv.input } }))) (called_at (record { before = c.before.before; type_inv = record { input = c.type_inv.input } }))
+made_as : (c : Joined-route_of_called) → c.match-route_of_called.t ≡ made_by (table_at (found_at (record { before = c.before.before; type_inv = record { input = c.shared_slice_known-1.given } }))) (body_at (found_at (record { before = c.before.before; type_inv = record { input = c.shared_slice_known-1.given } }))) (called_at (record { before = c.before.before; type_inv = record { input = c.shared_slice_known-1.given } }))
 unfolding step_made
 made_as c =
-    let r : After-route_of_called = record { before = c.before.before; type_inv = record { input = c.type_inv.input } } in
+    let r : After-route_of_called = record { before = c.before.before; type_inv = record { input = c.shared_slice_known-1.given } } in
     let e = sym r.route_of_called.ensures in
     ⊎_elim (λ w. w.3 ∙ step-makes (table_at (found_at r)) (body_at (found_at r)) (called_at r) (makes-at r) records_snapshot refl (e ∙ w.0.keys1) w.1.result w.1.ensures w.2.ensures)
     (⊎_elim (λ w. w.3 ∙ step-makes (table_at (found_at r)) (body_at (found_at r)) (called_at r) (makes-at r) records_caught_up refl (e ∙ w.0.keys2) w.1.result w.1.ensures w.2.ensures)
@@ -133,93 +133,93 @@ pub slice_bounds-body-end : goal.slice_bounds-body-end
 slice_bounds-body-end c = let h = here-at c in omega arith
 
 pub judge_marker_body-requires : goal.judge_marker_body-requires
-judge_marker_body-requires c = valid (record { before = c.before.before.before.before; type_inv = record { input = c.type_inv.input } })
+judge_marker_body-requires c = valid (record { before = c.before.before.before.before; type_inv = record { input = c.shared_slice_known-1.given } })
 
 pub judge_advance_body-requires : goal.judge_advance_body-requires
-judge_advance_body-requires c = valid (record { before = c.before.before.before.before; type_inv = record { input = c.type_inv.input } })
+judge_advance_body-requires c = valid (record { before = c.before.before.before.before; type_inv = record { input = c.shared_slice_known-1.given } })
 
 pub judge_begin_body-requires : goal.judge_begin_body-requires
-judge_begin_body-requires c = valid (record { before = c.before.before.before.before; type_inv = record { input = c.type_inv.input } })
+judge_begin_body-requires c = valid (record { before = c.before.before.before.before; type_inv = record { input = c.shared_slice_known-1.given } })
 
 pub judge_observation_body-requires : goal.judge_observation_body-requires
 judge_observation_body-requires c =
-    let d : After-record_at-found = record { before = c.before.before.before.before.before; type_inv = record { input = c.type_inv.input } } in
-    (valid (record { before = d.before.before; type_inv = record { input = d.type_inv.input } }), (let h = here-at d in simp (length-take, length-drop) (omega arith)))
+    let d : After-record_at-found = record { before = c.before.before.before.before.before; type_inv = record { input = c.shared_slice_known-1.given } } in
+    (valid (record { before = d.before.before; type_inv = record { input = d.shared_slice_known-1.given } }), (let h = here-at d in simp (length-take, length-drop) (omega arith)))
 
 pub snapshot_table-t-requires : goal.snapshot_table-t-requires
 snapshot_table-t-requires c =
-    let r : After-route_of_called = record { before = c.before.before.before; type_inv = record { input = c.type_inv.input } } in
+    let r : After-route_of_called = record { before = c.before.before.before; type_inv = record { input = c.shared_slice_known-1.given } } in
     step_room (table_at (found_at r)) (body_at (found_at r)) (called_at r) (makes-at r) records_snapshot refl
     (sym r.route_of_called.ensures ∙ c.in-1.is) c.advance_in.result c.advance_in.ensures
 
 pub catch_up_table-t-requires : goal.catch_up_table-t-requires
 catch_up_table-t-requires c =
-    let r : After-route_of_called = record { before = c.before.before.before; type_inv = record { input = c.type_inv.input } } in
+    let r : After-route_of_called = record { before = c.before.before.before; type_inv = record { input = c.shared_slice_known-1.given } } in
     step_room (table_at (found_at r)) (body_at (found_at r)) (called_at r) (makes-at r) records_caught_up refl
     (sym r.route_of_called.ensures ∙ c.in-2.is) c.advance_in-in-2.result c.advance_in-in-2.ensures
 
 pub continue_table-t-requires : goal.continue_table-t-requires
 continue_table-t-requires c =
-    let r : After-route_of_called = record { before = c.before.before.before; type_inv = record { input = c.type_inv.input } } in
+    let r : After-route_of_called = record { before = c.before.before.before; type_inv = record { input = c.shared_slice_known-1.given } } in
     step_room (table_at (found_at r)) (body_at (found_at r)) (called_at r) (makes-at r) continues refl
     (sym r.route_of_called.ensures ∙ c.in-3.is) c.advance_in-in-3.result c.advance_in-in-3.ensures
 
 pub fence_table-t-requires : goal.fence_table-t-requires
 fence_table-t-requires c =
-    let r : After-route_of_called = record { before = c.before.before.before; type_inv = record { input = c.type_inv.input } } in
+    let r : After-route_of_called = record { before = c.before.before.before; type_inv = record { input = c.shared_slice_known-1.given } } in
     step_room (table_at (found_at r)) (body_at (found_at r)) (called_at r) (makes-at r) fences refl
     (sym r.route_of_called.ensures ∙ c.in-4.is) c.advance_in-in-4.result c.advance_in-in-4.ensures
 
 pub finalize_table-t-requires : goal.finalize_table-t-requires
 finalize_table-t-requires c =
-    let r : After-route_of_called = record { before = c.before.before.before; type_inv = record { input = c.type_inv.input } } in
+    let r : After-route_of_called = record { before = c.before.before.before; type_inv = record { input = c.shared_slice_known-1.given } } in
     step-target (table_at (found_at r)) (body_at (found_at r)) (called_at r) (makes-at r) finalizes refl
     (sym r.route_of_called.ensures ∙ c.in-5.is) c.advance_in-in-5.result c.advance_in-in-5.ensures
 
 pub begin_table-t-requires : goal.begin_table-t-requires
 begin_table-t-requires c =
-    let r : After-route_of_called = record { before = c.before.before.before; type_inv = record { input = c.type_inv.input } } in
+    let r : After-route_of_called = record { before = c.before.before.before; type_inv = record { input = c.shared_slice_known-1.given } } in
     begin-target (table_at (found_at r)) (body_at (found_at r)) (called_at r) (makes-at r)
     (sym r.route_of_called.ensures ∙ c.in-6.is) c.begin_in.result c.begin_in.ensures
 
 pub learner_table-t-requires : goal.learner_table-t-requires
 learner_table-t-requires c =
-    let r : After-route_of_called = record { before = c.before.before.before; type_inv = record { input = c.type_inv.input } } in
+    let r : After-route_of_called = record { before = c.before.before.before; type_inv = record { input = c.shared_slice_known-1.given } } in
     addition-room (table_at (found_at r)) (body_at (found_at r)) (called_at r) (makes-at r) adds_learner
     (sym r.route_of_called.ensures ∙ c.in-7.is)
 
 pub joint_table-t-requires : goal.joint_table-t-requires
 joint_table-t-requires c =
-    let r : After-route_of_called = record { before = c.before.before.before; type_inv = record { input = c.type_inv.input } } in
+    let r : After-route_of_called = record { before = c.before.before.before; type_inv = record { input = c.shared_slice_known-1.given } } in
     addition-room (table_at (found_at r)) (body_at (found_at r)) (called_at r) (makes-at r) adds_joint
     (sym r.route_of_called.ensures ∙ c.in-8.is)
 
 pub uniform_table-t-requires : goal.uniform_table-t-requires
 uniform_table-t-requires c =
-    let r : After-route_of_called = record { before = c.before.before.before; type_inv = record { input = c.type_inv.input } } in
+    let r : After-route_of_called = record { before = c.before.before.before; type_inv = record { input = c.shared_slice_known-1.given } } in
     addition-room (table_at (found_at r)) (body_at (found_at r)) (called_at r) (makes-at r) adds_uniform
     (sym r.route_of_called.ensures ∙ c.in-9.is)
 
 pub put_turn-place-requires : goal.put_turn-place-requires
 put_turn-place-requires c =
-    let d = found_at (record { before = c.before.before.before.before; type_inv = record { input = c.type_inv.input } }) in
+    let d = found_at (record { before = c.before.before.before.before; type_inv = record { input = c.shared_slice_known-1.given } }) in
     let l = (head d).loop-place in
     (some d.before, (l.inv.1.lines_fit, l.inv.1.counts-fit))
 
 pub loop-place-smaller : goal.loop-place-smaller
-loop-place-smaller c = put-less c.put_turn-place.ensures (some (record { before = (found_at (record { before = c.before.before.before.before.before.before.before; type_inv = record { input = c.type_inv.input } })).before.before; type_inv = record { input = (found_at (record { before = c.before.before.before.before.before.before.before; type_inv = record { input = c.type_inv.input } })).type_inv.input } }))
+loop-place-smaller c = put-less c.put_turn-place.ensures (some (record { before = (found_at (record { before = c.before.before.before.before.before.before.before; type_inv = record { input = c.shared_slice_known-1.given } })).before.before; type_inv = record { input = (found_at (record { before = c.before.before.before.before.before.before.before; type_inv = record { input = c.shared_slice_known-1.given } })).shared_slice_known-1.given } }))
 
 pub loop-place-preserved : goal.loop-place-preserved
 loop-place-preserved c =
-    let m : Joined-route_of_called = record { before = c.before.before.before.before.before.before; type_inv = record { input = c.type_inv.input } } in
-    let d = found_at (record { before = m.before.before; type_inv = record { input = m.type_inv.input } }) in
+    let m : Joined-route_of_called = record { before = c.before.before.before.before.before.before; type_inv = record { input = c.shared_slice_known-1.given } } in
+    let d = found_at (record { before = m.before.before; type_inv = record { input = m.shared_slice_known-1.given } }) in
     let l = (head d).loop-place in
     let o = opened_at l.place true l.t in
     let r = d.record-at.result in
     let h = here-at d in
     let table = m.match-route_of_called.t in
     let answer = c.answer_of_called-answer in
-    let p = play-turn l.t (valid d.before) r.asks (body_at d) (called_at (record { before = m.before.before; type_inv = record { input = m.type_inv.input } })) (judged (record { before = m.before.before.before; type_inv = record { input = m.type_inv.input } }))
+    let p = play-turn l.t (valid d.before) r.asks (body_at d) (called_at (record { before = m.before.before; type_inv = record { input = m.shared_slice_known-1.given } })) (judged (record { before = m.before.before.before; type_inv = record { input = m.shared_slice_known-1.given } }))
     answer.result answer.ensures table (made_as m) in
     let keeps : true ≡ false → (true ≡ false) × (table ≡ l.t) = λ k. absurd (false≢true (sym k)) in
     let q = c.put_turn-place.result in (
@@ -235,7 +235,7 @@ shape_of-out c = c.loop-place.invariant.0.long
 
 pub returns : goal.returns
 returns c =
-    let s = start (record { before = c.before.before.before.before; type_inv = record { input = c.type_inv.input } }) in
+    let s = start (record { before = c.before.before.before.before; type_inv = record { input = c.shared_slice_known-1.given } }) in
     let a = s.args in
     let l = c.loop-place in
     let e = c.with_table.ensures in
