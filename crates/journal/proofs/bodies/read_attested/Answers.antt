@@ -38,4 +38,4 @@ returns c =
     (supplied-read s.supplied.now (omega arith) r.read_array32-digest_read.ensures)
     (supplied-read (drop 32 s.supplied.now) (omega (arith, length-drop 32 s.supplied.now))
     (c.read_array32-configuration_read.ensures ∙ ap (λ l. outcome (zeros 32) ((raw 32).dec l)) (rest s.supplied.now 32)))
-    d.ensures (held k.before.accepted.ensures k.if1.left)
+    d.ensures (held c.accepted.ensures c.if-not-accepted.false-raw)

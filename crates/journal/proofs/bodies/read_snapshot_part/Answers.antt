@@ -68,7 +68,7 @@ value c =
     let i = called-snapshot-id (after-snapshot-id (called-digest c)) in
     record {
       cut = (after-cut i).in-Read.cut;
-      snapshot_id = i.read-any-snapshot-id.result.value;
+      snapshot_id = i.read_any_snapshot_id-snapshot_id_read.result.value;
       digest = (called-digest c).read_array32-digest_read.result.value;
     }
 

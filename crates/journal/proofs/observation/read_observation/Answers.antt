@@ -25,7 +25,7 @@ start c = c.before.before.before.before.before.before
 abbrev cut-read : In-Read-count_read → In-Read
 cut-read c = (record { before = c.before.before.before.before; type_inv = record { counts = c.slice_known-2-1.given; ids = c.slice_known-1.given; body = c.shared_slice_known-1.given } })
 
--- its `.pre` is what is required of the call
+-- its `.requires` is what is required of the call
 abbrev required : In-Read-count_read → Start
 required c = start (cut-read c)
 
@@ -65,19 +65,19 @@ got-2 : (c : In-Read-count_read) → (uint 1).dec (drop (at1 (cut-read c)) (body
 got-2 c = got u8_read (c.read_u8-count_read.ensures ∙ ap (uint 1).dec (rest (body2 c) (at1 (cut-read c)))) c.in-Read-count_read.is
 
 -- after the sets
-laid : (c : After-lay_sets-laid) → LaidSets c.lay_sets-laid.result (drop (at2 (counted c)) (body2 (counted c))) (count (counted c)) c.lay_sets-laid.new.ids.1.0 c.lay_sets-laid.new.ids.1.1.0
+laid : (c : After-lay_sets-laid) → LaidSets c.lay_sets-laid.result (drop (at2 (counted c)) (body2 (counted c))) (count (counted c)) c.lay_sets-laid.new.ids c.lay_sets-laid.new.counts
 laid c = sets-rest (body2 (counted c)) (at2 (counted c)) c.lay_sets-laid.ensures
 
 abbrev at3 : After-struct_known-2-1 → ℕ
 at3 c = at2 (told c) + (sets-read c).lay_sets-laid.result.taken
 
 so : (c : After-struct_known-2-1)
-    → SetsSo (drop (at2 (told c)) (body2 (told c))) (count (told c)) (sets-read c).lay_sets-laid.result.taken (sets-read c).lay_sets-laid.result.ids (sets-read c).lay_sets-laid.new.ids.1.0 (sets-read c).lay_sets-laid.new.ids.1.1.0
+    → SetsSo (drop (at2 (told c)) (body2 (told c))) (count (told c)) (sets-read c).lay_sets-laid.result.taken (sets-read c).lay_sets-laid.result.ids (sets-read c).lay_sets-laid.new.ids (sets-read c).lay_sets-laid.new.counts
 so c = (laid (sets-read c)).formed (held refl c.if-not-laid.false)
 
 -- after the nodes
 nodes : (c : After-lay_set-nodes)
-    → LaidSet c.lay_set-nodes.result (drop (at3 (sets c)) (body2 (told (sets c)))) (sets-read (sets c)).lay_sets-laid.result.ids (sets-read (sets c)).lay_sets-laid.new.ids.1.0 c.lay_set-nodes.new.ids.0
+    → LaidSet c.lay_set-nodes.result (drop (at3 (sets c)) (body2 (told (sets c)))) (sets-read (sets c)).lay_sets-laid.result.ids (sets-read (sets c)).lay_sets-laid.new.ids c.lay_set-nodes.new.ids
 nodes c = set_rest (body2 (told (sets c))) (at3 (sets c)) c.lay_set-nodes.ensures
 
 -- no part ends after the body
@@ -129,7 +129,7 @@ pub returns-then-not-laid : goal.returns-then-not-laid
 returns-then-not-laid c =
     let q : After-lay_sets-laid = record { before = c.before.before.before.before.before.before.before.before; type_inv = record { body = c.shared_slice_known-1.given } } in
     let p = counted q in (
-      unformed c.not_formed-then-not-laid.result q.lay_sets-laid.new.ids.1.0 q.lay_sets-laid.new.ids.1.1.0 c.not_formed-then-not-laid.ensures.0
+      unformed c.not_formed-then-not-laid.result q.lay_sets-laid.new.ids q.lay_sets-laid.new.counts c.not_formed-then-not-laid.ensures.0
           (observation-setless (body2 p) (got-1 (cut-read p)) (got-2 p) ((laid q).refused (failed refl c.if-not-laid.true))),
       (omega (arith, c.not_formed-then-not-laid.ensures.1.0), omega (arith, c.not_formed-then-not-laid.ensures.1.1)),
     )
