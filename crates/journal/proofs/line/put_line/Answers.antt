@@ -157,4 +157,4 @@ shape_of-out c = ap length (wrote8 c.before.before.before).bytes ∙ length-put 
 pub returns : goal.returns
 returns c =
     let a = from8 c.before.before.before in
-    put_same (whole a ∙ ap (λ n. line_of (count a) (start a).args.mark n (revision a)) a.number.ensures) (wrote8 c.before.before.before)
+    put_same (whole a ∙ ap (λ n. line_of (count a) (start a).args.mark n (revision a)) a.number-answer.ensures) (wrote8 c.before.before.before)
