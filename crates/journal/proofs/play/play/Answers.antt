@@ -6,7 +6,7 @@ use lib.ListN.{length}
 use borrow.Author.Tests.{not-true, not-false}
 use Rattle.identity.specs.declared.answer.Answer.{Answer}
 use mathlib.Core.List.{List}
-use Prim.Native.Nat.{ℕ}
+use Prim.Native.Nat.{ℕ, ◌≤◌}
 use mathlib.Core.Bool.{Bool}
 use Rattle.journal.specs.declared.play.Journal.{Journal}
 use Rattle.journal.specs.declared.play.Opened.{Opened}
