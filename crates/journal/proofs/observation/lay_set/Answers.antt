@@ -1,6 +1,4 @@
 -- `journal::observation::lay_set` meets its contract: the count, and so many ids. Assumes nothing.
-use Prim.Native.Nat.{ℕ}
-use mathlib.Core.List.{List}
 use mathlib.Core.Path.{◌≡◌}
 use Rattle.format.specs.Num.{uint}
 use Rattle.format.specs.Res.Res.{ok}

@@ -1,8 +1,6 @@
 -- `journal::observation::lay_sets` meets its contract. The loop's invariant: so many sets as were
 -- passed were read. Assumes nothing.
-use Prim.Native.Nat.{ℕ, ◌-◌}
 use native.Mathlib.Omega.{arith}
-use mathlib.Core.List.{List}
 use mathlib.Core.Path.{◌≡◌, refl, ◌∙◌}
 use lib.ListN.{drop, length-drop, length-set, length-take}
 use Rattle.records.specs.ValidationLaws.{failed, held as held_test}

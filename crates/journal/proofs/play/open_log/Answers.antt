@@ -1,16 +1,15 @@
 -- `journal::play::open_log` meets its contract. Assumes nothing.
-use Prim.Native.Nat.{ℕ, ◌<◌}
+use Prim.Native.Nat.{◌<◌}
 use native.Mathlib.Omega.{arith}
 use mathlib.Core.Path.{◌≡◌, sym, ap, ◌∙◌, subst}
 use mathlib.Core.Bool.{Bool, false, false≢true}
-use mathlib.Core.List.{List}
 use lib.ListN.{length}
 use Rattle.format.specs.Combinators.{Bytes}
 use Rattle.identity.specs.Answer.{number_of}
-use Rattle.journal.specs.Replay.{Standing}
-use Rattle.journal.specs.declared.play.Opened.{Opened}
+use Rattle.journal.specs.Replay.{Standing, step}
+use Rattle.journal.specs.Replay.Entry.{framed}
 use Rattle.journal.specs.declared.record.Record.{Record}
-use Rattle.journal.specs.Play.{Goes, Safe, brings, opened_at}
+use Rattle.journal.specs.Play.{Goes, Safe, brings, opened_at, standing, standing_in}
 use Rattle.journal.specs.Step.{ValidStanding}
 use Rattle.journal.specs.PlayLaws.{Brought, Here, body_in, brought, goes_none, goes_then, goes-turn, here, opens, put-less, safe-turn, turn-left, turn-none}
 use Rattle.journal.proofs.play.open_log.Goals as goal
@@ -109,7 +108,7 @@ loop-place-preserved c =
     let u = c.open_record-opened.result in
     let table = c.if-stands.table in
     let j = joined in
-    let steps =
+    let steps : step (standing_in o) (framed r.asks (body_in input r)) ≡ (number_of u.answer, standing (brings u.table) table) =
     opens o r.asks (body_in input r) left.1
     ∙ (sym c.open_record-opened.ensures.0 ∙ ap (λ (x : Standing). (number_of u.answer, x)) (sym j.0)) in
     let keeps : brings u.table ≡ false → (l.stands ≡ false) × (table ≡ l.table) = λ k. (left.1, j.1.0 k) in
