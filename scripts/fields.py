@@ -67,8 +67,8 @@ def par(text):
 
 def used(homes, body):
     """The `use` lines of the names that a body has: homes says which module has which names. A
-    name that is projected (`c.result`) is none of them."""
-    words = set(re.findall(r"[^\s(){},;.]+", re.sub(r"(?<=[\w)])\.[\w-]+", "", body)))
+    field is none of them, neither projected (`c.result`) nor given (`record { slot = .. }`)."""
+    words = set(re.findall(r"[^\s(){},;.]+", re.sub(r"(?<=[\w)])\.[\w-]+|(?<=[{;] )\w+ = ", " ", body)))
     lines = []
     for home, names in homes.items():
         named = [name for name in names.split() if name.replace("◌", "") in words]

@@ -111,15 +111,9 @@ REFUSED = {"candidate": "refused_member"}
 
 # Where a name stands
 HOMES = {
-    "Prim.Native.Nat": "ℕ ◌+◌ ◌-◌ ◌≤◌",
-    "lib.ListN": "length take drop replicate length-take length-drop length-set take-append-drop",
-    "lib.Seq": "length-take-le",
-    "mathlib.Core.Bool": "true false",
-    "mathlib.Core.List": "◌++◌",
-    "mathlib.Core.Path": "◌≡◌ refl sym ap ◌∙◌ subst",
-    "native.Mathlib.Nat": "lt_of_le_of_lt",
-    "native.Mathlib.Omega": "arith",
-    "borrow.Author.Rules": "rules",
+    "Rattle.std.specs.Prelude": "ℕ ◌+◌ ◌-◌ ◌≤◌ ◌≡◌ refl false ◌++◌ length take drop replicate",
+    "Rattle.std.proofs.Common":
+        "arith rules lt_of_le_of_lt sym ap ◌∙◌ subst length-take length-drop length-set take-append-drop length-take-le",
     "Rattle.format.specs.Combinators":
         "dep dep-ok dep-no-1 dep-no-2 via-ok via-no checked-ok checked-no checked-bad rest",
     "Rattle.format.specs.Copy": "zeros length-zeros filled_more unfilled-more drop-replicate",
@@ -136,7 +130,6 @@ HOMES = {
         "blank_spiffe_id blank_snapshot_id blank_voter_slot_member blank_voter_configuration blank_voter_replacement_result "
         "blank_voter_slot_record blank_lost_voter_attestation_v1 blank_voter_snapshot_evidence blank_voter_replacement_evidence "
         "blank_voter_replacement_record",
-    "Rattle.records.specs.ValidationLaws": "failed held",
     "Rattle.layout.specs.Layout":
         "require slot_id incarnation epoch slot_count choice identity log_id optional_log_id sized string spiffe_id snapshot_id "
         "binding member members configuration result_head replacement_result slot_member slot slots version claims_request "
@@ -164,14 +157,11 @@ def crate_of(module):
     return {"get": "layout", "reading": "layout", "bodies": "journal"}.get(module, "reader")
 
 
-def write(module, name, body, says="meets its contract", places=(), file="Answers", goals="Goals"):
-    """Writes a file of the function: the body, after what it says and what it uses. places: the
-    places of the code that it names."""
+def write(module, name, body, says="meets its contract", file="Answers", goals="Goals"):
+    """Writes a file of the function: the body, after what it says and what it uses."""
     crate = crate_of(module)
-    own = f"Rattle.{crate}.proofs.{module}.{name}.{goals}"
-    lines = [f"-- `{crate}::{module}::{name}` {says}. Written by scripts/readers.py. Assumes nothing."] + used(HOMES, body) + [f"use {own} as goal"]
-    if places:
-        lines.append(f"use {own}.{{{', '.join(sorted(places))}}}")
+    lines = [f"-- `{crate}::{module}::{name}` {says}. Written by scripts/readers.py. Assumes nothing."]
+    lines += used(HOMES, body) + [f"use Rattle.{crate}.proofs.{module}.{name}.{goals} as goal"]
     folder = os.path.join(ROOT, "crates", crate, "proofs", module, name)
     os.makedirs(folder, exist_ok=True)
     with open(os.path.join(folder, file + ".antt"), "w") as out:
@@ -239,10 +229,6 @@ class Reader:
     def refusal(self, k):
         """The place where field k was refused."""
         return "in_default" + (f"-{self.matched(k)[0]}" if k else "")
-
-    def place(self, k):
-        """The place after field k."""
-        return self.case(k) if self.matched(k)[1] == "Read" or self.kind(k) in MARKS else f"After-{self.field(k)}-1"
 
     def size(self, k):
         return f"{self.facts(k)}.{'n' if k else 'at'}"
@@ -318,23 +304,21 @@ class Reader:
         many = sum(self.call(i) == self.call(k) for i in range(1, k + 1))
         return [f"slice_bounds-{self.call(k)}-{of}" + (f"-{many}" if many > 1 else "") for of in ("count", "start")]
 
-    def room(self, k):
-        """The lemma that the fields up to k are no more than the bytes."""
-        name = f"within-{self.field(k)}"
-        return f"{name} : (c : {self.place(k)}) → {self.sizes(k)} ≤ length c.args.bytes.now\n{name} c ={self.lets(k)}\n    {self.codecs(k)}.within _ {par(self.read(k))}\n\n"
-
     def goals(self):
-        """The answers, in the order of the code."""
+        """The answers, field by field."""
         out = ""
         for k in range(self.n):
-            if k:
-                out += "".join(answer(part, f"within-{self.field(k - 1)} c") for part in self.parts(k))
-            if self.kind(k) in COUNTED:
-                call = f"{self.call(k)}-{self.field(k)}_read"
-                out += answer(call + "-requires", f"{self.lets(k - 1, k - 1)}\n    count-read _ p{k}")
             out += self.refused(k)
-            if 0 < k < self.end:
-                out += answer("overflow_add-at" + (f"-{k}" if k > 1 else ""), f"record {{ fits = lt_of_le_of_lt (within-{self.field(k)} c) c.well_formed.0.0 }}")
+            if k == self.end:
+                break
+            count, start = self.parts(k + 1)
+            out += answer(count, f"{self.lets(k)}\n    {self.codecs(k)}.within _ {par(self.read(k))}")
+            out += answer(start, f"{count} c")
+            if k:
+                out += answer("overflow_add-at" + (f"-{k}" if k > 1 else ""), f"record {{ fits = lt_of_le_of_lt ({count} c) c.well_formed.0.0 }}")
+            if self.kind(k + 1) in COUNTED:
+                call = f"{self.call(k + 1)}-{self.field(k + 1)}_read"
+                out += answer(call + "-requires", f"{self.lets(k, k)}\n    count-read _ p{k + 1}")
         return out + self.last()
 
     def last(self):
@@ -350,9 +334,7 @@ class Reader:
         return f"(record {{ member = v; retired_through = {self.facts(1)}.retired_through }})" if self.name == "read_slot_member" else "v"
 
     def write(self):
-        rooms = "".join(self.room(k) for k in range(self.end))
-        write(self.module, self.name, "-- after each field: that so many bytes were read\n" + rooms + self.goals(),
-              "meets its contract: field by field", {self.place(k) for k in range(self.end)})
+        write(self.module, self.name, self.goals(), "meets its contract: field by field")
 
 
 def optional(name, codec, absent, blank):
@@ -440,7 +422,7 @@ def text(name, size):
     out += answer("slice_bounds-text-end", f"\n    let s = c.args.bytes.now in{got}\n    {within}")
     out += answer("returns-then-not-is_utf8", f"""{names}{got}
     outcome-no _ c.{refused}-then-not-is_utf8.ensures
-    (via-no _ _ _ _ _ (checked-bad _ _ _ p (ap require (ap is_utf8 (sym (part-is n at s)) ∙ failed c.is_utf8.ensures c.if-not-is_utf8.true-raw))))""", f"{name} string pick")
+    (via-no _ _ _ _ _ (checked-bad _ _ _ p (ap require (ap is_utf8 (sym (part-is n at s)) ∙ sym c.is_utf8.ensures ∙ c.if-not-is_utf8.true))))""", f"{name} string pick")
     out += answer("put_bytes-requires", f"""{names}{got}
     let z : length c.{place}.result ≡ {size} = ap length c.{place}.ensures ∙ length-zeros {size} in
     omega (arith, length-take (at + n - at) (drop at s), z, sized-small {size} s p)""")
@@ -449,7 +431,7 @@ def text(name, size):
     let h : length l ≡ n = length-take-le n (drop at s) (omega (arith, length-drop at s, {within})) in
     let b = c.put_bytes.ensures.bytes ∙ (λ i. put (part-is n at s i) 0 (c.{place}.ensures i)) ∙ put-zeros l {size} ∙ ap (λ m. l ++ replicate ({size} - m) 0) h in
     outcome-ok {blank}
-    (via-ok _ _ _ _ _ (checked-ok _ _ _ p (ap require (ap is_utf8 (sym (part-is n at s)) ∙ held c.is_utf8.ensures c.if-not-is_utf8.false-raw)))
+    (via-ok _ _ _ _ _ (checked-ok _ _ _ p (ap require (ap is_utf8 (sym (part-is n at s)) ∙ sym c.is_utf8.ensures ∙ c.if-not-is_utf8.false)))
     ∙ ap (λ b. ok (record {{ len = n; bytes = b }}) (at + n)) (sym b))""", f"{name} string pick")
     write("reader", f"read_{name}", out)
 
@@ -470,6 +452,56 @@ def array(size):
     write("get", f"read_array{size}", out)
 
 
+def refused(module, name, made, value="v", opened="outcome"):
+    """A refusal that is passed on with its blank, which a call makes."""
+    body = f"ap (λ v. (no (number_of c.args.answer), {value})) c.{made}.ensures"
+    write(module, f"refused_{name}", answer("returns", body, opened))
+
+
+def refused_array(size):
+    """A refusal with its blank, which is zeros."""
+    write("reading", f"refused_array{size}", answer("returns", "refl", "outcome zeros"))
+
+
+def refused_front():
+    """A refusal with the front of a table, in whose blank two calls stand."""
+    value = "(((tt, c.blank_table_head-head.ensures i), 0), c.blank_voter_slot_records-slots.ensures i)"
+    write("reading", "refused_table_front", answer("returns", f"λ i. (no (number_of c.args.answer), {value})", "outcome"))
+
+
+# What passes a refusal on: the module, what was read, and the call that makes its blank
+REFUSALS = [
+    ("reading", "spiffe_id", "blank_spiffe_id"),
+    ("reading", "snapshot_id", "blank_snapshot_id"),
+    ("reading", "binding", "blank_binding"),
+    ("reading", "member", "blank_voter_slot_member"),
+    ("reading", "members", "blank_voter_slot_members"),
+    ("reading", "configuration", "blank_voter_configuration"),
+    ("reading", "result_head", "blank_result_head"),
+    ("reading", "result", "blank_voter_replacement_result"),
+    ("reading", "optional_result", "blank_voter_replacement_result", "(false, v)"),
+    ("reading", "slot_member", "blank_slot_member"),
+    ("reading", "slot", "blank_voter_slot_record"),
+    ("reading", "slots", "blank_voter_slot_records"),
+    ("reading", "claims_request", "blank_claims_request"),
+    ("reading", "claims_slot", "blank_claims_slot"),
+    ("reading", "claims_names", "blank_claims_names"),
+    ("reading", "claims_end", "blank_claims_end"),
+    ("reading", "attestation", "blank_lost_voter_attestation_v1"),
+    ("reading", "snapshot", "blank_voter_snapshot_evidence"),
+    ("reading", "optional_snapshot", "blank_voter_snapshot_evidence", "(false, v)"),
+    ("reading", "evidence", "blank_voter_replacement_evidence"),
+    ("reading", "change", "blank_change"),
+    ("reading", "replacement", "blank_voter_replacement_record"),
+    ("reading", "table_head", "blank_table_head"),
+    ("reading", "table", "blank_voter_slot_table"),
+    ("bodies", "marker_body", "blank_marker_body"),
+    ("bodies", "expected", "blank_expected"),
+    ("bodies", "begin_head", "blank_begin_head"),
+    # the blank step is made as one without a part
+    ("bodies", "step", "step_of", "v", "outcome blank_voter_replacement_step"),
+]
+
 TEMPLATES = {
     "read_optional_result": lambda: optional("result", "replacement_result", "absent_result", "blank_voter_replacement_result"),
     "read_optional_snapshot": lambda: optional("snapshot", "snapshot", "absent_snapshot", "blank_voter_snapshot_evidence"),
@@ -478,6 +510,9 @@ TEMPLATES = {
     "read_spiffe_id": lambda: text("spiffe_id", 2048),
     "read_snapshot_id": lambda: text("snapshot_id", 256),
     **{f"read_array{size}": (lambda size=size: array(size)) for size in (16, 32, 64)},
+    **{f"refused_array{size}": (lambda size=size: refused_array(size)) for size in (16, 32, 64)},
+    "refused_table_front": refused_front,
+    **{"refused_" + of[1]: (lambda of=of: refused(*of)) for of in REFUSALS},
     **{"read_" + reader[1]: Reader(*reader).write for reader in READERS},
 }
 

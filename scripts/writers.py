@@ -135,13 +135,8 @@ CHAINS = [
 RECORDS = 'SpiffeId SnapshotId VoterSlotLogId VoterSlotMember VoterConfiguration VoterReplacementResult VoterSlotRecord LostVoterAttestationV1 ' \
           'VoterSnapshotEvidence VoterReplacementEvidence VoterReplacementRecord VoterSlotTable'
 HOMES = {
-    'Prim.Native.Nat': 'ℕ ◌+◌ ◌-◌ ◌≤◌ ◌<◌',
-    'native.Mathlib.Omega': 'arith',
-    'mathlib.Core.Path': '◌≡◌ refl sym ap ◌∙◌',
-    'mathlib.Core.List': 'List ◌++◌',
-    'borrow.Author.Rules': 'rules',
-    'lib.ListN': 'length take get_or length-append',
-    'lib.Seq': 'length-take-le',
+    'Rattle.std.specs.Prelude': 'ℕ ◌+◌ ◌-◌ ◌≤◌ ◌<◌ ◌≡◌ refl List ◌++◌ length take get_or',
+    'Rattle.std.proofs.Common': 'arith sym ap ◌∙◌ length-append length-take-le',
     'Rattle.format.specs.Combinators': 'dep via check',
     'Rattle.format.specs.List': 'flag opt',
     'Rattle.format.specs.Num': 'uint raw',
@@ -216,7 +211,7 @@ def lengths(chain):
     appended, whole = [], parts[0]
     for part in parts[1:]:
         appended.insert(0, f'length-append {par(whole)} {par(part)}')
-        whole = f'{par(whole)} ++ {part}'
+        whole = f'{par(whole) if " ++ " in whole else whole} ++ {part}'
     proof = f'omega (arith, {", ".join(appended)})'
     if chain.same:
         proof = f'ap length ({chain.same} x) ∙ {appended[0]}'

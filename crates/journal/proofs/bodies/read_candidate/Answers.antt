@@ -1,8 +1,6 @@
 -- `journal::bodies::read_candidate` meets its contract: field by field. Written by scripts/readers.py. Assumes nothing.
-use Prim.Native.Nat.{◌+◌, ◌≤◌}
-use lib.ListN.{length}
-use mathlib.Core.Path.{sym, ap, ◌∙◌}
-use native.Mathlib.Nat.{lt_of_le_of_lt}
+use Rattle.std.specs.Prelude.{◌+◌}
+use Rattle.std.proofs.Common.{lt_of_le_of_lt, sym, ap, ◌∙◌}
 use Rattle.format.specs.Combinators.{dep, dep-ok, dep-no-1, dep-no-2, via-ok, via-no, rest}
 use Rattle.format.specs.Res.Res.{ok, no}
 use Rattle.identity.specs.Answer.{number_of}
@@ -13,13 +11,6 @@ use Rattle.layout.specs.Reading.{outcome, why_of, identity_read, why_identity}
 use Rattle.layout.specs.ReadingLaws.{told, told-not, outcome-ok, outcome-no, got}
 use Rattle.journal.specs.Records.{any_identity, candidate}
 use Rattle.journal.proofs.bodies.read_candidate.Goals as goal
-use Rattle.journal.proofs.bodies.read_candidate.Goals.{In-Read}
-
--- after each field: that so many bytes were read
-within-identity : (c : In-Read) → c.in-Read.at ≤ length c.args.bytes.now
-within-identity c =
-    let p1 = got identity_read c.read_any_identity-identity_read.ensures c.in-Read.is in
-    any_identity.within _ p1
 
 pub returns-in_default : goal.returns-in_default
 unfolding candidate
@@ -29,10 +20,12 @@ returns-in_default c =
     (via-no _ _ _ _ _ (dep-no-1 _ _ _ q))
 
 pub slice_bounds-read_binding-count : goal.slice_bounds-read_binding-count
-slice_bounds-read_binding-count c = within-identity c
+slice_bounds-read_binding-count c =
+    let p1 = got identity_read c.read_any_identity-identity_read.ensures c.in-Read.is in
+    any_identity.within _ p1
 
 pub slice_bounds-read_binding-start : goal.slice_bounds-read_binding-start
-slice_bounds-read_binding-start c = within-identity c
+slice_bounds-read_binding-start c = slice_bounds-read_binding-count c
 
 pub returns-in_default-binding_to : goal.returns-in_default-binding_to
 unfolding candidate

@@ -1,8 +1,5 @@
 -- `journal::bodies::read_marker_body` meets its contract: field by field. Written by scripts/readers.py. Assumes nothing.
-use Prim.Native.Nat.{◌+◌, ◌≤◌}
-use lib.ListN.{length}
-use mathlib.Core.Path.{ap, ◌∙◌}
-use native.Mathlib.Nat.{lt_of_le_of_lt}
+use Rattle.std.proofs.Common.{lt_of_le_of_lt, ap, ◌∙◌}
 use Rattle.format.specs.Combinators.{dep, dep-ok, dep-no-1, dep-no-2, via-ok, via-no, rest}
 use Rattle.format.specs.Copy.{zeros}
 use Rattle.format.specs.Num.{raw}
@@ -14,19 +11,6 @@ use Rattle.layout.specs.ReadingLaws.{told, told-not, outcome-ok, outcome-no, got
 use Rattle.journal.specs.Bodies.{blank_marker_body}
 use Rattle.journal.specs.Records.{marker_body}
 use Rattle.journal.proofs.bodies.read_marker_body.Goals as goal
-use Rattle.journal.proofs.bodies.read_marker_body.Goals.{After-request_id-1, In-Read}
-
--- after each field: that so many bytes were read
-within-cut : (c : In-Read) → c.in-Read.at ≤ length c.args.bytes.now
-within-cut c =
-    let p1 = got log_id_read c.read_log_id-cut_read.ensures c.in-Read.is in
-    log_id.within _ p1
-
-within-request_id : (c : After-request_id-1) → c.in-Read.at + c.in-To.n ≤ length c.args.bytes.now
-within-request_id c =
-    let p1 = got log_id_read c.read_log_id-cut_read.ensures c.in-Read.is in
-    let p2 = told (zeros 16) _ (c.read_array16-request_id_read.ensures ∙ ap (λ l. outcome (zeros 16) ((raw 16).dec l)) (rest c.args.bytes.now _)) c.in-To.is in
-    (dep log_id (λ a. raw 16)).within _ (dep-ok _ _ _ p1 p2)
 
 pub returns-in_default : goal.returns-in_default
 unfolding marker_body
@@ -36,10 +20,12 @@ returns-in_default c =
     (via-no _ _ _ _ _ (dep-no-1 _ _ _ (dep-no-1 _ _ _ q)))
 
 pub slice_bounds-read_array16-count : goal.slice_bounds-read_array16-count
-slice_bounds-read_array16-count c = within-cut c
+slice_bounds-read_array16-count c =
+    let p1 = got log_id_read c.read_log_id-cut_read.ensures c.in-Read.is in
+    log_id.within _ p1
 
 pub slice_bounds-read_array16-start : goal.slice_bounds-read_array16-start
-slice_bounds-read_array16-start c = within-cut c
+slice_bounds-read_array16-start c = slice_bounds-read_array16-count c
 
 pub returns-in_default-request_id_to : goal.returns-in_default-request_id_to
 unfolding marker_body
@@ -49,14 +35,17 @@ returns-in_default-request_id_to c =
     outcome-no _ (c.refused_marker_body-in_default-request_id_to.ensures ∙ ap (λ a. outcome blank_marker_body (no (number_of a))) (c.why.ensures ∙ ap why_of c.in_default-request_id_to.is))
     (via-no _ _ _ _ _ (dep-no-1 _ _ _ (dep-no-2 _ _ _ p1 q)))
 
-pub overflow_add-at : goal.overflow_add-at
-overflow_add-at c = record { fits = lt_of_le_of_lt (within-request_id c) c.well_formed.0.0 }
-
 pub slice_bounds-read_array32-count : goal.slice_bounds-read_array32-count
-slice_bounds-read_array32-count c = within-request_id c
+slice_bounds-read_array32-count c =
+    let p1 = got log_id_read c.read_log_id-cut_read.ensures c.in-Read.is in
+    let p2 = told (zeros 16) _ (c.read_array16-request_id_read.ensures ∙ ap (λ l. outcome (zeros 16) ((raw 16).dec l)) (rest c.args.bytes.now _)) c.in-To.is in
+    (dep log_id (λ a. raw 16)).within _ (dep-ok _ _ _ p1 p2)
 
 pub slice_bounds-read_array32-start : goal.slice_bounds-read_array32-start
-slice_bounds-read_array32-start c = within-request_id c
+slice_bounds-read_array32-start c = slice_bounds-read_array32-count c
+
+pub overflow_add-at : goal.overflow_add-at
+overflow_add-at c = record { fits = lt_of_le_of_lt (slice_bounds-read_array32-count c) c.well_formed.0.0 }
 
 pub returns-in_default-request_digest_to : goal.returns-in_default-request_digest_to
 unfolding marker_body

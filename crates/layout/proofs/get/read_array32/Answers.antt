@@ -1,8 +1,6 @@
 -- `layout::get::read_array32` meets its contract. Written by scripts/readers.py. Assumes nothing.
-use lib.ListN.{length, take, length-take}
-use lib.Seq.{length-take-le}
-use mathlib.Core.Path.{◌≡◌, sym, ap, ◌∙◌}
-use native.Mathlib.Omega.{arith}
+use Rattle.std.specs.Prelude.{◌≡◌, length, take}
+use Rattle.std.proofs.Common.{arith, sym, ap, ◌∙◌, length-take, length-take-le}
 use Rattle.format.specs.Copy.{zeros, length-zeros}
 use Rattle.format.specs.Fill.{put_whole}
 use Rattle.format.specs.Num.{raw-got, raw-not}

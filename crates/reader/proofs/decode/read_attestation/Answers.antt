@@ -1,8 +1,6 @@
 -- `reader::decode::read_attestation` meets its contract: field by field. Written by scripts/readers.py. Assumes nothing.
-use Prim.Native.Nat.{◌+◌, ◌≤◌}
-use lib.ListN.{length}
-use mathlib.Core.Path.{sym, ap, ◌∙◌}
-use native.Mathlib.Nat.{lt_of_le_of_lt}
+use Rattle.std.specs.Prelude.{◌+◌}
+use Rattle.std.proofs.Common.{lt_of_le_of_lt, sym, ap, ◌∙◌}
 use Rattle.format.specs.Combinators.{dep, dep-ok, dep-no-1, dep-no-2, via-ok, via-no, rest}
 use Rattle.format.specs.Res.Res.{ok, no}
 use Rattle.identity.specs.Answer.{number_of}
@@ -12,26 +10,6 @@ use Rattle.layout.specs.Parts.{blank_claims_request, blank_claims_slot, blank_cl
 use Rattle.layout.specs.Reading.{outcome, why_of}
 use Rattle.layout.specs.ReadingLaws.{told, told-not, outcome-ok, outcome-no}
 use Rattle.reader.proofs.decode.read_attestation.Goals as goal
-use Rattle.reader.proofs.decode.read_attestation.Goals.{After-names-1, After-request-1, After-slot-1}
-
--- after each field: that so many bytes were read
-within-request : (c : After-request-1) → c.in-To.at ≤ length c.args.bytes.now
-within-request c =
-    let p1 = told blank_claims_request _ c.read_claims_request-request_read.ensures c.in-To.is in
-    claims_request.within _ p1
-
-within-slot : (c : After-slot-1) → c.in-To.at + c.in-To-slot_to.n ≤ length c.args.bytes.now
-within-slot c =
-    let p1 = told blank_claims_request _ c.read_claims_request-request_read.ensures c.in-To.is in
-    let p2 = told blank_claims_slot _ (c.read_claims_slot-slot_read.ensures ∙ ap (λ l. outcome blank_claims_slot (claims_slot.dec l)) (rest c.args.bytes.now _)) c.in-To-slot_to.is in
-    (dep claims_request (λ a. claims_slot)).within _ (dep-ok _ _ _ p1 p2)
-
-within-names : (c : After-names-1) → c.in-To.at + c.in-To-slot_to.n + c.in-To-names_to.n ≤ length c.args.bytes.now
-within-names c =
-    let p1 = told blank_claims_request _ c.read_claims_request-request_read.ensures c.in-To.is in
-    let p2 = told blank_claims_slot _ (c.read_claims_slot-slot_read.ensures ∙ ap (λ l. outcome blank_claims_slot (claims_slot.dec l)) (rest c.args.bytes.now _)) c.in-To-slot_to.is in
-    let p3 = told blank_claims_names _ (c.read_claims_names-names_read.ensures ∙ ap (λ l. outcome blank_claims_names (claims_names.dec l)) (rest c.args.bytes.now _)) c.in-To-names_to.is in
-    (dep (dep claims_request (λ a. claims_slot)) (λ a. claims_names)).within _ (dep-ok _ _ _ (dep-ok _ _ _ p1 p2) p3)
 
 pub returns-in_default : goal.returns-in_default
 unfolding claims
@@ -41,10 +19,12 @@ returns-in_default c =
     (via-no _ _ _ _ _ (dep-no-1 _ _ _ (dep-no-1 _ _ _ (dep-no-1 _ _ _ q))))
 
 pub slice_bounds-read_claims_slot-count : goal.slice_bounds-read_claims_slot-count
-slice_bounds-read_claims_slot-count c = within-request c
+slice_bounds-read_claims_slot-count c =
+    let p1 = told blank_claims_request _ c.read_claims_request-request_read.ensures c.in-To.is in
+    claims_request.within _ p1
 
 pub slice_bounds-read_claims_slot-start : goal.slice_bounds-read_claims_slot-start
-slice_bounds-read_claims_slot-start c = within-request c
+slice_bounds-read_claims_slot-start c = slice_bounds-read_claims_slot-count c
 
 pub returns-in_default-slot_to : goal.returns-in_default-slot_to
 unfolding claims
@@ -54,14 +34,17 @@ returns-in_default-slot_to c =
     outcome-no _ (c.refused_attestation-in_default-slot_to.ensures ∙ ap (λ a. outcome blank_lost_voter_attestation_v1 (no (number_of a))) (c.why-in_default-slot_to.ensures ∙ ap why_of c.in_default-slot_to.is))
     (via-no _ _ _ _ _ (dep-no-1 _ _ _ (dep-no-1 _ _ _ (dep-no-2 _ _ _ p1 q))))
 
-pub overflow_add-at : goal.overflow_add-at
-overflow_add-at c = record { fits = lt_of_le_of_lt (within-slot c) c.well_formed.0.0 }
-
 pub slice_bounds-read_claims_names-count : goal.slice_bounds-read_claims_names-count
-slice_bounds-read_claims_names-count c = within-slot c
+slice_bounds-read_claims_names-count c =
+    let p1 = told blank_claims_request _ c.read_claims_request-request_read.ensures c.in-To.is in
+    let p2 = told blank_claims_slot _ (c.read_claims_slot-slot_read.ensures ∙ ap (λ l. outcome blank_claims_slot (claims_slot.dec l)) (rest c.args.bytes.now _)) c.in-To-slot_to.is in
+    (dep claims_request (λ a. claims_slot)).within _ (dep-ok _ _ _ p1 p2)
 
 pub slice_bounds-read_claims_names-start : goal.slice_bounds-read_claims_names-start
-slice_bounds-read_claims_names-start c = within-slot c
+slice_bounds-read_claims_names-start c = slice_bounds-read_claims_names-count c
+
+pub overflow_add-at : goal.overflow_add-at
+overflow_add-at c = record { fits = lt_of_le_of_lt (slice_bounds-read_claims_names-count c) c.well_formed.0.0 }
 
 pub returns-in_default-names_to : goal.returns-in_default-names_to
 unfolding claims
@@ -72,14 +55,18 @@ returns-in_default-names_to c =
     outcome-no _ (c.refused_attestation-in_default-names_to.ensures ∙ ap (λ a. outcome blank_lost_voter_attestation_v1 (no (number_of a))) (c.why-in_default-names_to.ensures ∙ ap why_of c.in_default-names_to.is))
     (via-no _ _ _ _ _ (dep-no-1 _ _ _ (dep-no-2 _ _ _ (dep-ok _ _ _ p1 p2) q)))
 
-pub overflow_add-at-2 : goal.overflow_add-at-2
-overflow_add-at-2 c = record { fits = lt_of_le_of_lt (within-names c) c.well_formed.0.0 }
-
 pub slice_bounds-read_claims_end-count : goal.slice_bounds-read_claims_end-count
-slice_bounds-read_claims_end-count c = within-names c
+slice_bounds-read_claims_end-count c =
+    let p1 = told blank_claims_request _ c.read_claims_request-request_read.ensures c.in-To.is in
+    let p2 = told blank_claims_slot _ (c.read_claims_slot-slot_read.ensures ∙ ap (λ l. outcome blank_claims_slot (claims_slot.dec l)) (rest c.args.bytes.now _)) c.in-To-slot_to.is in
+    let p3 = told blank_claims_names _ (c.read_claims_names-names_read.ensures ∙ ap (λ l. outcome blank_claims_names (claims_names.dec l)) (rest c.args.bytes.now _)) c.in-To-names_to.is in
+    (dep (dep claims_request (λ a. claims_slot)) (λ a. claims_names)).within _ (dep-ok _ _ _ (dep-ok _ _ _ p1 p2) p3)
 
 pub slice_bounds-read_claims_end-start : goal.slice_bounds-read_claims_end-start
-slice_bounds-read_claims_end-start c = within-names c
+slice_bounds-read_claims_end-start c = slice_bounds-read_claims_end-count c
+
+pub overflow_add-at-2 : goal.overflow_add-at-2
+overflow_add-at-2 c = record { fits = lt_of_le_of_lt (slice_bounds-read_claims_end-count c) c.well_formed.0.0 }
 
 pub returns-in_default-end_to : goal.returns-in_default-end_to
 unfolding claims

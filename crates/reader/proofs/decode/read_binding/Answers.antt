@@ -1,8 +1,5 @@
 -- `reader::decode::read_binding` meets its contract: field by field. Written by scripts/readers.py. Assumes nothing.
-use Prim.Native.Nat.{◌+◌, ◌≤◌}
-use lib.ListN.{length}
-use mathlib.Core.Path.{ap, ◌∙◌}
-use native.Mathlib.Nat.{lt_of_le_of_lt}
+use Rattle.std.proofs.Common.{lt_of_le_of_lt, ap, ◌∙◌}
 use Rattle.format.specs.Combinators.{dep, dep-ok, dep-no-1, dep-no-2, via-ok, via-no, rest}
 use Rattle.format.specs.Copy.{zeros}
 use Rattle.format.specs.Num.{uint, raw}
@@ -13,19 +10,6 @@ use Rattle.layout.specs.Parts.{blank_binding}
 use Rattle.layout.specs.Reading.{outcome, why_of, u64_read, why_u64}
 use Rattle.layout.specs.ReadingLaws.{told, told-not, outcome-ok, outcome-no, got}
 use Rattle.reader.proofs.decode.read_binding.Goals as goal
-use Rattle.reader.proofs.decode.read_binding.Goals.{After-descriptor_digest-1, After-key_digest-1}
-
--- after each field: that so many bytes were read
-within-key_digest : (c : After-key_digest-1) → c.in-To.at ≤ length c.args.bytes.now
-within-key_digest c =
-    let p1 = told (zeros 32) _ c.read_array32-key_digest_read.ensures c.in-To.is in
-    (raw 32).within _ p1
-
-within-descriptor_digest : (c : After-descriptor_digest-1) → c.in-To.at + c.in-To-descriptor_digest_to.n ≤ length c.args.bytes.now
-within-descriptor_digest c =
-    let p1 = told (zeros 32) _ c.read_array32-key_digest_read.ensures c.in-To.is in
-    let p2 = told (zeros 32) _ (c.read_array32-descriptor_digest_read.ensures ∙ ap (λ l. outcome (zeros 32) ((raw 32).dec l)) (rest c.args.bytes.now _)) c.in-To-descriptor_digest_to.is in
-    (dep (raw 32) (λ a. raw 32)).within _ (dep-ok _ _ _ p1 p2)
 
 pub returns-in_default : goal.returns-in_default
 unfolding binding
@@ -35,10 +19,12 @@ returns-in_default c =
     (via-no _ _ _ _ _ (dep-no-1 _ _ _ (dep-no-1 _ _ _ q)))
 
 pub slice_bounds-read_array32-count : goal.slice_bounds-read_array32-count
-slice_bounds-read_array32-count c = within-key_digest c
+slice_bounds-read_array32-count c =
+    let p1 = told (zeros 32) _ c.read_array32-key_digest_read.ensures c.in-To.is in
+    (raw 32).within _ p1
 
 pub slice_bounds-read_array32-start : goal.slice_bounds-read_array32-start
-slice_bounds-read_array32-start c = within-key_digest c
+slice_bounds-read_array32-start c = slice_bounds-read_array32-count c
 
 pub returns-in_default-descriptor_digest_to : goal.returns-in_default-descriptor_digest_to
 unfolding binding
@@ -48,14 +34,17 @@ returns-in_default-descriptor_digest_to c =
     outcome-no _ (c.refused_binding-in_default-descriptor_digest_to.ensures ∙ ap (λ a. outcome blank_binding (no (number_of a))) (c.why-in_default-descriptor_digest_to.ensures ∙ ap why_of c.in_default-descriptor_digest_to.is))
     (via-no _ _ _ _ _ (dep-no-1 _ _ _ (dep-no-2 _ _ _ p1 q)))
 
-pub overflow_add-at : goal.overflow_add-at
-overflow_add-at c = record { fits = lt_of_le_of_lt (within-descriptor_digest c) c.well_formed.0.0 }
-
 pub slice_bounds-read_u64-count : goal.slice_bounds-read_u64-count
-slice_bounds-read_u64-count c = within-descriptor_digest c
+slice_bounds-read_u64-count c =
+    let p1 = told (zeros 32) _ c.read_array32-key_digest_read.ensures c.in-To.is in
+    let p2 = told (zeros 32) _ (c.read_array32-descriptor_digest_read.ensures ∙ ap (λ l. outcome (zeros 32) ((raw 32).dec l)) (rest c.args.bytes.now _)) c.in-To-descriptor_digest_to.is in
+    (dep (raw 32) (λ a. raw 32)).within _ (dep-ok _ _ _ p1 p2)
 
 pub slice_bounds-read_u64-start : goal.slice_bounds-read_u64-start
-slice_bounds-read_u64-start c = within-descriptor_digest c
+slice_bounds-read_u64-start c = slice_bounds-read_u64-count c
+
+pub overflow_add-at : goal.overflow_add-at
+overflow_add-at c = record { fits = lt_of_le_of_lt (slice_bounds-read_u64-count c) c.well_formed.0.0 }
 
 pub returns-in_default-admission_generation_read : goal.returns-in_default-admission_generation_read
 unfolding binding

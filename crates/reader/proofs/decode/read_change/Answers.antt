@@ -1,8 +1,5 @@
 -- `reader::decode::read_change` meets its contract: field by field. Written by scripts/readers.py. Assumes nothing.
-use Prim.Native.Nat.{◌+◌, ◌≤◌}
-use lib.ListN.{length}
-use mathlib.Core.Path.{ap, ◌∙◌}
-use native.Mathlib.Nat.{lt_of_le_of_lt}
+use Rattle.std.proofs.Common.{lt_of_le_of_lt, ap, ◌∙◌}
 use Rattle.format.specs.Combinators.{dep, dep-ok, dep-no-1, dep-no-2, via-ok, via-no, rest}
 use Rattle.format.specs.Res.Res.{no}
 use Rattle.identity.specs.Answer.{number_of}
@@ -12,19 +9,6 @@ use Rattle.layout.specs.Parts.{blank_change}
 use Rattle.layout.specs.Reading.{outcome, why_of, u8_read, why_u8}
 use Rattle.layout.specs.ReadingLaws.{told, told-not, outcome-ok, outcome-no, got}
 use Rattle.reader.proofs.decode.read_change.Goals as goal
-use Rattle.reader.proofs.decode.read_change.Goals.{After-predecessor-1, After-successor-1}
-
--- after each field: that so many bytes were read
-within-predecessor : (c : After-predecessor-1) → c.in-To.at ≤ length c.args.bytes.now
-within-predecessor c =
-    let p1 = told blank_voter_configuration _ c.read_configuration-predecessor_read.ensures c.in-To.is in
-    configuration.within _ p1
-
-within-successor : (c : After-successor-1) → c.in-To.at + c.in-To-successor_to.n ≤ length c.args.bytes.now
-within-successor c =
-    let p1 = told blank_voter_configuration _ c.read_configuration-predecessor_read.ensures c.in-To.is in
-    let p2 = told blank_voter_configuration _ (c.read_configuration-successor_read.ensures ∙ ap (λ l. outcome blank_voter_configuration (configuration.dec l)) (rest c.args.bytes.now _)) c.in-To-successor_to.is in
-    (dep configuration (λ a. configuration)).within _ (dep-ok _ _ _ p1 p2)
 
 pub returns-in_default : goal.returns-in_default
 unfolding change
@@ -34,10 +18,12 @@ returns-in_default c =
     (via-no _ _ _ _ _ (dep-no-1 _ _ _ (dep-no-1 _ _ _ q)))
 
 pub slice_bounds-read_configuration-count : goal.slice_bounds-read_configuration-count
-slice_bounds-read_configuration-count c = within-predecessor c
+slice_bounds-read_configuration-count c =
+    let p1 = told blank_voter_configuration _ c.read_configuration-predecessor_read.ensures c.in-To.is in
+    configuration.within _ p1
 
 pub slice_bounds-read_configuration-start : goal.slice_bounds-read_configuration-start
-slice_bounds-read_configuration-start c = within-predecessor c
+slice_bounds-read_configuration-start c = slice_bounds-read_configuration-count c
 
 pub returns-in_default-successor_to : goal.returns-in_default-successor_to
 unfolding change
@@ -47,14 +33,17 @@ returns-in_default-successor_to c =
     outcome-no _ (c.refused_change-in_default-successor_to.ensures ∙ ap (λ a. outcome blank_change (no (number_of a))) (c.why-in_default-successor_to.ensures ∙ ap why_of c.in_default-successor_to.is))
     (via-no _ _ _ _ _ (dep-no-1 _ _ _ (dep-no-2 _ _ _ p1 q)))
 
-pub overflow_add-at : goal.overflow_add-at
-overflow_add-at c = record { fits = lt_of_le_of_lt (within-successor c) c.well_formed.0.0 }
-
 pub slice_bounds-read_choice-count : goal.slice_bounds-read_choice-count
-slice_bounds-read_choice-count c = within-successor c
+slice_bounds-read_choice-count c =
+    let p1 = told blank_voter_configuration _ c.read_configuration-predecessor_read.ensures c.in-To.is in
+    let p2 = told blank_voter_configuration _ (c.read_configuration-successor_read.ensures ∙ ap (λ l. outcome blank_voter_configuration (configuration.dec l)) (rest c.args.bytes.now _)) c.in-To-successor_to.is in
+    (dep configuration (λ a. configuration)).within _ (dep-ok _ _ _ p1 p2)
 
 pub slice_bounds-read_choice-start : goal.slice_bounds-read_choice-start
-slice_bounds-read_choice-start c = within-successor c
+slice_bounds-read_choice-start c = slice_bounds-read_choice-count c
+
+pub overflow_add-at : goal.overflow_add-at
+overflow_add-at c = record { fits = lt_of_le_of_lt (slice_bounds-read_choice-count c) c.well_formed.0.0 }
 
 pub returns-in_default-phase_read : goal.returns-in_default-phase_read
 unfolding change

@@ -1,8 +1,5 @@
 -- `reader::decode::read_claims_end` meets its contract: field by field. Written by scripts/readers.py. Assumes nothing.
-use Prim.Native.Nat.{◌+◌, ◌≤◌}
-use lib.ListN.{length}
-use mathlib.Core.Path.{ap, ◌∙◌}
-use native.Mathlib.Nat.{lt_of_le_of_lt}
+use Rattle.std.proofs.Common.{lt_of_le_of_lt, ap, ◌∙◌}
 use Rattle.format.specs.Combinators.{dep, dep-ok, dep-no-1, dep-no-2, via-ok, via-no, rest}
 use Rattle.format.specs.Copy.{zeros}
 use Rattle.format.specs.Num.{raw}
@@ -13,26 +10,6 @@ use Rattle.layout.specs.Parts.{blank_claims_end}
 use Rattle.layout.specs.Reading.{outcome, why_of, u8_read, why_u8, times_read, why_times}
 use Rattle.layout.specs.ReadingLaws.{told, told-not, outcome-ok, outcome-no, got}
 use Rattle.reader.proofs.decode.read_claims_end.Goals as goal
-use Rattle.reader.proofs.decode.read_claims_end.Goals.{After-policy_digest-1, In-Read, In-Read-times_read}
-
--- after each field: that so many bytes were read
-within-reason : (c : In-Read) → c.in-Read.at ≤ length c.args.bytes.now
-within-reason c =
-    let p1 = got u8_read c.read_choice-reason_read.ensures c.in-Read.is in
-    (choice 1 2).within _ p1
-
-within-policy_digest : (c : After-policy_digest-1) → c.in-Read.at + c.in-To.n ≤ length c.args.bytes.now
-within-policy_digest c =
-    let p1 = got u8_read c.read_choice-reason_read.ensures c.in-Read.is in
-    let p2 = told (zeros 32) _ (c.read_array32-policy_digest_read.ensures ∙ ap (λ l. outcome (zeros 32) ((raw 32).dec l)) (rest c.args.bytes.now _)) c.in-To.is in
-    (dep (choice 1 2) (λ a. raw 32)).within _ (dep-ok _ _ _ p1 p2)
-
-within-times : (c : In-Read-times_read) → c.in-Read.at + c.in-To.n + c.in-Read-times_read.n ≤ length c.args.bytes.now
-within-times c =
-    let p1 = got u8_read c.read_choice-reason_read.ensures c.in-Read.is in
-    let p2 = told (zeros 32) _ (c.read_array32-policy_digest_read.ensures ∙ ap (λ l. outcome (zeros 32) ((raw 32).dec l)) (rest c.args.bytes.now _)) c.in-To.is in
-    let p3 = got times_read (c.read_times-times_read.ensures ∙ ap times.dec (rest c.args.bytes.now _)) c.in-Read-times_read.is in
-    (dep (dep (choice 1 2) (λ a. raw 32)) (λ a. times)).within _ (dep-ok _ _ _ (dep-ok _ _ _ p1 p2) p3)
 
 pub returns-in_default : goal.returns-in_default
 unfolding claims_end
@@ -42,10 +19,12 @@ returns-in_default c =
     (via-no _ _ _ _ _ (dep-no-1 _ _ _ (dep-no-1 _ _ _ (dep-no-1 _ _ _ q))))
 
 pub slice_bounds-read_array32-count : goal.slice_bounds-read_array32-count
-slice_bounds-read_array32-count c = within-reason c
+slice_bounds-read_array32-count c =
+    let p1 = got u8_read c.read_choice-reason_read.ensures c.in-Read.is in
+    (choice 1 2).within _ p1
 
 pub slice_bounds-read_array32-start : goal.slice_bounds-read_array32-start
-slice_bounds-read_array32-start c = within-reason c
+slice_bounds-read_array32-start c = slice_bounds-read_array32-count c
 
 pub returns-in_default-policy_digest_to : goal.returns-in_default-policy_digest_to
 unfolding claims_end
@@ -55,14 +34,17 @@ returns-in_default-policy_digest_to c =
     outcome-no _ (c.refused_claims_end-in_default-policy_digest_to.ensures ∙ ap (λ a. outcome blank_claims_end (no (number_of a))) (c.why.ensures ∙ ap why_of c.in_default-policy_digest_to.is))
     (via-no _ _ _ _ _ (dep-no-1 _ _ _ (dep-no-1 _ _ _ (dep-no-2 _ _ _ p1 q))))
 
-pub overflow_add-at : goal.overflow_add-at
-overflow_add-at c = record { fits = lt_of_le_of_lt (within-policy_digest c) c.well_formed.0.0 }
-
 pub slice_bounds-read_times-count : goal.slice_bounds-read_times-count
-slice_bounds-read_times-count c = within-policy_digest c
+slice_bounds-read_times-count c =
+    let p1 = got u8_read c.read_choice-reason_read.ensures c.in-Read.is in
+    let p2 = told (zeros 32) _ (c.read_array32-policy_digest_read.ensures ∙ ap (λ l. outcome (zeros 32) ((raw 32).dec l)) (rest c.args.bytes.now _)) c.in-To.is in
+    (dep (choice 1 2) (λ a. raw 32)).within _ (dep-ok _ _ _ p1 p2)
 
 pub slice_bounds-read_times-start : goal.slice_bounds-read_times-start
-slice_bounds-read_times-start c = within-policy_digest c
+slice_bounds-read_times-start c = slice_bounds-read_times-count c
+
+pub overflow_add-at : goal.overflow_add-at
+overflow_add-at c = record { fits = lt_of_le_of_lt (slice_bounds-read_times-count c) c.well_formed.0.0 }
 
 pub returns-in_default-times_read : goal.returns-in_default-times_read
 unfolding claims_end
@@ -73,14 +55,18 @@ returns-in_default-times_read c =
     outcome-no _ (c.refused_claims_end-in_default-times_read.ensures ∙ ap (λ a. outcome blank_claims_end (no (number_of a))) (c.why_times.ensures ∙ ap why_times c.in_default-times_read.is))
     (via-no _ _ _ _ _ (dep-no-1 _ _ _ (dep-no-2 _ _ _ (dep-ok _ _ _ p1 p2) q)))
 
-pub overflow_add-at-2 : goal.overflow_add-at-2
-overflow_add-at-2 c = record { fits = lt_of_le_of_lt (within-times c) c.well_formed.0.0 }
-
 pub slice_bounds-read_array64-count : goal.slice_bounds-read_array64-count
-slice_bounds-read_array64-count c = within-times c
+slice_bounds-read_array64-count c =
+    let p1 = got u8_read c.read_choice-reason_read.ensures c.in-Read.is in
+    let p2 = told (zeros 32) _ (c.read_array32-policy_digest_read.ensures ∙ ap (λ l. outcome (zeros 32) ((raw 32).dec l)) (rest c.args.bytes.now _)) c.in-To.is in
+    let p3 = got times_read (c.read_times-times_read.ensures ∙ ap times.dec (rest c.args.bytes.now _)) c.in-Read-times_read.is in
+    (dep (dep (choice 1 2) (λ a. raw 32)) (λ a. times)).within _ (dep-ok _ _ _ (dep-ok _ _ _ p1 p2) p3)
 
 pub slice_bounds-read_array64-start : goal.slice_bounds-read_array64-start
-slice_bounds-read_array64-start c = within-times c
+slice_bounds-read_array64-start c = slice_bounds-read_array64-count c
+
+pub overflow_add-at-2 : goal.overflow_add-at-2
+overflow_add-at-2 c = record { fits = lt_of_le_of_lt (slice_bounds-read_array64-count c) c.well_formed.0.0 }
 
 pub returns-in_default-signature_to : goal.returns-in_default-signature_to
 unfolding claims_end

@@ -1,8 +1,5 @@
 -- `reader::decode::read_configuration` meets its contract: field by field. Written by scripts/readers.py. Assumes nothing.
-use Prim.Native.Nat.{◌+◌, ◌≤◌}
-use lib.ListN.{length}
-use mathlib.Core.Path.{ap, ◌∙◌}
-use native.Mathlib.Nat.{lt_of_le_of_lt}
+use Rattle.std.proofs.Common.{lt_of_le_of_lt, ap, ◌∙◌}
 use Rattle.format.specs.Combinators.{dep, dep-ok, dep-no-1, dep-no-2, via-ok, via-no, rest}
 use Rattle.format.specs.Res.Res.{no}
 use Rattle.identity.specs.Answer.{number_of}
@@ -13,19 +10,6 @@ use Rattle.layout.specs.Parts.{blank_voter_slot_members}
 use Rattle.layout.specs.Reading.{outcome, why_of, u64_read, why_u64, u8_read, why_u8}
 use Rattle.layout.specs.ReadingLaws.{told, told-not, outcome-ok, outcome-no, got}
 use Rattle.reader.proofs.decode.read_configuration.Goals as goal
-use Rattle.reader.proofs.decode.read_configuration.Goals.{In-Read, In-Read-count_read}
-
--- after each field: that so many bytes were read
-within-epoch : (c : In-Read) → c.in-Read.at ≤ length c.args.bytes.now
-within-epoch c =
-    let p1 = got u64_read c.read_epoch-epoch_read.ensures c.in-Read.is in
-    epoch.within _ p1
-
-within-count : (c : In-Read-count_read) → c.in-Read.at + c.in-Read-count_read.n ≤ length c.args.bytes.now
-within-count c =
-    let p1 = got u64_read c.read_epoch-epoch_read.ensures c.in-Read.is in
-    let p2 = got u8_read (c.read_count-count_read.ensures ∙ ap slot_count.dec (rest c.args.bytes.now _)) c.in-Read-count_read.is in
-    (dep epoch (λ a. slot_count)).within _ (dep-ok _ _ _ p1 p2)
 
 pub returns-in_default : goal.returns-in_default
 unfolding configuration
@@ -35,10 +19,12 @@ returns-in_default c =
     (via-no _ _ _ _ _ (dep-no-1 _ _ _ (dep-no-1 _ _ _ q)))
 
 pub slice_bounds-read_count-count : goal.slice_bounds-read_count-count
-slice_bounds-read_count-count c = within-epoch c
+slice_bounds-read_count-count c =
+    let p1 = got u64_read c.read_epoch-epoch_read.ensures c.in-Read.is in
+    epoch.within _ p1
 
 pub slice_bounds-read_count-start : goal.slice_bounds-read_count-start
-slice_bounds-read_count-start c = within-epoch c
+slice_bounds-read_count-start c = slice_bounds-read_count-count c
 
 pub returns-in_default-count_read : goal.returns-in_default-count_read
 unfolding configuration
@@ -48,14 +34,17 @@ returns-in_default-count_read c =
     outcome-no _ (c.refused_configuration-in_default-count_read.ensures ∙ ap (λ a. outcome blank_voter_configuration (no (number_of a))) (c.why_u8.ensures ∙ ap why_u8 c.in_default-count_read.is))
     (via-no _ _ _ _ _ (dep-no-1 _ _ _ (dep-no-2 _ _ _ p1 q)))
 
-pub overflow_add-at : goal.overflow_add-at
-overflow_add-at c = record { fits = lt_of_le_of_lt (within-count c) c.well_formed.0.0 }
-
 pub slice_bounds-read_members-count : goal.slice_bounds-read_members-count
-slice_bounds-read_members-count c = within-count c
+slice_bounds-read_members-count c =
+    let p1 = got u64_read c.read_epoch-epoch_read.ensures c.in-Read.is in
+    let p2 = got u8_read (c.read_count-count_read.ensures ∙ ap slot_count.dec (rest c.args.bytes.now _)) c.in-Read-count_read.is in
+    (dep epoch (λ a. slot_count)).within _ (dep-ok _ _ _ p1 p2)
 
 pub slice_bounds-read_members-start : goal.slice_bounds-read_members-start
-slice_bounds-read_members-start c = within-count c
+slice_bounds-read_members-start c = slice_bounds-read_members-count c
+
+pub overflow_add-at : goal.overflow_add-at
+overflow_add-at c = record { fits = lt_of_le_of_lt (slice_bounds-read_members-count c) c.well_formed.0.0 }
 
 pub read_members-members_read-requires : goal.read_members-members_read-requires
 read_members-members_read-requires c =

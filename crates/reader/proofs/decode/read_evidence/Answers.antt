@@ -1,8 +1,6 @@
 -- `reader::decode::read_evidence` meets its contract: field by field. Written by scripts/readers.py. Assumes nothing.
-use Prim.Native.Nat.{◌+◌, ◌≤◌}
-use lib.ListN.{length}
-use mathlib.Core.Path.{sym, ap, ◌∙◌}
-use native.Mathlib.Nat.{lt_of_le_of_lt}
+use Rattle.std.specs.Prelude.{◌+◌}
+use Rattle.std.proofs.Common.{lt_of_le_of_lt, sym, ap, ◌∙◌}
 use Rattle.format.specs.Combinators.{dep, dep-ok, dep-no-1, dep-no-2, via-ok, via-no, rest}
 use Rattle.format.specs.List.{opt}
 use Rattle.format.specs.Res.Res.{ok, no}
@@ -13,26 +11,6 @@ use Rattle.layout.specs.Parts.{absent_snapshot}
 use Rattle.layout.specs.Reading.{outcome, why_of, log_id_read, why_log_id, three_cuts_read, why_three_cuts}
 use Rattle.layout.specs.ReadingLaws.{told, told-not, outcome-ok, outcome-no, got}
 use Rattle.reader.proofs.decode.read_evidence.Goals as goal
-use Rattle.reader.proofs.decode.read_evidence.Goals.{After-snapshot-1, In-Read, In-Read-early_read}
-
--- after each field: that so many bytes were read
-within-prepare : (c : In-Read) → c.in-Read.at ≤ length c.args.bytes.now
-within-prepare c =
-    let p1 = got log_id_read c.read_log_id-prepare_read.ensures c.in-Read.is in
-    log_id.within _ p1
-
-within-snapshot : (c : After-snapshot-1) → c.in-Read.at + c.in-To.n ≤ length c.args.bytes.now
-within-snapshot c =
-    let p1 = got log_id_read c.read_log_id-prepare_read.ensures c.in-Read.is in
-    let p2 = told absent_snapshot _ (c.read_optional_snapshot-snapshot_read.ensures ∙ ap (λ l. outcome absent_snapshot ((opt snapshot blank_voter_snapshot_evidence).dec l)) (rest c.args.bytes.now _)) c.in-To.is in
-    (dep log_id (λ a. opt snapshot blank_voter_snapshot_evidence)).within _ (dep-ok _ _ _ p1 p2)
-
-within-early : (c : In-Read-early_read) → c.in-Read.at + c.in-To.n + c.in-Read-early_read.n ≤ length c.args.bytes.now
-within-early c =
-    let p1 = got log_id_read c.read_log_id-prepare_read.ensures c.in-Read.is in
-    let p2 = told absent_snapshot _ (c.read_optional_snapshot-snapshot_read.ensures ∙ ap (λ l. outcome absent_snapshot ((opt snapshot blank_voter_snapshot_evidence).dec l)) (rest c.args.bytes.now _)) c.in-To.is in
-    let p3 = got three_cuts_read (c.read_three_cuts-early_read.ensures ∙ ap three_cuts.dec (rest c.args.bytes.now _)) c.in-Read-early_read.is in
-    (dep (dep log_id (λ a. opt snapshot blank_voter_snapshot_evidence)) (λ a. three_cuts)).within _ (dep-ok _ _ _ (dep-ok _ _ _ p1 p2) p3)
 
 pub returns-in_default : goal.returns-in_default
 unfolding evidence
@@ -42,10 +20,12 @@ returns-in_default c =
     (via-no _ _ _ _ _ (dep-no-1 _ _ _ (dep-no-1 _ _ _ (dep-no-1 _ _ _ q))))
 
 pub slice_bounds-read_optional_snapshot-count : goal.slice_bounds-read_optional_snapshot-count
-slice_bounds-read_optional_snapshot-count c = within-prepare c
+slice_bounds-read_optional_snapshot-count c =
+    let p1 = got log_id_read c.read_log_id-prepare_read.ensures c.in-Read.is in
+    log_id.within _ p1
 
 pub slice_bounds-read_optional_snapshot-start : goal.slice_bounds-read_optional_snapshot-start
-slice_bounds-read_optional_snapshot-start c = within-prepare c
+slice_bounds-read_optional_snapshot-start c = slice_bounds-read_optional_snapshot-count c
 
 pub returns-in_default-snapshot_to : goal.returns-in_default-snapshot_to
 unfolding evidence
@@ -55,14 +35,17 @@ returns-in_default-snapshot_to c =
     outcome-no _ (c.refused_evidence-in_default-snapshot_to.ensures ∙ ap (λ a. outcome blank_voter_replacement_evidence (no (number_of a))) (c.why.ensures ∙ ap why_of c.in_default-snapshot_to.is))
     (via-no _ _ _ _ _ (dep-no-1 _ _ _ (dep-no-1 _ _ _ (dep-no-2 _ _ _ p1 q))))
 
-pub overflow_add-at : goal.overflow_add-at
-overflow_add-at c = record { fits = lt_of_le_of_lt (within-snapshot c) c.well_formed.0.0 }
-
 pub slice_bounds-read_three_cuts-count : goal.slice_bounds-read_three_cuts-count
-slice_bounds-read_three_cuts-count c = within-snapshot c
+slice_bounds-read_three_cuts-count c =
+    let p1 = got log_id_read c.read_log_id-prepare_read.ensures c.in-Read.is in
+    let p2 = told absent_snapshot _ (c.read_optional_snapshot-snapshot_read.ensures ∙ ap (λ l. outcome absent_snapshot ((opt snapshot blank_voter_snapshot_evidence).dec l)) (rest c.args.bytes.now _)) c.in-To.is in
+    (dep log_id (λ a. opt snapshot blank_voter_snapshot_evidence)).within _ (dep-ok _ _ _ p1 p2)
 
 pub slice_bounds-read_three_cuts-start : goal.slice_bounds-read_three_cuts-start
-slice_bounds-read_three_cuts-start c = within-snapshot c
+slice_bounds-read_three_cuts-start c = slice_bounds-read_three_cuts-count c
+
+pub overflow_add-at : goal.overflow_add-at
+overflow_add-at c = record { fits = lt_of_le_of_lt (slice_bounds-read_three_cuts-count c) c.well_formed.0.0 }
 
 pub returns-in_default-early_read : goal.returns-in_default-early_read
 unfolding evidence
@@ -73,14 +56,18 @@ returns-in_default-early_read c =
     outcome-no _ (c.refused_evidence-in_default-early_read.ensures ∙ ap (λ a. outcome blank_voter_replacement_evidence (no (number_of a))) (c.why_three_cuts.ensures ∙ ap why_three_cuts c.in_default-early_read.is))
     (via-no _ _ _ _ _ (dep-no-1 _ _ _ (dep-no-2 _ _ _ (dep-ok _ _ _ p1 p2) q)))
 
-pub overflow_add-at-2 : goal.overflow_add-at-2
-overflow_add-at-2 c = record { fits = lt_of_le_of_lt (within-early c) c.well_formed.0.0 }
-
 pub slice_bounds-read_three_cuts-count-2 : goal.slice_bounds-read_three_cuts-count-2
-slice_bounds-read_three_cuts-count-2 c = within-early c
+slice_bounds-read_three_cuts-count-2 c =
+    let p1 = got log_id_read c.read_log_id-prepare_read.ensures c.in-Read.is in
+    let p2 = told absent_snapshot _ (c.read_optional_snapshot-snapshot_read.ensures ∙ ap (λ l. outcome absent_snapshot ((opt snapshot blank_voter_snapshot_evidence).dec l)) (rest c.args.bytes.now _)) c.in-To.is in
+    let p3 = got three_cuts_read (c.read_three_cuts-early_read.ensures ∙ ap three_cuts.dec (rest c.args.bytes.now _)) c.in-Read-early_read.is in
+    (dep (dep log_id (λ a. opt snapshot blank_voter_snapshot_evidence)) (λ a. three_cuts)).within _ (dep-ok _ _ _ (dep-ok _ _ _ p1 p2) p3)
 
 pub slice_bounds-read_three_cuts-start-2 : goal.slice_bounds-read_three_cuts-start-2
-slice_bounds-read_three_cuts-start-2 c = within-early c
+slice_bounds-read_three_cuts-start-2 c = slice_bounds-read_three_cuts-count-2 c
+
+pub overflow_add-at-2 : goal.overflow_add-at-2
+overflow_add-at-2 c = record { fits = lt_of_le_of_lt (slice_bounds-read_three_cuts-count-2 c) c.well_formed.0.0 }
 
 pub returns-in_default-late_read : goal.returns-in_default-late_read
 unfolding evidence

@@ -1,11 +1,6 @@
 -- `reader::decode::read_members` meets its contract. Written by scripts/readers.py. Assumes nothing.
-use Prim.Native.Nat.{ℕ, ◌+◌, ◌-◌}
-use lib.ListN.{length, take, drop, replicate, length-set, take-append-drop}
-use mathlib.Core.List.{◌++◌}
-use mathlib.Core.Path.{◌≡◌, refl, sym, ap, ◌∙◌, subst}
-use native.Mathlib.Nat.{lt_of_le_of_lt}
-use native.Mathlib.Omega.{arith}
-use borrow.Author.Rules.{rules}
+use Rattle.std.specs.Prelude.{ℕ, ◌+◌, ◌-◌, ◌≡◌, refl, ◌++◌, length, take, drop, replicate}
+use Rattle.std.proofs.Common.{arith, rules, lt_of_le_of_lt, sym, ap, ◌∙◌, subst, length-set, take-append-drop}
 use Rattle.format.specs.Combinators.{rest}
 use Rattle.format.specs.Copy.{filled_more, unfilled-more, drop-replicate}
 use Rattle.format.specs.List.{vec, vec-start, vec-next, vec-refused, padded-ok, padded-no}

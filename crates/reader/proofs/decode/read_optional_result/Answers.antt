@@ -1,8 +1,6 @@
 -- `reader::decode::read_optional_result` meets its contract. Written by scripts/readers.py. Assumes nothing.
-use Prim.Native.Nat.{◌+◌}
-use mathlib.Core.Bool.{false}
-use mathlib.Core.Path.{◌≡◌, sym, ap, ◌∙◌}
-use native.Mathlib.Nat.{lt_of_le_of_lt}
+use Rattle.std.specs.Prelude.{◌+◌, ◌≡◌, false}
+use Rattle.std.proofs.Common.{lt_of_le_of_lt, sym, ap, ◌∙◌}
 use Rattle.format.specs.Combinators.{rest}
 use Rattle.format.specs.List.{flag, opt, opt-no, opt_none, opt-some, opt-bad}
 use Rattle.format.specs.Res.Res.{ok, no}

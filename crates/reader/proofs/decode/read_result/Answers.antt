@@ -1,8 +1,6 @@
 -- `reader::decode::read_result` meets its contract: field by field. Written by scripts/readers.py. Assumes nothing.
-use Prim.Native.Nat.{◌+◌, ◌≤◌}
-use lib.ListN.{length}
-use mathlib.Core.Path.{sym, ap, ◌∙◌}
-use native.Mathlib.Nat.{lt_of_le_of_lt}
+use Rattle.std.specs.Prelude.{◌+◌}
+use Rattle.std.proofs.Common.{lt_of_le_of_lt, sym, ap, ◌∙◌}
 use Rattle.format.specs.Combinators.{dep, dep-ok, dep-no-1, dep-no-2, via-ok, via-no, rest}
 use Rattle.format.specs.Res.Res.{ok, no}
 use Rattle.identity.specs.Answer.{number_of}
@@ -12,26 +10,6 @@ use Rattle.layout.specs.Parts.{blank_result_head}
 use Rattle.layout.specs.Reading.{outcome, why_of, u64_read, why_u64, u8_read, why_u8, log_id_read, why_log_id}
 use Rattle.layout.specs.ReadingLaws.{told, told-not, outcome-ok, outcome-no, got}
 use Rattle.reader.proofs.decode.read_result.Goals as goal
-use Rattle.reader.proofs.decode.read_result.Goals.{After-head-1, In-Read, In-Read-kind_read}
-
--- after each field: that so many bytes were read
-within-head : (c : After-head-1) → c.in-To.at ≤ length c.args.bytes.now
-within-head c =
-    let p1 = told blank_result_head _ c.read_result_head-head_read.ensures c.in-To.is in
-    result_head.within _ p1
-
-within-configuration_epoch : (c : In-Read) → c.in-To.at + c.in-Read.n ≤ length c.args.bytes.now
-within-configuration_epoch c =
-    let p1 = told blank_result_head _ c.read_result_head-head_read.ensures c.in-To.is in
-    let p2 = got u64_read (c.read_epoch-configuration_epoch_read.ensures ∙ ap epoch.dec (rest c.args.bytes.now _)) c.in-Read.is in
-    (dep result_head (λ a. epoch)).within _ (dep-ok _ _ _ p1 p2)
-
-within-kind : (c : In-Read-kind_read) → c.in-To.at + c.in-Read.n + c.in-Read-kind_read.n ≤ length c.args.bytes.now
-within-kind c =
-    let p1 = told blank_result_head _ c.read_result_head-head_read.ensures c.in-To.is in
-    let p2 = got u64_read (c.read_epoch-configuration_epoch_read.ensures ∙ ap epoch.dec (rest c.args.bytes.now _)) c.in-Read.is in
-    let p3 = got u8_read (c.read_choice-kind_read.ensures ∙ ap (choice 0 1).dec (rest c.args.bytes.now _)) c.in-Read-kind_read.is in
-    (dep (dep result_head (λ a. epoch)) (λ a. choice 0 1)).within _ (dep-ok _ _ _ (dep-ok _ _ _ p1 p2) p3)
 
 pub returns-in_default : goal.returns-in_default
 unfolding replacement_result
@@ -41,10 +19,12 @@ returns-in_default c =
     (via-no _ _ _ _ _ (dep-no-1 _ _ _ (dep-no-1 _ _ _ (dep-no-1 _ _ _ q))))
 
 pub slice_bounds-read_epoch-count : goal.slice_bounds-read_epoch-count
-slice_bounds-read_epoch-count c = within-head c
+slice_bounds-read_epoch-count c =
+    let p1 = told blank_result_head _ c.read_result_head-head_read.ensures c.in-To.is in
+    result_head.within _ p1
 
 pub slice_bounds-read_epoch-start : goal.slice_bounds-read_epoch-start
-slice_bounds-read_epoch-start c = within-head c
+slice_bounds-read_epoch-start c = slice_bounds-read_epoch-count c
 
 pub returns-in_default-configuration_epoch_read : goal.returns-in_default-configuration_epoch_read
 unfolding replacement_result
@@ -54,14 +34,17 @@ returns-in_default-configuration_epoch_read c =
     outcome-no _ (c.refused_result-in_default-configuration_epoch_read.ensures ∙ ap (λ a. outcome blank_voter_replacement_result (no (number_of a))) (c.why_u64.ensures ∙ ap why_u64 c.in_default-configuration_epoch_read.is))
     (via-no _ _ _ _ _ (dep-no-1 _ _ _ (dep-no-1 _ _ _ (dep-no-2 _ _ _ p1 q))))
 
-pub overflow_add-at : goal.overflow_add-at
-overflow_add-at c = record { fits = lt_of_le_of_lt (within-configuration_epoch c) c.well_formed.0.0 }
-
 pub slice_bounds-read_choice-count : goal.slice_bounds-read_choice-count
-slice_bounds-read_choice-count c = within-configuration_epoch c
+slice_bounds-read_choice-count c =
+    let p1 = told blank_result_head _ c.read_result_head-head_read.ensures c.in-To.is in
+    let p2 = got u64_read (c.read_epoch-configuration_epoch_read.ensures ∙ ap epoch.dec (rest c.args.bytes.now _)) c.in-Read.is in
+    (dep result_head (λ a. epoch)).within _ (dep-ok _ _ _ p1 p2)
 
 pub slice_bounds-read_choice-start : goal.slice_bounds-read_choice-start
-slice_bounds-read_choice-start c = within-configuration_epoch c
+slice_bounds-read_choice-start c = slice_bounds-read_choice-count c
+
+pub overflow_add-at : goal.overflow_add-at
+overflow_add-at c = record { fits = lt_of_le_of_lt (slice_bounds-read_choice-count c) c.well_formed.0.0 }
 
 pub returns-in_default-kind_read : goal.returns-in_default-kind_read
 unfolding replacement_result
@@ -72,14 +55,18 @@ returns-in_default-kind_read c =
     outcome-no _ (c.refused_result-in_default-kind_read.ensures ∙ ap (λ a. outcome blank_voter_replacement_result (no (number_of a))) (c.why_u8.ensures ∙ ap why_u8 c.in_default-kind_read.is))
     (via-no _ _ _ _ _ (dep-no-1 _ _ _ (dep-no-2 _ _ _ (dep-ok _ _ _ p1 p2) q)))
 
-pub overflow_add-at-2 : goal.overflow_add-at-2
-overflow_add-at-2 c = record { fits = lt_of_le_of_lt (within-kind c) c.well_formed.0.0 }
-
 pub slice_bounds-read_log_id-count : goal.slice_bounds-read_log_id-count
-slice_bounds-read_log_id-count c = within-kind c
+slice_bounds-read_log_id-count c =
+    let p1 = told blank_result_head _ c.read_result_head-head_read.ensures c.in-To.is in
+    let p2 = got u64_read (c.read_epoch-configuration_epoch_read.ensures ∙ ap epoch.dec (rest c.args.bytes.now _)) c.in-Read.is in
+    let p3 = got u8_read (c.read_choice-kind_read.ensures ∙ ap (choice 0 1).dec (rest c.args.bytes.now _)) c.in-Read-kind_read.is in
+    (dep (dep result_head (λ a. epoch)) (λ a. choice 0 1)).within _ (dep-ok _ _ _ (dep-ok _ _ _ p1 p2) p3)
 
 pub slice_bounds-read_log_id-start : goal.slice_bounds-read_log_id-start
-slice_bounds-read_log_id-start c = within-kind c
+slice_bounds-read_log_id-start c = slice_bounds-read_log_id-count c
+
+pub overflow_add-at-2 : goal.overflow_add-at-2
+overflow_add-at-2 c = record { fits = lt_of_le_of_lt (slice_bounds-read_log_id-count c) c.well_formed.0.0 }
 
 pub returns-in_default-terminal_read : goal.returns-in_default-terminal_read
 unfolding replacement_result

@@ -1,8 +1,5 @@
 -- `reader::decode::read_result_head` meets its contract: field by field. Written by scripts/readers.py. Assumes nothing.
-use Prim.Native.Nat.{◌+◌, ◌≤◌}
-use lib.ListN.{length}
-use mathlib.Core.Path.{ap, ◌∙◌}
-use native.Mathlib.Nat.{lt_of_le_of_lt}
+use Rattle.std.proofs.Common.{lt_of_le_of_lt, ap, ◌∙◌}
 use Rattle.format.specs.Combinators.{dep, dep-ok, dep-no-1, dep-no-2, via-ok, via-no, rest}
 use Rattle.format.specs.Copy.{zeros}
 use Rattle.format.specs.Num.{uint, raw}
@@ -13,26 +10,6 @@ use Rattle.layout.specs.Parts.{blank_result_head}
 use Rattle.layout.specs.Reading.{outcome, why_of, u64_read, why_u64}
 use Rattle.layout.specs.ReadingLaws.{told, told-not, outcome-ok, outcome-no, got}
 use Rattle.reader.proofs.decode.read_result_head.Goals as goal
-use Rattle.reader.proofs.decode.read_result_head.Goals.{After-request_digest-1, After-request_id-1, In-Read}
-
--- after each field: that so many bytes were read
-within-request_id : (c : After-request_id-1) → c.in-To.at ≤ length c.args.bytes.now
-within-request_id c =
-    let p1 = told (zeros 16) _ c.read_array16-request_id_read.ensures c.in-To.is in
-    (raw 16).within _ p1
-
-within-request_digest : (c : After-request_digest-1) → c.in-To.at + c.in-To-request_digest_to.n ≤ length c.args.bytes.now
-within-request_digest c =
-    let p1 = told (zeros 16) _ c.read_array16-request_id_read.ensures c.in-To.is in
-    let p2 = told (zeros 32) _ (c.read_array32-request_digest_read.ensures ∙ ap (λ l. outcome (zeros 32) ((raw 32).dec l)) (rest c.args.bytes.now _)) c.in-To-request_digest_to.is in
-    (dep (raw 16) (λ a. raw 32)).within _ (dep-ok _ _ _ p1 p2)
-
-within-incarnation : (c : In-Read) → c.in-To.at + c.in-To-request_digest_to.n + c.in-Read.n ≤ length c.args.bytes.now
-within-incarnation c =
-    let p1 = told (zeros 16) _ c.read_array16-request_id_read.ensures c.in-To.is in
-    let p2 = told (zeros 32) _ (c.read_array32-request_digest_read.ensures ∙ ap (λ l. outcome (zeros 32) ((raw 32).dec l)) (rest c.args.bytes.now _)) c.in-To-request_digest_to.is in
-    let p3 = got u64_read (c.read_incarnation-incarnation_read.ensures ∙ ap incarnation.dec (rest c.args.bytes.now _)) c.in-Read.is in
-    (dep (dep (raw 16) (λ a. raw 32)) (λ a. incarnation)).within _ (dep-ok _ _ _ (dep-ok _ _ _ p1 p2) p3)
 
 pub returns-in_default : goal.returns-in_default
 unfolding result_head
@@ -42,10 +19,12 @@ returns-in_default c =
     (via-no _ _ _ _ _ (dep-no-1 _ _ _ (dep-no-1 _ _ _ (dep-no-1 _ _ _ q))))
 
 pub slice_bounds-read_array32-count : goal.slice_bounds-read_array32-count
-slice_bounds-read_array32-count c = within-request_id c
+slice_bounds-read_array32-count c =
+    let p1 = told (zeros 16) _ c.read_array16-request_id_read.ensures c.in-To.is in
+    (raw 16).within _ p1
 
 pub slice_bounds-read_array32-start : goal.slice_bounds-read_array32-start
-slice_bounds-read_array32-start c = within-request_id c
+slice_bounds-read_array32-start c = slice_bounds-read_array32-count c
 
 pub returns-in_default-request_digest_to : goal.returns-in_default-request_digest_to
 unfolding result_head
@@ -55,14 +34,17 @@ returns-in_default-request_digest_to c =
     outcome-no _ (c.refused_result_head-in_default-request_digest_to.ensures ∙ ap (λ a. outcome blank_result_head (no (number_of a))) (c.why-in_default-request_digest_to.ensures ∙ ap why_of c.in_default-request_digest_to.is))
     (via-no _ _ _ _ _ (dep-no-1 _ _ _ (dep-no-1 _ _ _ (dep-no-2 _ _ _ p1 q))))
 
-pub overflow_add-at : goal.overflow_add-at
-overflow_add-at c = record { fits = lt_of_le_of_lt (within-request_digest c) c.well_formed.0.0 }
-
 pub slice_bounds-read_incarnation-count : goal.slice_bounds-read_incarnation-count
-slice_bounds-read_incarnation-count c = within-request_digest c
+slice_bounds-read_incarnation-count c =
+    let p1 = told (zeros 16) _ c.read_array16-request_id_read.ensures c.in-To.is in
+    let p2 = told (zeros 32) _ (c.read_array32-request_digest_read.ensures ∙ ap (λ l. outcome (zeros 32) ((raw 32).dec l)) (rest c.args.bytes.now _)) c.in-To-request_digest_to.is in
+    (dep (raw 16) (λ a. raw 32)).within _ (dep-ok _ _ _ p1 p2)
 
 pub slice_bounds-read_incarnation-start : goal.slice_bounds-read_incarnation-start
-slice_bounds-read_incarnation-start c = within-request_digest c
+slice_bounds-read_incarnation-start c = slice_bounds-read_incarnation-count c
+
+pub overflow_add-at : goal.overflow_add-at
+overflow_add-at c = record { fits = lt_of_le_of_lt (slice_bounds-read_incarnation-count c) c.well_formed.0.0 }
 
 pub returns-in_default-incarnation_read : goal.returns-in_default-incarnation_read
 unfolding result_head
@@ -73,14 +55,18 @@ returns-in_default-incarnation_read c =
     outcome-no _ (c.refused_result_head-in_default-incarnation_read.ensures ∙ ap (λ a. outcome blank_result_head (no (number_of a))) (c.why_u64.ensures ∙ ap why_u64 c.in_default-incarnation_read.is))
     (via-no _ _ _ _ _ (dep-no-1 _ _ _ (dep-no-2 _ _ _ (dep-ok _ _ _ p1 p2) q)))
 
-pub overflow_add-at-2 : goal.overflow_add-at-2
-overflow_add-at-2 c = record { fits = lt_of_le_of_lt (within-incarnation c) c.well_formed.0.0 }
-
 pub slice_bounds-read_u64-count : goal.slice_bounds-read_u64-count
-slice_bounds-read_u64-count c = within-incarnation c
+slice_bounds-read_u64-count c =
+    let p1 = told (zeros 16) _ c.read_array16-request_id_read.ensures c.in-To.is in
+    let p2 = told (zeros 32) _ (c.read_array32-request_digest_read.ensures ∙ ap (λ l. outcome (zeros 32) ((raw 32).dec l)) (rest c.args.bytes.now _)) c.in-To-request_digest_to.is in
+    let p3 = got u64_read (c.read_incarnation-incarnation_read.ensures ∙ ap incarnation.dec (rest c.args.bytes.now _)) c.in-Read.is in
+    (dep (dep (raw 16) (λ a. raw 32)) (λ a. incarnation)).within _ (dep-ok _ _ _ (dep-ok _ _ _ p1 p2) p3)
 
 pub slice_bounds-read_u64-start : goal.slice_bounds-read_u64-start
-slice_bounds-read_u64-start c = within-incarnation c
+slice_bounds-read_u64-start c = slice_bounds-read_u64-count c
+
+pub overflow_add-at-2 : goal.overflow_add-at-2
+overflow_add-at-2 c = record { fits = lt_of_le_of_lt (slice_bounds-read_u64-count c) c.well_formed.0.0 }
 
 pub returns-in_default-revision_read : goal.returns-in_default-revision_read
 unfolding result_head

@@ -1,8 +1,5 @@
 -- `reader::decode::read_slot` meets its contract: field by field. Written by scripts/readers.py. Assumes nothing.
-use Prim.Native.Nat.{◌+◌, ◌≤◌}
-use lib.ListN.{length}
-use mathlib.Core.Path.{ap, ◌∙◌}
-use native.Mathlib.Nat.{lt_of_le_of_lt}
+use Rattle.std.proofs.Common.{lt_of_le_of_lt, ap, ◌∙◌}
 use Rattle.format.specs.Combinators.{dep, dep-ok, dep-no-1, dep-no-2, via-ok, via-no, rest}
 use Rattle.format.specs.List.{opt}
 use Rattle.format.specs.Res.Res.{no}
@@ -13,19 +10,6 @@ use Rattle.layout.specs.Parts.{absent_result, blank_slot_member}
 use Rattle.layout.specs.Reading.{outcome, why_of, u8_read, why_u8}
 use Rattle.layout.specs.ReadingLaws.{told, told-not, outcome-ok, outcome-no, got}
 use Rattle.reader.proofs.decode.read_slot.Goals as goal
-use Rattle.reader.proofs.decode.read_slot.Goals.{After-head-1, In-Read}
-
--- after each field: that so many bytes were read
-within-head : (c : After-head-1) → c.in-To.at ≤ length c.args.bytes.now
-within-head c =
-    let p1 = told blank_slot_member _ c.read_slot_member-head_read.ensures c.in-To.is in
-    slot_member.within _ p1
-
-within-phase : (c : In-Read) → c.in-To.at + c.in-Read.n ≤ length c.args.bytes.now
-within-phase c =
-    let p1 = told blank_slot_member _ c.read_slot_member-head_read.ensures c.in-To.is in
-    let p2 = got u8_read (c.read_choice-phase_read.ensures ∙ ap (choice 0 2).dec (rest c.args.bytes.now _)) c.in-Read.is in
-    (dep slot_member (λ a. choice 0 2)).within _ (dep-ok _ _ _ p1 p2)
 
 pub returns-in_default : goal.returns-in_default
 unfolding slot
@@ -35,10 +19,12 @@ returns-in_default c =
     (via-no _ _ _ _ _ (dep-no-1 _ _ _ (dep-no-1 _ _ _ q)))
 
 pub slice_bounds-read_choice-count : goal.slice_bounds-read_choice-count
-slice_bounds-read_choice-count c = within-head c
+slice_bounds-read_choice-count c =
+    let p1 = told blank_slot_member _ c.read_slot_member-head_read.ensures c.in-To.is in
+    slot_member.within _ p1
 
 pub slice_bounds-read_choice-start : goal.slice_bounds-read_choice-start
-slice_bounds-read_choice-start c = within-head c
+slice_bounds-read_choice-start c = slice_bounds-read_choice-count c
 
 pub returns-in_default-phase_read : goal.returns-in_default-phase_read
 unfolding slot
@@ -48,14 +34,17 @@ returns-in_default-phase_read c =
     outcome-no _ (c.refused_slot-in_default-phase_read.ensures ∙ ap (λ a. outcome blank_voter_slot_record (no (number_of a))) (c.why_u8.ensures ∙ ap why_u8 c.in_default-phase_read.is))
     (via-no _ _ _ _ _ (dep-no-1 _ _ _ (dep-no-2 _ _ _ p1 q)))
 
-pub overflow_add-at : goal.overflow_add-at
-overflow_add-at c = record { fits = lt_of_le_of_lt (within-phase c) c.well_formed.0.0 }
-
 pub slice_bounds-read_optional_result-count : goal.slice_bounds-read_optional_result-count
-slice_bounds-read_optional_result-count c = within-phase c
+slice_bounds-read_optional_result-count c =
+    let p1 = told blank_slot_member _ c.read_slot_member-head_read.ensures c.in-To.is in
+    let p2 = got u8_read (c.read_choice-phase_read.ensures ∙ ap (choice 0 2).dec (rest c.args.bytes.now _)) c.in-Read.is in
+    (dep slot_member (λ a. choice 0 2)).within _ (dep-ok _ _ _ p1 p2)
 
 pub slice_bounds-read_optional_result-start : goal.slice_bounds-read_optional_result-start
-slice_bounds-read_optional_result-start c = within-phase c
+slice_bounds-read_optional_result-start c = slice_bounds-read_optional_result-count c
+
+pub overflow_add-at : goal.overflow_add-at
+overflow_add-at c = record { fits = lt_of_le_of_lt (slice_bounds-read_optional_result-count c) c.well_formed.0.0 }
 
 pub returns-in_default-last_result_to : goal.returns-in_default-last_result_to
 unfolding slot

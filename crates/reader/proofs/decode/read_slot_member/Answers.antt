@@ -1,30 +1,15 @@
 -- `reader::decode::read_slot_member` meets its contract: field by field. Written by scripts/readers.py. Assumes nothing.
-use Prim.Native.Nat.{◌+◌, ◌≤◌}
-use lib.ListN.{length}
-use mathlib.Core.Path.{sym, ap, ◌∙◌}
-use native.Mathlib.Nat.{lt_of_le_of_lt}
+use Rattle.std.specs.Prelude.{◌+◌}
+use Rattle.std.proofs.Common.{lt_of_le_of_lt, sym, ap, ◌∙◌}
 use Rattle.format.specs.Combinators.{dep, dep-ok, dep-no-1, dep-no-2, via-ok, via-no, rest}
 use Rattle.format.specs.Num.{uint}
 use Rattle.format.specs.Res.Res.{ok, no}
 use Rattle.identity.specs.Answer.{number_of}
-use Rattle.layout.specs.Layout.{identity, binding, member, slot_member}
+use Rattle.layout.specs.Layout.{identity, binding, slot_member}
 use Rattle.layout.specs.Parts.{blank_binding, blank_slot_member}
 use Rattle.layout.specs.Reading.{outcome, why_of, u64_read, why_u64, identity_read, why_identity}
 use Rattle.layout.specs.ReadingLaws.{told, told-not, outcome-ok, outcome-no, got}
 use Rattle.reader.proofs.decode.read_slot_member.Goals as goal
-use Rattle.reader.proofs.decode.read_slot_member.Goals.{In-Read, In-Read-retired_through_read}
-
--- after each field: that so many bytes were read
-within-identity : (c : In-Read) → c.in-Read.at ≤ length c.args.bytes.now
-within-identity c =
-    let p1 = got identity_read c.read_identity-identity_read.ensures c.in-Read.is in
-    identity.within _ p1
-
-within-retired_through : (c : In-Read-retired_through_read) → c.in-Read.at + c.in-Read-retired_through_read.n ≤ length c.args.bytes.now
-within-retired_through c =
-    let p1 = got identity_read c.read_identity-identity_read.ensures c.in-Read.is in
-    let p2 = got u64_read (c.read_u64-retired_through_read.ensures ∙ ap (uint 8).dec (rest c.args.bytes.now _)) c.in-Read-retired_through_read.is in
-    (dep identity (λ a. uint 8)).within _ (dep-ok _ _ _ p1 p2)
 
 pub returns-in_default : goal.returns-in_default
 unfolding slot_member
@@ -34,10 +19,12 @@ returns-in_default c =
     (via-no _ _ _ _ _ (dep-no-1 _ _ _ (dep-no-1 _ _ _ q)))
 
 pub slice_bounds-read_u64-count : goal.slice_bounds-read_u64-count
-slice_bounds-read_u64-count c = within-identity c
+slice_bounds-read_u64-count c =
+    let p1 = got identity_read c.read_identity-identity_read.ensures c.in-Read.is in
+    identity.within _ p1
 
 pub slice_bounds-read_u64-start : goal.slice_bounds-read_u64-start
-slice_bounds-read_u64-start c = within-identity c
+slice_bounds-read_u64-start c = slice_bounds-read_u64-count c
 
 pub returns-in_default-retired_through_read : goal.returns-in_default-retired_through_read
 unfolding slot_member
@@ -47,14 +34,17 @@ returns-in_default-retired_through_read c =
     outcome-no _ (c.refused_slot_member-in_default-retired_through_read.ensures ∙ ap (λ a. outcome blank_slot_member (no (number_of a))) (c.why_u64.ensures ∙ ap why_u64 c.in_default-retired_through_read.is))
     (via-no _ _ _ _ _ (dep-no-1 _ _ _ (dep-no-2 _ _ _ p1 q)))
 
-pub overflow_add-at : goal.overflow_add-at
-overflow_add-at c = record { fits = lt_of_le_of_lt (within-retired_through c) c.well_formed.0.0 }
-
 pub slice_bounds-read_binding-count : goal.slice_bounds-read_binding-count
-slice_bounds-read_binding-count c = within-retired_through c
+slice_bounds-read_binding-count c =
+    let p1 = got identity_read c.read_identity-identity_read.ensures c.in-Read.is in
+    let p2 = got u64_read (c.read_u64-retired_through_read.ensures ∙ ap (uint 8).dec (rest c.args.bytes.now _)) c.in-Read-retired_through_read.is in
+    (dep identity (λ a. uint 8)).within _ (dep-ok _ _ _ p1 p2)
 
 pub slice_bounds-read_binding-start : goal.slice_bounds-read_binding-start
-slice_bounds-read_binding-start c = within-retired_through c
+slice_bounds-read_binding-start c = slice_bounds-read_binding-count c
+
+pub overflow_add-at : goal.overflow_add-at
+overflow_add-at c = record { fits = lt_of_le_of_lt (slice_bounds-read_binding-count c) c.well_formed.0.0 }
 
 pub returns-in_default-binding_to : goal.returns-in_default-binding_to
 unfolding slot_member

@@ -1,7 +1,5 @@
 -- `reader::decode::read_slots` meets its contract. Written by scripts/readers.py. Assumes nothing.
-use Prim.Native.Nat.{◌-◌, ◌≤◌}
-use lib.ListN.{length, take, drop}
-use mathlib.Core.Path.{◌≡◌}
+use Rattle.std.specs.Prelude.{◌-◌, ◌≤◌, ◌≡◌, length, take, drop}
 use Rattle.format.specs.List.{vec}
 use Rattle.format.specs.Res.Res.{ok}
 use Rattle.records.specs.Blank.{blank_voter_slot_record}

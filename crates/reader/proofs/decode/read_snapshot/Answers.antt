@@ -1,8 +1,5 @@
 -- `reader::decode::read_snapshot` meets its contract: field by field. Written by scripts/readers.py. Assumes nothing.
-use Prim.Native.Nat.{◌+◌, ◌≤◌}
-use lib.ListN.{length}
-use mathlib.Core.Path.{ap, ◌∙◌}
-use native.Mathlib.Nat.{lt_of_le_of_lt}
+use Rattle.std.proofs.Common.{lt_of_le_of_lt, ap, ◌∙◌}
 use Rattle.format.specs.Combinators.{dep, dep-ok, dep-no-1, dep-no-2, via-ok, via-no, rest}
 use Rattle.format.specs.Copy.{zeros}
 use Rattle.format.specs.Num.{raw}
@@ -13,19 +10,6 @@ use Rattle.layout.specs.Layout.{log_id, snapshot_id, snapshot}
 use Rattle.layout.specs.Reading.{outcome, why_of, log_id_read, why_log_id}
 use Rattle.layout.specs.ReadingLaws.{told, told-not, outcome-ok, outcome-no, got}
 use Rattle.reader.proofs.decode.read_snapshot.Goals as goal
-use Rattle.reader.proofs.decode.read_snapshot.Goals.{After-snapshot_id-1, In-Read}
-
--- after each field: that so many bytes were read
-within-cut : (c : In-Read) → c.in-Read.at ≤ length c.args.bytes.now
-within-cut c =
-    let p1 = got log_id_read c.read_log_id-cut_read.ensures c.in-Read.is in
-    log_id.within _ p1
-
-within-snapshot_id : (c : After-snapshot_id-1) → c.in-Read.at + c.in-To.n ≤ length c.args.bytes.now
-within-snapshot_id c =
-    let p1 = got log_id_read c.read_log_id-cut_read.ensures c.in-Read.is in
-    let p2 = told blank_snapshot_id _ (c.read_snapshot_id-snapshot_id_read.ensures ∙ ap (λ l. outcome blank_snapshot_id (snapshot_id.dec l)) (rest c.args.bytes.now _)) c.in-To.is in
-    (dep log_id (λ a. snapshot_id)).within _ (dep-ok _ _ _ p1 p2)
 
 pub returns-in_default : goal.returns-in_default
 unfolding snapshot
@@ -35,10 +19,12 @@ returns-in_default c =
     (via-no _ _ _ _ _ (dep-no-1 _ _ _ (dep-no-1 _ _ _ q)))
 
 pub slice_bounds-read_snapshot_id-count : goal.slice_bounds-read_snapshot_id-count
-slice_bounds-read_snapshot_id-count c = within-cut c
+slice_bounds-read_snapshot_id-count c =
+    let p1 = got log_id_read c.read_log_id-cut_read.ensures c.in-Read.is in
+    log_id.within _ p1
 
 pub slice_bounds-read_snapshot_id-start : goal.slice_bounds-read_snapshot_id-start
-slice_bounds-read_snapshot_id-start c = within-cut c
+slice_bounds-read_snapshot_id-start c = slice_bounds-read_snapshot_id-count c
 
 pub returns-in_default-snapshot_id_to : goal.returns-in_default-snapshot_id_to
 unfolding snapshot
@@ -48,14 +34,17 @@ returns-in_default-snapshot_id_to c =
     outcome-no _ (c.refused_snapshot-in_default-snapshot_id_to.ensures ∙ ap (λ a. outcome blank_voter_snapshot_evidence (no (number_of a))) (c.why.ensures ∙ ap why_of c.in_default-snapshot_id_to.is))
     (via-no _ _ _ _ _ (dep-no-1 _ _ _ (dep-no-2 _ _ _ p1 q)))
 
-pub overflow_add-at : goal.overflow_add-at
-overflow_add-at c = record { fits = lt_of_le_of_lt (within-snapshot_id c) c.well_formed.0.0 }
-
 pub slice_bounds-read_array32-count : goal.slice_bounds-read_array32-count
-slice_bounds-read_array32-count c = within-snapshot_id c
+slice_bounds-read_array32-count c =
+    let p1 = got log_id_read c.read_log_id-cut_read.ensures c.in-Read.is in
+    let p2 = told blank_snapshot_id _ (c.read_snapshot_id-snapshot_id_read.ensures ∙ ap (λ l. outcome blank_snapshot_id (snapshot_id.dec l)) (rest c.args.bytes.now _)) c.in-To.is in
+    (dep log_id (λ a. snapshot_id)).within _ (dep-ok _ _ _ p1 p2)
 
 pub slice_bounds-read_array32-start : goal.slice_bounds-read_array32-start
-slice_bounds-read_array32-start c = within-snapshot_id c
+slice_bounds-read_array32-start c = slice_bounds-read_array32-count c
+
+pub overflow_add-at : goal.overflow_add-at
+overflow_add-at c = record { fits = lt_of_le_of_lt (slice_bounds-read_array32-count c) c.well_formed.0.0 }
 
 pub returns-in_default-digest_to : goal.returns-in_default-digest_to
 unfolding snapshot

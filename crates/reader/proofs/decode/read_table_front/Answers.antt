@@ -1,8 +1,5 @@
 -- `reader::decode::read_table_front` meets its contract: field by field. Written by scripts/readers.py. Assumes nothing.
-use Prim.Native.Nat.{◌+◌, ◌≤◌}
-use lib.ListN.{length}
-use mathlib.Core.Path.{ap, ◌∙◌}
-use native.Mathlib.Nat.{lt_of_le_of_lt}
+use Rattle.std.proofs.Common.{lt_of_le_of_lt, ap, ◌∙◌}
 use Rattle.format.specs.Combinators.{dep, dep-ok, dep-no-1, dep-no-2, rest}
 use Rattle.format.specs.Res.Res.{no}
 use Rattle.identity.specs.Answer.{number_of}
@@ -12,26 +9,6 @@ use Rattle.layout.specs.Parts.{blank_table_head, blank_table_front, blank_voter_
 use Rattle.layout.specs.Reading.{report, outcome, why_of, u8_read, why_u8}
 use Rattle.layout.specs.ReadingLaws.{told, told-not, outcome-ok, outcome-no, got}
 use Rattle.reader.proofs.decode.read_table_front.Goals as goal
-use Rattle.reader.proofs.decode.read_table_front.Goals.{After-head-1, In-Read, In-To}
-
--- after each field: that so many bytes were read
-within-magic : (c : In-To) → c.in-To.at ≤ length c.args.bytes.now
-within-magic c =
-    let p1 = got report c.read_head-magic.ensures c.in-To.is in
-    magic_and_version.within _ p1
-
-within-head : (c : After-head-1) → c.in-To.at + c.in-To-head_to.n ≤ length c.args.bytes.now
-within-head c =
-    let p1 = got report c.read_head-magic.ensures c.in-To.is in
-    let p2 = told blank_table_head _ (c.read_table_head-head_read.ensures ∙ ap (λ l. outcome blank_table_head (table_head.dec l)) (rest c.args.bytes.now _)) c.in-To-head_to.is in
-    (dep magic_and_version (λ a. table_head)).within _ (dep-ok _ _ _ p1 p2)
-
-within-count : (c : In-Read) → c.in-To.at + c.in-To-head_to.n + c.in-Read.n ≤ length c.args.bytes.now
-within-count c =
-    let p1 = got report c.read_head-magic.ensures c.in-To.is in
-    let p2 = told blank_table_head _ (c.read_table_head-head_read.ensures ∙ ap (λ l. outcome blank_table_head (table_head.dec l)) (rest c.args.bytes.now _)) c.in-To-head_to.is in
-    let p3 = got u8_read (c.read_count-count_read.ensures ∙ ap slot_count.dec (rest c.args.bytes.now _)) c.in-Read.is in
-    (dep (dep magic_and_version (λ a. table_head)) (λ a. slot_count)).within _ (dep-ok _ _ _ (dep-ok _ _ _ p1 p2) p3)
 
 pub returns-in_default : goal.returns-in_default
 returns-in_default c =
@@ -40,10 +17,12 @@ returns-in_default c =
     (dep-no-1 _ _ _ (dep-no-1 _ _ _ (dep-no-1 _ _ _ q)))
 
 pub slice_bounds-read_table_head-count : goal.slice_bounds-read_table_head-count
-slice_bounds-read_table_head-count c = within-magic c
+slice_bounds-read_table_head-count c =
+    let p1 = got report c.read_head-magic.ensures c.in-To.is in
+    magic_and_version.within _ p1
 
 pub slice_bounds-read_table_head-start : goal.slice_bounds-read_table_head-start
-slice_bounds-read_table_head-start c = within-magic c
+slice_bounds-read_table_head-start c = slice_bounds-read_table_head-count c
 
 pub returns-in_default-head_to : goal.returns-in_default-head_to
 returns-in_default-head_to c =
@@ -52,14 +31,17 @@ returns-in_default-head_to c =
     outcome-no _ (c.refused_table_front-in_default-head_to.ensures ∙ ap (λ a. outcome blank_table_front (no (number_of a))) (c.why-in_default-head_to.ensures ∙ ap why_of c.in_default-head_to.is))
     (dep-no-1 _ _ _ (dep-no-1 _ _ _ (dep-no-2 _ _ _ p1 q)))
 
-pub overflow_add-at : goal.overflow_add-at
-overflow_add-at c = record { fits = lt_of_le_of_lt (within-head c) c.well_formed.0.0 }
-
 pub slice_bounds-read_count-count : goal.slice_bounds-read_count-count
-slice_bounds-read_count-count c = within-head c
+slice_bounds-read_count-count c =
+    let p1 = got report c.read_head-magic.ensures c.in-To.is in
+    let p2 = told blank_table_head _ (c.read_table_head-head_read.ensures ∙ ap (λ l. outcome blank_table_head (table_head.dec l)) (rest c.args.bytes.now _)) c.in-To-head_to.is in
+    (dep magic_and_version (λ a. table_head)).within _ (dep-ok _ _ _ p1 p2)
 
 pub slice_bounds-read_count-start : goal.slice_bounds-read_count-start
-slice_bounds-read_count-start c = within-head c
+slice_bounds-read_count-start c = slice_bounds-read_count-count c
+
+pub overflow_add-at : goal.overflow_add-at
+overflow_add-at c = record { fits = lt_of_le_of_lt (slice_bounds-read_count-count c) c.well_formed.0.0 }
 
 pub returns-in_default-count_read : goal.returns-in_default-count_read
 returns-in_default-count_read c =
@@ -69,14 +51,18 @@ returns-in_default-count_read c =
     outcome-no _ (c.refused_table_front-in_default-count_read.ensures ∙ ap (λ a. outcome blank_table_front (no (number_of a))) (c.why_u8.ensures ∙ ap why_u8 c.in_default-count_read.is))
     (dep-no-1 _ _ _ (dep-no-2 _ _ _ (dep-ok _ _ _ p1 p2) q))
 
-pub overflow_add-at-2 : goal.overflow_add-at-2
-overflow_add-at-2 c = record { fits = lt_of_le_of_lt (within-count c) c.well_formed.0.0 }
-
 pub slice_bounds-read_slots-count : goal.slice_bounds-read_slots-count
-slice_bounds-read_slots-count c = within-count c
+slice_bounds-read_slots-count c =
+    let p1 = got report c.read_head-magic.ensures c.in-To.is in
+    let p2 = told blank_table_head _ (c.read_table_head-head_read.ensures ∙ ap (λ l. outcome blank_table_head (table_head.dec l)) (rest c.args.bytes.now _)) c.in-To-head_to.is in
+    let p3 = got u8_read (c.read_count-count_read.ensures ∙ ap slot_count.dec (rest c.args.bytes.now _)) c.in-Read.is in
+    (dep (dep magic_and_version (λ a. table_head)) (λ a. slot_count)).within _ (dep-ok _ _ _ (dep-ok _ _ _ p1 p2) p3)
 
 pub slice_bounds-read_slots-start : goal.slice_bounds-read_slots-start
-slice_bounds-read_slots-start c = within-count c
+slice_bounds-read_slots-start c = slice_bounds-read_slots-count c
+
+pub overflow_add-at-2 : goal.overflow_add-at-2
+overflow_add-at-2 c = record { fits = lt_of_le_of_lt (slice_bounds-read_slots-count c) c.well_formed.0.0 }
 
 pub read_slots-slots_read-requires : goal.read_slots-slots_read-requires
 read_slots-slots_read-requires c =

@@ -1,8 +1,5 @@
 -- `reader::decode::read_table_head` meets its contract: field by field. Written by scripts/readers.py. Assumes nothing.
-use Prim.Native.Nat.{◌+◌, ◌≤◌}
-use lib.ListN.{length}
-use mathlib.Core.Path.{ap, ◌∙◌}
-use native.Mathlib.Nat.{lt_of_le_of_lt}
+use Rattle.std.proofs.Common.{lt_of_le_of_lt, ap, ◌∙◌}
 use Rattle.format.specs.Combinators.{dep, dep-ok, dep-no-1, dep-no-2, via-ok, via-no, rest}
 use Rattle.format.specs.Copy.{zeros}
 use Rattle.format.specs.Num.{uint, raw}
@@ -13,26 +10,6 @@ use Rattle.layout.specs.Parts.{blank_table_head}
 use Rattle.layout.specs.Reading.{outcome, why_of, u64_read, why_u64}
 use Rattle.layout.specs.ReadingLaws.{told, told-not, outcome-ok, outcome-no, got}
 use Rattle.reader.proofs.decode.read_table_head.Goals as goal
-use Rattle.reader.proofs.decode.read_table_head.Goals.{After-cluster_instance-1, After-manifest_digest-1, In-Read}
-
--- after each field: that so many bytes were read
-within-cluster_instance : (c : After-cluster_instance-1) → c.in-To.at ≤ length c.args.bytes.now
-within-cluster_instance c =
-    let p1 = told (zeros 32) _ c.read_array32-cluster_instance_read.ensures c.in-To.is in
-    (raw 32).within _ p1
-
-within-manifest_digest : (c : After-manifest_digest-1) → c.in-To.at + c.in-To-manifest_digest_to.n ≤ length c.args.bytes.now
-within-manifest_digest c =
-    let p1 = told (zeros 32) _ c.read_array32-cluster_instance_read.ensures c.in-To.is in
-    let p2 = told (zeros 32) _ (c.read_array32-manifest_digest_read.ensures ∙ ap (λ l. outcome (zeros 32) ((raw 32).dec l)) (rest c.args.bytes.now _)) c.in-To-manifest_digest_to.is in
-    (dep (raw 32) (λ a. raw 32)).within _ (dep-ok _ _ _ p1 p2)
-
-within-revision : (c : In-Read) → c.in-To.at + c.in-To-manifest_digest_to.n + c.in-Read.n ≤ length c.args.bytes.now
-within-revision c =
-    let p1 = told (zeros 32) _ c.read_array32-cluster_instance_read.ensures c.in-To.is in
-    let p2 = told (zeros 32) _ (c.read_array32-manifest_digest_read.ensures ∙ ap (λ l. outcome (zeros 32) ((raw 32).dec l)) (rest c.args.bytes.now _)) c.in-To-manifest_digest_to.is in
-    let p3 = got u64_read (c.read_u64-revision_read.ensures ∙ ap (uint 8).dec (rest c.args.bytes.now _)) c.in-Read.is in
-    (dep (dep (raw 32) (λ a. raw 32)) (λ a. uint 8)).within _ (dep-ok _ _ _ (dep-ok _ _ _ p1 p2) p3)
 
 pub returns-in_default : goal.returns-in_default
 unfolding table_head
@@ -42,10 +19,12 @@ returns-in_default c =
     (via-no _ _ _ _ _ (dep-no-1 _ _ _ (dep-no-1 _ _ _ (dep-no-1 _ _ _ q))))
 
 pub slice_bounds-read_array32-count : goal.slice_bounds-read_array32-count
-slice_bounds-read_array32-count c = within-cluster_instance c
+slice_bounds-read_array32-count c =
+    let p1 = told (zeros 32) _ c.read_array32-cluster_instance_read.ensures c.in-To.is in
+    (raw 32).within _ p1
 
 pub slice_bounds-read_array32-start : goal.slice_bounds-read_array32-start
-slice_bounds-read_array32-start c = within-cluster_instance c
+slice_bounds-read_array32-start c = slice_bounds-read_array32-count c
 
 pub returns-in_default-manifest_digest_to : goal.returns-in_default-manifest_digest_to
 unfolding table_head
@@ -55,14 +34,17 @@ returns-in_default-manifest_digest_to c =
     outcome-no _ (c.refused_table_head-in_default-manifest_digest_to.ensures ∙ ap (λ a. outcome blank_table_head (no (number_of a))) (c.why-in_default-manifest_digest_to.ensures ∙ ap why_of c.in_default-manifest_digest_to.is))
     (via-no _ _ _ _ _ (dep-no-1 _ _ _ (dep-no-1 _ _ _ (dep-no-2 _ _ _ p1 q))))
 
-pub overflow_add-at : goal.overflow_add-at
-overflow_add-at c = record { fits = lt_of_le_of_lt (within-manifest_digest c) c.well_formed.0.0 }
-
 pub slice_bounds-read_u64-count : goal.slice_bounds-read_u64-count
-slice_bounds-read_u64-count c = within-manifest_digest c
+slice_bounds-read_u64-count c =
+    let p1 = told (zeros 32) _ c.read_array32-cluster_instance_read.ensures c.in-To.is in
+    let p2 = told (zeros 32) _ (c.read_array32-manifest_digest_read.ensures ∙ ap (λ l. outcome (zeros 32) ((raw 32).dec l)) (rest c.args.bytes.now _)) c.in-To-manifest_digest_to.is in
+    (dep (raw 32) (λ a. raw 32)).within _ (dep-ok _ _ _ p1 p2)
 
 pub slice_bounds-read_u64-start : goal.slice_bounds-read_u64-start
-slice_bounds-read_u64-start c = within-manifest_digest c
+slice_bounds-read_u64-start c = slice_bounds-read_u64-count c
+
+pub overflow_add-at : goal.overflow_add-at
+overflow_add-at c = record { fits = lt_of_le_of_lt (slice_bounds-read_u64-count c) c.well_formed.0.0 }
 
 pub returns-in_default-revision_read : goal.returns-in_default-revision_read
 unfolding table_head
@@ -73,14 +55,18 @@ returns-in_default-revision_read c =
     outcome-no _ (c.refused_table_head-in_default-revision_read.ensures ∙ ap (λ a. outcome blank_table_head (no (number_of a))) (c.why_u64.ensures ∙ ap why_u64 c.in_default-revision_read.is))
     (via-no _ _ _ _ _ (dep-no-1 _ _ _ (dep-no-2 _ _ _ (dep-ok _ _ _ p1 p2) q)))
 
-pub overflow_add-at-2 : goal.overflow_add-at-2
-overflow_add-at-2 c = record { fits = lt_of_le_of_lt (within-revision c) c.well_formed.0.0 }
-
 pub slice_bounds-read_epoch-count : goal.slice_bounds-read_epoch-count
-slice_bounds-read_epoch-count c = within-revision c
+slice_bounds-read_epoch-count c =
+    let p1 = told (zeros 32) _ c.read_array32-cluster_instance_read.ensures c.in-To.is in
+    let p2 = told (zeros 32) _ (c.read_array32-manifest_digest_read.ensures ∙ ap (λ l. outcome (zeros 32) ((raw 32).dec l)) (rest c.args.bytes.now _)) c.in-To-manifest_digest_to.is in
+    let p3 = got u64_read (c.read_u64-revision_read.ensures ∙ ap (uint 8).dec (rest c.args.bytes.now _)) c.in-Read.is in
+    (dep (dep (raw 32) (λ a. raw 32)) (λ a. uint 8)).within _ (dep-ok _ _ _ (dep-ok _ _ _ p1 p2) p3)
 
 pub slice_bounds-read_epoch-start : goal.slice_bounds-read_epoch-start
-slice_bounds-read_epoch-start c = within-revision c
+slice_bounds-read_epoch-start c = slice_bounds-read_epoch-count c
+
+pub overflow_add-at-2 : goal.overflow_add-at-2
+overflow_add-at-2 c = record { fits = lt_of_le_of_lt (slice_bounds-read_epoch-count c) c.well_formed.0.0 }
 
 pub returns-in_default-configuration_epoch_read : goal.returns-in_default-configuration_epoch_read
 unfolding table_head

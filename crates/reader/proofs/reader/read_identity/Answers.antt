@@ -1,8 +1,5 @@
 -- `reader::reader::read_identity` meets its contract: field by field. Written by scripts/readers.py. Assumes nothing.
-use Prim.Native.Nat.{◌≤◌}
-use lib.ListN.{length}
-use mathlib.Core.Path.{sym, ap, ◌∙◌}
-use native.Mathlib.Nat.{lt_of_le_of_lt}
+use Rattle.std.proofs.Common.{lt_of_le_of_lt, sym, ap, ◌∙◌}
 use Rattle.format.specs.Combinators.{dep, dep-ok, dep-no-1, dep-no-2, via-ok, via-no, rest}
 use Rattle.format.specs.Res.Res.{no}
 use Rattle.identity.specs.Answer.{number_of}
@@ -10,13 +7,6 @@ use Rattle.layout.specs.Layout.{slot_id, incarnation, identity}
 use Rattle.layout.specs.Reading.{u64_read, why_u64, u16_read, why_u16}
 use Rattle.layout.specs.ReadingLaws.{got}
 use Rattle.reader.proofs.reader.read_identity.Goals as goal
-use Rattle.reader.proofs.reader.read_identity.Goals.{In-Read}
-
--- after each field: that so many bytes were read
-within-slot : (c : In-Read) → c.in-Read.at ≤ length c.args.bytes.now
-within-slot c =
-    let p1 = got u16_read c.read_slot_id-slot_read.ensures c.in-Read.is in
-    slot_id.within _ p1
 
 pub returns-in_default : goal.returns-in_default
 unfolding identity
@@ -26,10 +16,12 @@ returns-in_default c =
     ∙ sym (via-no _ _ _ _ _ (dep-no-1 _ _ _ q))
 
 pub slice_bounds-read_incarnation-count : goal.slice_bounds-read_incarnation-count
-slice_bounds-read_incarnation-count c = within-slot c
+slice_bounds-read_incarnation-count c =
+    let p1 = got u16_read c.read_slot_id-slot_read.ensures c.in-Read.is in
+    slot_id.within _ p1
 
 pub slice_bounds-read_incarnation-start : goal.slice_bounds-read_incarnation-start
-slice_bounds-read_incarnation-start c = within-slot c
+slice_bounds-read_incarnation-start c = slice_bounds-read_incarnation-count c
 
 pub returns-in_default-incarnation_read : goal.returns-in_default-incarnation_read
 unfolding identity

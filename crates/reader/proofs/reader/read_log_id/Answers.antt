@@ -1,8 +1,5 @@
 -- `reader::reader::read_log_id` meets its contract: field by field. Written by scripts/readers.py. Assumes nothing.
-use Prim.Native.Nat.{◌≤◌}
-use lib.ListN.{length}
-use mathlib.Core.Path.{sym, ap, ◌∙◌}
-use native.Mathlib.Nat.{lt_of_le_of_lt}
+use Rattle.std.proofs.Common.{lt_of_le_of_lt, sym, ap, ◌∙◌}
 use Rattle.format.specs.Combinators.{dep, dep-ok, dep-no-1, dep-no-2, via-ok, via-no, rest}
 use Rattle.format.specs.Num.{uint}
 use Rattle.format.specs.Res.Res.{no}
@@ -11,13 +8,6 @@ use Rattle.layout.specs.Layout.{log_id}
 use Rattle.layout.specs.Reading.{u64_read, why_u64}
 use Rattle.layout.specs.ReadingLaws.{got}
 use Rattle.reader.proofs.reader.read_log_id.Goals as goal
-use Rattle.reader.proofs.reader.read_log_id.Goals.{In-Read}
-
--- after each field: that so many bytes were read
-within-term : (c : In-Read) → c.in-Read.at ≤ length c.args.bytes.now
-within-term c =
-    let p1 = got u64_read c.read_u64-term_read.ensures c.in-Read.is in
-    (uint 8).within _ p1
 
 pub returns-in_default : goal.returns-in_default
 unfolding log_id
@@ -27,10 +17,12 @@ returns-in_default c =
     ∙ sym (via-no _ _ _ _ _ (dep-no-1 _ _ _ q))
 
 pub slice_bounds-read_u64-count : goal.slice_bounds-read_u64-count
-slice_bounds-read_u64-count c = within-term c
+slice_bounds-read_u64-count c =
+    let p1 = got u64_read c.read_u64-term_read.ensures c.in-Read.is in
+    (uint 8).within _ p1
 
 pub slice_bounds-read_u64-start : goal.slice_bounds-read_u64-start
-slice_bounds-read_u64-start c = within-term c
+slice_bounds-read_u64-start c = slice_bounds-read_u64-count c
 
 pub returns-in_default-index_read : goal.returns-in_default-index_read
 unfolding log_id

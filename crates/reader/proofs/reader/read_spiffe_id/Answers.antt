@@ -1,11 +1,6 @@
 -- `reader::reader::read_spiffe_id` meets its contract. Written by scripts/readers.py. Assumes nothing.
-use Prim.Native.Nat.{◌+◌, ◌-◌}
-use lib.ListN.{length, take, drop, replicate, length-take, length-drop}
-use lib.Seq.{length-take-le}
-use mathlib.Core.List.{◌++◌}
-use mathlib.Core.Path.{◌≡◌, sym, ap, ◌∙◌}
-use native.Mathlib.Nat.{lt_of_le_of_lt}
-use native.Mathlib.Omega.{arith}
+use Rattle.std.specs.Prelude.{◌+◌, ◌-◌, ◌≡◌, ◌++◌, length, take, drop, replicate}
+use Rattle.std.proofs.Common.{arith, lt_of_le_of_lt, sym, ap, ◌∙◌, length-take, length-drop, length-take-le}
 use Rattle.format.specs.Combinators.{via-ok, via-no, checked-ok, checked-no, checked-bad}
 use Rattle.format.specs.Copy.{length-zeros}
 use Rattle.format.specs.Fill.{put-zeros}
@@ -15,7 +10,6 @@ use Rattle.format.specs.Res.Res.{ok, no}
 use Rattle.identity.specs.Answer.{number_of}
 use Rattle.identity.specs.Text.{is_utf8}
 use Rattle.records.specs.Blank.{blank_spiffe_id}
-use Rattle.records.specs.ValidationLaws.{failed, held}
 use Rattle.layout.specs.Layout.{require, sized, string, spiffe_id}
 use Rattle.layout.specs.LayoutLaws.{sized-small, part-is}
 use Rattle.layout.specs.Reading.{outcome, sized_read, why_sized}
@@ -49,7 +43,7 @@ returns-then-not-is_utf8 c =
     let at = c.in-Read.at in
     let p = got (λ r. sized_read r s) c.read_sized-size.ensures c.in-Read.is in
     outcome-no _ c.refused_spiffe_id-then-not-is_utf8.ensures
-    (via-no _ _ _ _ _ (checked-bad _ _ _ p (ap require (ap is_utf8 (sym (part-is n at s)) ∙ failed c.is_utf8.ensures c.if-not-is_utf8.true-raw))))
+    (via-no _ _ _ _ _ (checked-bad _ _ _ p (ap require (ap is_utf8 (sym (part-is n at s)) ∙ sym c.is_utf8.ensures ∙ c.if-not-is_utf8.true))))
 
 pub put_bytes-requires : goal.put_bytes-requires
 put_bytes-requires c =
@@ -71,5 +65,5 @@ returns c =
     let h : length l ≡ n = length-take-le n (drop at s) (omega (arith, length-drop at s, (sized 2048).within _ p)) in
     let b = c.put_bytes.ensures.bytes ∙ (λ i. put (part-is n at s i) 0 (c.zeros2048-place.ensures i)) ∙ put-zeros l 2048 ∙ ap (λ m. l ++ replicate (2048 - m) 0) h in
     outcome-ok blank_spiffe_id
-    (via-ok _ _ _ _ _ (checked-ok _ _ _ p (ap require (ap is_utf8 (sym (part-is n at s)) ∙ held c.is_utf8.ensures c.if-not-is_utf8.false-raw)))
+    (via-ok _ _ _ _ _ (checked-ok _ _ _ p (ap require (ap is_utf8 (sym (part-is n at s)) ∙ sym c.is_utf8.ensures ∙ c.if-not-is_utf8.false)))
     ∙ ap (λ b. ok (record { len = n; bytes = b }) (at + n)) (sym b))

@@ -1,8 +1,6 @@
 -- `writer::encode::put_boxed_attestation` meets its contract: one put after the other. Written by scripts/writers.py. Assumes nothing.
-use Prim.Native.Nat.{◌+◌}
-use native.Mathlib.Omega.{arith}
-use mathlib.Core.Path.{◌≡◌, sym, ap, ◌∙◌}
-use lib.ListN.{length, length-append}
+use Rattle.std.specs.Prelude.{◌+◌, ◌≡◌, length}
+use Rattle.std.proofs.Common.{arith, sym, ap, ◌∙◌, length-append}
 use Rattle.format.specs.Combinators.{check}
 use Rattle.format.specs.Num.{uint}
 use Rattle.format.specs.Put.{then}

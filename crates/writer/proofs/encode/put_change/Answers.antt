@@ -1,9 +1,6 @@
 -- `writer::encode::put_change` meets its contract: one put after the other. Written by scripts/writers.py. Assumes nothing.
-use Prim.Native.Nat.{◌+◌}
-use native.Mathlib.Omega.{arith}
-use mathlib.Core.Path.{◌≡◌}
-use mathlib.Core.List.{◌++◌}
-use lib.ListN.{length, length-append}
+use Rattle.std.specs.Prelude.{◌+◌, ◌≡◌, ◌++◌, length}
+use Rattle.std.proofs.Common.{arith, length-append}
 use Rattle.format.specs.Combinators.{dep, via, check}
 use Rattle.format.specs.Num.{uint}
 use Rattle.format.specs.Put.{then, room-left}
@@ -15,7 +12,7 @@ use Rattle.writer.proofs.encode.put_change.Goals as goal
 -- the length of what is written
 lengths : (x : VoterReplacementRecord) → length (change.enc (change_of x)) ≡ length (configuration.enc x.predecessor) + length (configuration.enc x.successor) + length ((uint 1).enc x.phase)
 unfolding change choice via dep check
-lengths x = omega (arith, length-append ((configuration.enc x.predecessor) ++ configuration.enc x.successor) ((uint 1).enc x.phase), length-append (configuration.enc x.predecessor) (configuration.enc x.successor))
+lengths x = omega (arith, length-append (configuration.enc x.predecessor ++ configuration.enc x.successor) ((uint 1).enc x.phase), length-append (configuration.enc x.predecessor) (configuration.enc x.successor))
 
 pub put_configuration-at-requires : goal.put_configuration-at-requires
 put_configuration-at-requires c = (omega (arith, lengths c.args.operation), c.requires.1.0)

@@ -1,9 +1,6 @@
 -- `writer::encode::put_claims_end` meets its contract: one put after the other. Written by scripts/writers.py. Assumes nothing.
-use Prim.Native.Nat.{◌+◌}
-use native.Mathlib.Omega.{arith}
-use mathlib.Core.Path.{◌≡◌}
-use mathlib.Core.List.{◌++◌}
-use lib.ListN.{length, length-append}
+use Rattle.std.specs.Prelude.{◌+◌, ◌≡◌, ◌++◌, length}
+use Rattle.std.proofs.Common.{arith, length-append}
 use Rattle.format.specs.Combinators.{dep, via, check}
 use Rattle.format.specs.Num.{uint, raw}
 use Rattle.format.specs.Put.{then, room-left}
@@ -15,7 +12,7 @@ use Rattle.writer.proofs.encode.put_claims_end.Goals as goal
 -- the length of what is written
 lengths : (x : LostVoterAttestationV1) → length (claims_end.enc (claims_end_of x)) ≡ length ((uint 1).enc x.reason) + length x.policy_digest + length (times.enc (times_of x)) + length x.signature
 unfolding claims_end choice via dep check raw
-lengths x = omega (arith, length-append ((((uint 1).enc x.reason) ++ x.policy_digest) ++ times.enc (times_of x)) x.signature, length-append (((uint 1).enc x.reason) ++ x.policy_digest) (times.enc (times_of x)), length-append ((uint 1).enc x.reason) x.policy_digest)
+lengths x = omega (arith, length-append (((uint 1).enc x.reason ++ x.policy_digest) ++ times.enc (times_of x)) x.signature, length-append ((uint 1).enc x.reason ++ x.policy_digest) (times.enc (times_of x)), length-append ((uint 1).enc x.reason) x.policy_digest)
 
 pub put_be-at-requires : goal.put_be-at-requires
 put_be-at-requires c = omega (arith, lengths c.args.claims)

@@ -1,9 +1,6 @@
 -- `writer::encode::put_claims_names` meets its contract: one put after the other. Written by scripts/writers.py. Assumes nothing.
-use Prim.Native.Nat.{◌+◌}
-use native.Mathlib.Omega.{arith}
-use mathlib.Core.Path.{◌≡◌}
-use mathlib.Core.List.{◌++◌}
-use lib.ListN.{length, length-append}
+use Rattle.std.specs.Prelude.{◌+◌, ◌≡◌, ◌++◌, length}
+use Rattle.std.proofs.Common.{arith, length-append}
 use Rattle.format.specs.Combinators.{dep, via}
 use Rattle.format.specs.Num.{uint, raw}
 use Rattle.format.specs.Put.{then, room-left}
@@ -15,7 +12,7 @@ use Rattle.writer.proofs.encode.put_claims_names.Goals as goal
 -- the length of what is written
 lengths : (x : LostVoterAttestationV1) → length (claims_names.enc (claims_names_of x)) ≡ length ((uint 8).enc x.admission_generation) + length (spiffe_id.enc x.candidate_spiffe_id) + length (spiffe_id.enc x.controller_spiffe_id) + length x.signing_key_digest
 unfolding claims_names via dep raw
-lengths x = omega (arith, length-append ((((uint 8).enc x.admission_generation) ++ spiffe_id.enc x.candidate_spiffe_id) ++ spiffe_id.enc x.controller_spiffe_id) x.signing_key_digest, length-append (((uint 8).enc x.admission_generation) ++ spiffe_id.enc x.candidate_spiffe_id) (spiffe_id.enc x.controller_spiffe_id), length-append ((uint 8).enc x.admission_generation) (spiffe_id.enc x.candidate_spiffe_id))
+lengths x = omega (arith, length-append (((uint 8).enc x.admission_generation ++ spiffe_id.enc x.candidate_spiffe_id) ++ spiffe_id.enc x.controller_spiffe_id) x.signing_key_digest, length-append ((uint 8).enc x.admission_generation ++ spiffe_id.enc x.candidate_spiffe_id) (spiffe_id.enc x.controller_spiffe_id), length-append ((uint 8).enc x.admission_generation) (spiffe_id.enc x.candidate_spiffe_id))
 
 pub put_be-at-requires : goal.put_be-at-requires
 put_be-at-requires c = omega (arith, lengths c.args.claims)

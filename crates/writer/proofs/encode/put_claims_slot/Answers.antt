@@ -1,14 +1,11 @@
 -- `writer::encode::put_claims_slot` meets its contract: one put after the other. Written by scripts/writers.py. Assumes nothing.
-use Prim.Native.Nat.{◌+◌}
-use native.Mathlib.Omega.{arith}
-use mathlib.Core.Path.{◌≡◌}
-use mathlib.Core.List.{◌++◌}
-use lib.ListN.{length, length-append}
+use Rattle.std.specs.Prelude.{◌+◌, ◌≡◌, ◌++◌, length}
+use Rattle.std.proofs.Common.{arith, length-append}
 use Rattle.format.specs.Combinators.{dep, via}
 use Rattle.format.specs.Num.{raw}
 use Rattle.format.specs.Put.{then, room-left}
 use Rattle.layout.specs.Parts.{claims_slot_of}
-use Rattle.layout.specs.Layout.{incarnation, identity, slot, claims_slot}
+use Rattle.layout.specs.Layout.{identity, claims_slot}
 use Rattle.records.specs.declared.records.LostVoterAttestationV1.{LostVoterAttestationV1}
 use Rattle.writer.proofs.encode.put_claims_slot.Goals as goal
 

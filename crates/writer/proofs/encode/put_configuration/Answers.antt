@@ -1,9 +1,6 @@
 -- `writer::encode::put_configuration` meets its contract: one put after the other. Written by scripts/writers.py. Assumes nothing.
-use Prim.Native.Nat.{◌+◌}
-use native.Mathlib.Omega.{arith}
-use mathlib.Core.Path.{◌≡◌}
-use mathlib.Core.List.{◌++◌}
-use lib.ListN.{length, length-append}
+use Rattle.std.specs.Prelude.{◌+◌, ◌≡◌, ◌++◌, length}
+use Rattle.std.proofs.Common.{arith, length-append}
 use Rattle.format.specs.Combinators.{dep, via, check}
 use Rattle.format.specs.Num.{uint}
 use Rattle.format.specs.Put.{then, room-left}
@@ -14,7 +11,7 @@ use Rattle.writer.proofs.encode.put_configuration.Goals as goal
 -- the length of what is written
 lengths : (x : VoterConfiguration) → length (configuration.enc x) ≡ length ((uint 8).enc x.epoch) + length ((uint 1).enc x.count) + length ((members x.count).enc x.members)
 unfolding configuration epoch slot_count via dep check
-lengths x = omega (arith, length-append (((uint 8).enc x.epoch) ++ (uint 1).enc x.count) ((members x.count).enc x.members), length-append ((uint 8).enc x.epoch) ((uint 1).enc x.count))
+lengths x = omega (arith, length-append ((uint 8).enc x.epoch ++ (uint 1).enc x.count) ((members x.count).enc x.members), length-append ((uint 8).enc x.epoch) ((uint 1).enc x.count))
 
 pub put_be-at-requires : goal.put_be-at-requires
 put_be-at-requires c = omega (arith, lengths c.args.configuration)

@@ -1,9 +1,6 @@
 -- `writer::encode::put_evidence` meets its contract: one put after the other. Written by scripts/writers.py. Assumes nothing.
-use Prim.Native.Nat.{◌+◌}
-use native.Mathlib.Omega.{arith}
-use mathlib.Core.Path.{◌≡◌, ap}
-use mathlib.Core.List.{◌++◌}
-use lib.ListN.{length, length-append}
+use Rattle.std.specs.Prelude.{◌+◌, ◌≡◌, ◌++◌, length}
+use Rattle.std.proofs.Common.{arith, ap, length-append}
 use Rattle.format.specs.Combinators.{dep, via}
 use Rattle.format.specs.List.{opt}
 use Rattle.format.specs.Put.{then, room-left}
@@ -17,7 +14,7 @@ use Rattle.writer.proofs.encode.put_evidence.Goals as goal
 -- the length of what is written
 lengths : (x : VoterReplacementEvidence) → length (evidence.enc x) ≡ length (log_id.enc x.prepare) + length ((opt snapshot blank_voter_snapshot_evidence).enc (x.has_snapshot, x.snapshot)) + length (three_cuts.enc (early_cuts x)) + length (three_cuts.enc (late_cuts x))
 unfolding evidence via dep
-lengths x = omega (arith, length-append (((log_id.enc x.prepare) ++ (opt snapshot blank_voter_snapshot_evidence).enc (x.has_snapshot, x.snapshot)) ++ three_cuts.enc (early_cuts x)) (three_cuts.enc (late_cuts x)), length-append ((log_id.enc x.prepare) ++ (opt snapshot blank_voter_snapshot_evidence).enc (x.has_snapshot, x.snapshot)) (three_cuts.enc (early_cuts x)), length-append (log_id.enc x.prepare) ((opt snapshot blank_voter_snapshot_evidence).enc (x.has_snapshot, x.snapshot)))
+lengths x = omega (arith, length-append ((log_id.enc x.prepare ++ (opt snapshot blank_voter_snapshot_evidence).enc (x.has_snapshot, x.snapshot)) ++ three_cuts.enc (early_cuts x)) (three_cuts.enc (late_cuts x)), length-append (log_id.enc x.prepare ++ (opt snapshot blank_voter_snapshot_evidence).enc (x.has_snapshot, x.snapshot)) (three_cuts.enc (early_cuts x)), length-append (log_id.enc x.prepare) ((opt snapshot blank_voter_snapshot_evidence).enc (x.has_snapshot, x.snapshot)))
 
 pub put_log_id-at-requires : goal.put_log_id-at-requires
 put_log_id-at-requires c = omega (arith, lengths c.args.evidence)

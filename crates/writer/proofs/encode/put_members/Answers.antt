@@ -1,9 +1,6 @@
 -- `writer::encode::put_members` meets its contract: what is written so far are the places passed. Written by scripts/writers.py. Assumes nothing.
-use Prim.Native.Nat.{ℕ, ◌+◌, ◌≤◌, ◌<◌}
-use native.Mathlib.Omega.{arith}
-use mathlib.Core.Path.{◌≡◌, refl, sym, ap, ◌∙◌}
-use mathlib.Core.List.{List, ◌++◌}
-use lib.ListN.{length, get_or}
+use Rattle.std.specs.Prelude.{ℕ, ◌+◌, ◌≤◌, ◌<◌, ◌≡◌, refl, List, ◌++◌, length, get_or}
+use Rattle.std.proofs.Common.{arith, sym, ap, ◌∙◌}
 use Rattle.format.specs.Put.{then, room, length-put, put-nothing}
 use Rattle.records.specs.Blank.{blank_voter_slot_member}
 use Rattle.records.specs.Records.{no_member}

@@ -1,5 +1,5 @@
 -- `writer::encode::put_optional_snapshot` meets its contract: the flag, and after a yes the value. Written by scripts/writers.py. Assumes nothing.
-use mathlib.Core.Path.{sym}
+use Rattle.std.proofs.Common.{sym}
 use Rattle.format.specs.Put.{then, room, room-left}
 use Rattle.records.specs.Blank.{blank_voter_snapshot_evidence}
 use Rattle.layout.specs.Layout.{snapshot}

@@ -1,9 +1,6 @@
 -- `writer::encode::put_replacement` meets its contract: one put after the other. Written by scripts/writers.py. Assumes nothing.
-use Prim.Native.Nat.{◌+◌}
-use native.Mathlib.Omega.{arith}
-use mathlib.Core.Path.{◌≡◌}
-use mathlib.Core.List.{◌++◌}
-use lib.ListN.{length, length-append}
+use Rattle.std.specs.Prelude.{◌+◌, ◌≡◌, ◌++◌, length}
+use Rattle.std.proofs.Common.{arith, length-append}
 use Rattle.format.specs.Combinators.{dep, via}
 use Rattle.format.specs.Num.{uint}
 use Rattle.format.specs.Put.{then, room-left}
@@ -16,7 +13,7 @@ use Rattle.writer.proofs.encode.put_replacement.Goals as goal
 -- the length of what is written
 lengths : (x : VoterReplacementRecord) → length (replacement.enc x) ≡ length ((uint 8).enc x.expected_revision) + length ((boxed attestation 8192).enc x.attestation) + length (change.enc (change_of x)) + length (evidence.enc x.evidence)
 unfolding replacement via dep
-lengths x = omega (arith, length-append ((((uint 8).enc x.expected_revision) ++ (boxed attestation 8192).enc x.attestation) ++ change.enc (change_of x)) (evidence.enc x.evidence), length-append (((uint 8).enc x.expected_revision) ++ (boxed attestation 8192).enc x.attestation) (change.enc (change_of x)), length-append ((uint 8).enc x.expected_revision) ((boxed attestation 8192).enc x.attestation))
+lengths x = omega (arith, length-append (((uint 8).enc x.expected_revision ++ (boxed attestation 8192).enc x.attestation) ++ change.enc (change_of x)) (evidence.enc x.evidence), length-append ((uint 8).enc x.expected_revision ++ (boxed attestation 8192).enc x.attestation) (change.enc (change_of x)), length-append ((uint 8).enc x.expected_revision) ((boxed attestation 8192).enc x.attestation))
 
 pub put_be-at-requires : goal.put_be-at-requires
 put_be-at-requires c = omega (arith, lengths c.args.operation)

@@ -1,9 +1,6 @@
 -- `writer::encode::put_result` meets its contract: one put after the other. Written by scripts/writers.py. Assumes nothing.
-use Prim.Native.Nat.{◌+◌}
-use native.Mathlib.Omega.{arith}
-use mathlib.Core.Path.{◌≡◌}
-use mathlib.Core.List.{◌++◌}
-use lib.ListN.{length, length-append}
+use Rattle.std.specs.Prelude.{◌+◌, ◌≡◌, ◌++◌, length}
+use Rattle.std.proofs.Common.{arith, length-append}
 use Rattle.format.specs.Combinators.{dep, via, check}
 use Rattle.format.specs.Num.{uint}
 use Rattle.format.specs.Put.{then, room-left}
@@ -15,7 +12,7 @@ use Rattle.writer.proofs.encode.put_result.Goals as goal
 -- the length of what is written
 lengths : (x : VoterReplacementResult) → length (replacement_result.enc x) ≡ length (result_head.enc (result_head_of x)) + length ((uint 8).enc x.configuration_epoch) + length ((uint 1).enc x.kind) + length (log_id.enc x.terminal)
 unfolding replacement_result epoch choice via dep check
-lengths x = omega (arith, length-append (((result_head.enc (result_head_of x)) ++ (uint 8).enc x.configuration_epoch) ++ (uint 1).enc x.kind) (log_id.enc x.terminal), length-append ((result_head.enc (result_head_of x)) ++ (uint 8).enc x.configuration_epoch) ((uint 1).enc x.kind), length-append (result_head.enc (result_head_of x)) ((uint 8).enc x.configuration_epoch))
+lengths x = omega (arith, length-append ((result_head.enc (result_head_of x) ++ (uint 8).enc x.configuration_epoch) ++ (uint 1).enc x.kind) (log_id.enc x.terminal), length-append (result_head.enc (result_head_of x) ++ (uint 8).enc x.configuration_epoch) ((uint 1).enc x.kind), length-append (result_head.enc (result_head_of x)) ((uint 8).enc x.configuration_epoch))
 
 pub put_result_head-at-requires : goal.put_result_head-at-requires
 put_result_head-at-requires c = omega (arith, lengths c.args.res)

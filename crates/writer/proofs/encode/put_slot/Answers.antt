@@ -1,9 +1,6 @@
 -- `writer::encode::put_slot` meets its contract: one put after the other. Written by scripts/writers.py. Assumes nothing.
-use Prim.Native.Nat.{◌+◌}
-use native.Mathlib.Omega.{arith}
-use mathlib.Core.Path.{◌≡◌}
-use mathlib.Core.List.{◌++◌}
-use lib.ListN.{length, length-append}
+use Rattle.std.specs.Prelude.{◌+◌, ◌≡◌, ◌++◌, length}
+use Rattle.std.proofs.Common.{arith, length-append}
 use Rattle.format.specs.Combinators.{dep, via, check}
 use Rattle.format.specs.List.{opt}
 use Rattle.format.specs.Num.{uint}
@@ -17,7 +14,7 @@ use Rattle.writer.proofs.encode.put_slot.Goals as goal
 -- the length of what is written
 lengths : (x : VoterSlotRecord) → length (slot.enc x) ≡ length (slot_member.enc (slot_member_of x)) + length ((uint 1).enc x.phase) + length ((opt replacement_result blank_voter_replacement_result).enc (x.has_last_result, x.last_result))
 unfolding slot choice via dep check
-lengths x = omega (arith, length-append ((slot_member.enc (slot_member_of x)) ++ (uint 1).enc x.phase) ((opt replacement_result blank_voter_replacement_result).enc (x.has_last_result, x.last_result)), length-append (slot_member.enc (slot_member_of x)) ((uint 1).enc x.phase))
+lengths x = omega (arith, length-append (slot_member.enc (slot_member_of x) ++ (uint 1).enc x.phase) ((opt replacement_result blank_voter_replacement_result).enc (x.has_last_result, x.last_result)), length-append (slot_member.enc (slot_member_of x)) ((uint 1).enc x.phase))
 
 pub put_slot_member-at-requires : goal.put_slot_member-at-requires
 put_slot_member-at-requires c = omega (arith, lengths c.args.slot)

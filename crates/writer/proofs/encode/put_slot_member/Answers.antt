@@ -1,9 +1,6 @@
 -- `writer::encode::put_slot_member` meets its contract: one put after the other. Written by scripts/writers.py. Assumes nothing.
-use Prim.Native.Nat.{◌+◌}
-use native.Mathlib.Omega.{arith}
-use mathlib.Core.Path.{◌≡◌}
-use mathlib.Core.List.{◌++◌}
-use lib.ListN.{length, length-append}
+use Rattle.std.specs.Prelude.{◌+◌, ◌≡◌, ◌++◌, length}
+use Rattle.std.proofs.Common.{arith, length-append}
 use Rattle.format.specs.Combinators.{dep, via}
 use Rattle.format.specs.Num.{uint}
 use Rattle.format.specs.Put.{then, room-left}
@@ -15,7 +12,7 @@ use Rattle.writer.proofs.encode.put_slot_member.Goals as goal
 -- the length of what is written
 lengths : (x : VoterSlotRecord) → length (slot_member.enc (slot_member_of x)) ≡ length (identity.enc x.member.identity) + length ((uint 8).enc x.retired_through) + length (binding.enc (binding_of x.member))
 unfolding slot_member via dep
-lengths x = omega (arith, length-append ((identity.enc x.member.identity) ++ (uint 8).enc x.retired_through) (binding.enc (binding_of x.member)), length-append (identity.enc x.member.identity) ((uint 8).enc x.retired_through))
+lengths x = omega (arith, length-append (identity.enc x.member.identity ++ (uint 8).enc x.retired_through) (binding.enc (binding_of x.member)), length-append (identity.enc x.member.identity) ((uint 8).enc x.retired_through))
 
 pub put_identity-at-requires : goal.put_identity-at-requires
 put_identity-at-requires c = omega (arith, lengths c.args.slot)

@@ -1,9 +1,6 @@
 -- `writer::encode::put_snapshot` meets its contract: one put after the other. Written by scripts/writers.py. Assumes nothing.
-use Prim.Native.Nat.{◌+◌}
-use native.Mathlib.Omega.{arith}
-use mathlib.Core.Path.{◌≡◌}
-use mathlib.Core.List.{◌++◌}
-use lib.ListN.{length, length-append}
+use Rattle.std.specs.Prelude.{◌+◌, ◌≡◌, ◌++◌, length}
+use Rattle.std.proofs.Common.{arith, length-append}
 use Rattle.format.specs.Combinators.{dep, via}
 use Rattle.format.specs.Num.{raw}
 use Rattle.format.specs.Put.{then, room-left}
@@ -14,7 +11,7 @@ use Rattle.writer.proofs.encode.put_snapshot.Goals as goal
 -- the length of what is written
 lengths : (x : VoterSnapshotEvidence) → length (snapshot.enc x) ≡ length (log_id.enc x.cut) + length (snapshot_id.enc x.snapshot_id) + length x.digest
 unfolding snapshot via dep raw
-lengths x = omega (arith, length-append ((log_id.enc x.cut) ++ snapshot_id.enc x.snapshot_id) x.digest, length-append (log_id.enc x.cut) (snapshot_id.enc x.snapshot_id))
+lengths x = omega (arith, length-append (log_id.enc x.cut ++ snapshot_id.enc x.snapshot_id) x.digest, length-append (log_id.enc x.cut) (snapshot_id.enc x.snapshot_id))
 
 pub put_log_id-at-requires : goal.put_log_id-at-requires
 put_log_id-at-requires c = omega (arith, lengths c.args.snapshot)

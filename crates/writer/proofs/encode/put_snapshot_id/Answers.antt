@@ -1,9 +1,6 @@
 -- `writer::encode::put_snapshot_id` meets its contract: one put after the other. Written by scripts/writers.py. Assumes nothing.
-use Prim.Native.Nat.{◌+◌}
-use native.Mathlib.Omega.{arith}
-use mathlib.Core.Path.{◌≡◌, sym}
-use lib.ListN.{length, take, length-append}
-use lib.Seq.{length-take-le}
+use Rattle.std.specs.Prelude.{◌+◌, ◌≡◌, length, take}
+use Rattle.std.proofs.Common.{arith, sym, length-append, length-take-le}
 use Rattle.format.specs.Combinators.{dep, via, check}
 use Rattle.format.specs.Num.{uint, raw}
 use Rattle.format.specs.Put.{then}

@@ -1,9 +1,6 @@
 -- `writer::encode::put_table` meets its contract: one put after the other. Written by scripts/writers.py. Assumes nothing.
-use Prim.Native.Nat.{◌+◌}
-use native.Mathlib.Omega.{arith}
-use mathlib.Core.Path.{◌≡◌}
-use mathlib.Core.List.{◌++◌}
-use lib.ListN.{length, length-append}
+use Rattle.std.specs.Prelude.{◌+◌, ◌≡◌, ◌++◌, length}
+use Rattle.std.proofs.Common.{arith, length-append}
 use Rattle.format.specs.Combinators.{dep, via, check}
 use Rattle.format.specs.List.{opt}
 use Rattle.format.specs.Num.{uint}
@@ -17,7 +14,7 @@ use Rattle.writer.proofs.encode.put_table.Goals as goal
 -- the length of what is written
 lengths : (x : VoterSlotTable) → length (table.enc x) ≡ length (magic_and_version.enc tt) + length (table_head.enc (table_head_of x)) + length ((uint 1).enc x.count) + length ((slots x.count).enc x.slots) + length ((opt replacement blank_voter_replacement_record).enc (x.has_replacement, x.replacement))
 unfolding table slot_count via dep check
-lengths x = omega (arith, length-append ((((magic_and_version.enc tt) ++ table_head.enc (table_head_of x)) ++ (uint 1).enc x.count) ++ (slots x.count).enc x.slots) ((opt replacement blank_voter_replacement_record).enc (x.has_replacement, x.replacement)), length-append (((magic_and_version.enc tt) ++ table_head.enc (table_head_of x)) ++ (uint 1).enc x.count) ((slots x.count).enc x.slots), length-append ((magic_and_version.enc tt) ++ table_head.enc (table_head_of x)) ((uint 1).enc x.count), length-append (magic_and_version.enc tt) (table_head.enc (table_head_of x)))
+lengths x = omega (arith, length-append (((magic_and_version.enc tt ++ table_head.enc (table_head_of x)) ++ (uint 1).enc x.count) ++ (slots x.count).enc x.slots) ((opt replacement blank_voter_replacement_record).enc (x.has_replacement, x.replacement)), length-append ((magic_and_version.enc tt ++ table_head.enc (table_head_of x)) ++ (uint 1).enc x.count) ((slots x.count).enc x.slots), length-append (magic_and_version.enc tt ++ table_head.enc (table_head_of x)) ((uint 1).enc x.count), length-append (magic_and_version.enc tt) (table_head.enc (table_head_of x)))
 
 pub put_head-at-requires : goal.put_head-at-requires
 put_head-at-requires c = omega (arith, lengths c.args.table)

@@ -1,9 +1,6 @@
 -- `writer::encode::put_times` meets its contract: one put after the other. Written by scripts/writers.py. Assumes nothing.
-use Prim.Native.Nat.{◌+◌}
-use native.Mathlib.Omega.{arith}
-use mathlib.Core.Path.{◌≡◌}
-use mathlib.Core.List.{◌++◌}
-use lib.ListN.{length, length-append}
+use Rattle.std.specs.Prelude.{◌+◌, ◌≡◌, ◌++◌, length}
+use Rattle.std.proofs.Common.{arith, length-append}
 use Rattle.format.specs.Combinators.{dep, via}
 use Rattle.format.specs.Num.{uint}
 use Rattle.format.specs.Put.{then, room-left}
@@ -15,7 +12,7 @@ use Rattle.writer.proofs.encode.put_times.Goals as goal
 -- the length of what is written
 lengths : (x : LostVoterAttestationV1) → length (times.enc (times_of x)) ≡ length ((uint 8).enc x.observation_start_ms) + length ((uint 8).enc x.decision_ms) + length ((uint 8).enc x.issued_ms) + length ((uint 8).enc x.expires_ms)
 unfolding times via dep
-lengths x = omega (arith, length-append ((((uint 8).enc x.observation_start_ms) ++ (uint 8).enc x.decision_ms) ++ (uint 8).enc x.issued_ms) ((uint 8).enc x.expires_ms), length-append (((uint 8).enc x.observation_start_ms) ++ (uint 8).enc x.decision_ms) ((uint 8).enc x.issued_ms), length-append ((uint 8).enc x.observation_start_ms) ((uint 8).enc x.decision_ms))
+lengths x = omega (arith, length-append (((uint 8).enc x.observation_start_ms ++ (uint 8).enc x.decision_ms) ++ (uint 8).enc x.issued_ms) ((uint 8).enc x.expires_ms), length-append ((uint 8).enc x.observation_start_ms ++ (uint 8).enc x.decision_ms) ((uint 8).enc x.issued_ms), length-append ((uint 8).enc x.observation_start_ms) ((uint 8).enc x.decision_ms))
 
 pub put_be-at-requires : goal.put_be-at-requires
 put_be-at-requires c = omega (arith, lengths c.args.claims)
