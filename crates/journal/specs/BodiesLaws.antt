@@ -10,8 +10,6 @@ use Rattle.std.proofs.lemmas.List.{length-replicate, replicate-append-replicate,
 use Rattle.std.proofs.Math.Seq.{take-append-add}
 use Rattle.std.proofs.Math.Dec.{eqb}
 use borrow.Author.Tests.{le-leb, ltb-true, ltb-false, eqb-true, eqb-false, eq-eqb, ne_eqb}
-use Rattle.identity.specs.Answer.{number_of, is_accepted}
-use Rattle.identity.specs.declared.answer.Answer.{Answer}
 use Rattle.format.specs.Res.{Res, too_large, and_then, no_ok}
 use Rattle.format.specs.Res.Res.{ok, no}
 use Rattle.format.specs.Combinators.{Codec, Bytes, check, dep, via, dec_seq, dec_map, map-ok, map-no, mapped, always, checked-ok, checked-no, dep-ok, dep-no-1, dep-no-2, via-ok, via-no}
@@ -21,30 +19,27 @@ use Rattle.format.specs.List.{either}
 use Rattle.format.specs.Num.{uint, raw, raw-got, raw-not, pick}
 use Rattle.format.specs.Put.{put}
 use Rattle.format.specs.Through.{whole, whole-no, whole-by-count}
-use Rattle.records.specs.Blank.{blank_lost_voter_attestation_v1, blank_snapshot_id, blank_voter_slot_log_id, blank_voter_snapshot_evidence}
+use Rattle.records.specs.Blank.{blank_snapshot_id, blank_voter_slot_log_id, blank_voter_snapshot_evidence}
 use Rattle.records.specs.declared.records.SnapshotId.{SnapshotId}
 use Rattle.records.specs.declared.records.VoterSlotLogId.{VoterSlotLogId}
 use Rattle.records.specs.declared.records.VoterSnapshotEvidence.{VoterSnapshotEvidence}
-use Rattle.records.specs.declared.records.LostVoterAttestationV1.{LostVoterAttestationV1}
 use Rattle.layout.specs.Layout.{sized, choice, log_id}
 use Rattle.layout.specs.Reading.{report, outcome}
 use Rattle.layout.specs.ReadingLaws.{told, told-not}
 use Rattle.layout.specs.declared.reading.Extent.{Extent}
 use Rattle.layout.specs.declared.reading.Extent.TheVariants as reading
-use Rattle.codec.specs.Codec.{decoded, decode_lost_voter_attestation}
 use Rattle.control.specs.Blank.{blank_voter_replacement_step}
 use Rattle.control.specs.Control.{record_snapshot_kind, record_caught_up_kind, finalize_kind}
-use Rattle.control.specs.declared.begin.VoterBegin.{VoterBegin}
 use Rattle.control.specs.declared.control.VoterReplacementStep.{VoterReplacementStep}
 use Rattle.journal.specs.declared.bodies.BeginHead.{BeginHead}
 use Rattle.journal.specs.declared.bodies.MarkerBody.{MarkerBody}
 use Rattle.journal.specs.declared.replay.Mark.TheVariants.{Ad, Bg}
-use Rattle.journal.specs.Bodies.{is_whole, partless, advance_by, begin_by, supplied_body, attested_asking}
+use Rattle.journal.specs.Bodies.{is_whole, partless, advance_by, supplied_body, attested_asking}
 use Rattle.journal.specs.Records.{sized_bytes, marker_body, no_snapshot_part, snapshot_part, step_body, advance_body, begin_head, begin_body}
-use Rattle.journal.specs.RefusalLaws.{number, attestation-refused}
-use Rattle.journal.specs.Replay.{Asked, Asking, asking, formed, attested, snapshot_id_of, snapshot_of, step_of, advance_of, advance_control, advance_asked, begin_control, begin_of, begin_asked}
+use Rattle.journal.specs.RefusalLaws.{number}
+use Rattle.journal.specs.Replay.{Asking, asking, formed, snapshot_id_of, snapshot_of, step_of, advance_of, advance_control, advance_asked}
 use Rattle.journal.specs.Replay.Asked.{command}
-use Rattle.journal.specs.Replay.Asking.{bad, refused, asks}
+use Rattle.journal.specs.Replay.Asking.{bad, asks}
 
 -- ---- a form and what is made of its value
 
@@ -306,32 +301,3 @@ module _ (bs : List ℕ) where
 pub supplied-read : (s : List ℕ) {r : Res (Unit {0})} {v : List ℕ} → 32 ≤ length s → ◌≡◌ {A = Res (Unit {0}) × List ℕ} (r, v) (outcome (zeros 32) ((raw 32).dec s)) → v ≡ take 32 s
 unfolding outcome
 supplied-read s h e = ap (λ p. p.1) (e ∙ ap (outcome (zeros 32)) (raw-got 32 s h))
-
--- what the attestation's reader answers: a refusal, or the Begin
-module _ (head : BeginHead) (bs supplied : List ℕ) (answer : Answer) (v : LostVoterAttestationV1) where
-  abbrev next : LostVoterAttestationV1 → Asked
-  next = begin_asked (supplied_body head bs supplied)
-
-  abbrev Answers : Res LostVoterAttestationV1 → Type 0
-  Answers x = ◌≡◌ {A = ℕ × LostVoterAttestationV1} (number_of answer, v) (decoded blank_lost_voter_attestation_v1 x)
-
-  refused-by-number : (x : Res LostVoterAttestationV1) → Answers x → is_accepted answer ≡ false → refused (number_of answer) ≡ attested x next
-  unfolding attested decoded
-  refused-by-number (ok a n) e f = absurd (eqb-false (number_of answer) 0 f (ap (λ p. p.0) e))
-  refused-by-number (no k) e f = ap refused (ap (λ p. p.0) e)
-
-  pub attested-refused : Answers (decode_lost_voter_attestation bs) → is_accepted answer ≡ false → refused (number_of answer) ≡ attested_asking (supplied_body head bs supplied)
-  attested-refused e f = refused-by-number (decode_lost_voter_attestation bs) e f
-
-  asks-by-number : (x : Res LostVoterAttestationV1) → Answers x → is_accepted answer ≡ true → (x ≡ no 0 → ⊥) → asks (next v) ≡ attested x next
-  unfolding attested decoded
-  asks-by-number (ok a n) e f never = ap (λ p. asks (next p.1)) e
-  asks-by-number (no k) e f never = absurd (never (ap no (sym (ap (λ p. p.0) e) ∙ eqb-true (number_of answer) 0 f)))
-
-  pub attested-asks : {b : VoterBegin} {digest configuration : List ℕ} → b ≡ begin_by head v digest configuration → digest ≡ take 32 supplied → configuration ≡ take 32 (drop 32 supplied)
-      → Answers (decode_lost_voter_attestation bs) → is_accepted answer ≡ true → asks (command (begin_control b.request) b.cut) ≡ attested_asking (supplied_body head bs supplied)
-  unfolding begin_asked begin_of
-  attested-asks p q r e f =
-      ap (λ b. asks (command (begin_control b.request) b.cut)) p
-      ∙ ap₂ (λ digest configuration. asks (command (begin_control (begin_by head v digest configuration).request) head.cut)) q r
-      ∙ asks-by-number (decode_lost_voter_attestation bs) e f (attestation-refused bs)

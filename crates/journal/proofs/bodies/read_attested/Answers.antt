@@ -8,7 +8,8 @@ use Rattle.format.specs.Num.{raw}
 use Rattle.records.specs.ValidationLaws.{failed, held}
 use Rattle.layout.specs.Reading.{outcome}
 use Rattle.journal.specs.Bodies.{begin_asking_by}
-use Rattle.journal.specs.BodiesLaws.{attested-refused, attested-asks, supplied-read}
+use Rattle.journal.specs.BodiesLaws.{supplied-read}
+use Rattle.journal.proofs.Attested.{attested-refused, attested-asks}
 use Rattle.journal.proofs.bodies.read_attested.Goals as goal
 use Rattle.journal.proofs.bodies.read_attested.Goals.{After-decode_lost_voter_attestation-decoded, After-read_array32-digest_read, Else-not-accepted}
 
