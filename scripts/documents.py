@@ -21,8 +21,8 @@ import sys
 PAGES = ['README.md', 'fuzz/README.md'] + sorted(page for page in glob.glob('docs/*.md') + glob.glob('oracle/*.md') if page != 'docs/01-scope.md')
 LINE, PARAGRAPH = 100, 6
 ENDINGS = ('.antt', '.rt', '.rs', '.py', '.md', '.txt', '.log', '.lines', '.h', '.c', '.edit', '.svg', '.toml')
-# Files of the original, which are named as document 01 names them, and one that the kit writes.
-ELSEWHERE = {'validation.rs', 'control.rs', 'codec.rs', 'identity.rs', 'records.rs', 'mod.rs', 'Lts.antt'}
+# Files of the original, which are named as document 01 names them, and some of the kit.
+ELSEWHERE = {'validation.rs', 'control.rs', 'codec.rs', 'identity.rs', 'records.rs', 'mod.rs', 'port.py'}
 faults = []
 
 
@@ -71,7 +71,7 @@ def review(page):
 def promises(page):
     """Each name stands in the crates."""
     words = set()
-    for path in glob.glob('crates/*/s[rp]*/**/*.[ar]*', recursive=True):
+    for path in glob.glob('crates/*/s[rp]*/**/*.[ar]*', recursive=True) + glob.glob('crates/*/proofs/*.antt'):
         words.update(re.findall(r"[^\s(){}\[\],;:.«»\"]+", read(path)))
     for number, line in enumerate(read(page).split('\n'), 1):
         for name in quoted(line):

@@ -4,18 +4,19 @@ scripts/readers.py makes the proofs of `read_RECORD` of this list, and scripts/w
 `put_RECORD`. A field is its name and its kind: a number (u64, count ..), bytes as they stand
 (array32 ..), a choice among small numbers (kind, phase ..), a mark (version, head), another record
 or group (binding ..), so many places as were counted (members, slots), or an optional part
-(optional_result ..). How both scripts name formats, needs and places is at the end.
+(optional_result ..). What else both scripts share is at the end.
 """
+import re
 
 # The format of a kind whose name is not the kind's
 FORMATS = {
-    "u64": "uint 8", "u16": "uint 2", "count": "slotCount",
+    "u64": "uint 8", "u16": "uint 2", "count": "slot_count", "result": "replacement_result",
     "array16": "raw 16", "array32": "raw 32", "array64": "raw 64",
     "kind": "choice 0 1", "phase": "choice 0 2", "reason": "choice 1 2", "step": "choice 0 6",
-    "head": "magicAndVersion",
-    "optional_result": "opt result blankVoterReplacementResult",
-    "optional_snapshot": "opt snapshot blankVoterSnapshotEvidence",
-    "optional_replacement": "opt replacement blankVoterReplacementRecord",
+    "head": "magic_and_version",
+    "optional_result": "opt replacement_result blank_voter_replacement_result",
+    "optional_snapshot": "opt snapshot blank_voter_snapshot_evidence",
+    "optional_replacement": "opt replacement blank_voter_replacement_record",
     "boxed_attestation": "boxed attestation 8192",
 }
 
@@ -54,22 +55,23 @@ FIELDS = {
 FIELDS["table"] = FIELDS["table_front"] + [("replacement", "optional_replacement")]
 
 
-def camel(name):
-    """A name as the definitions have it: `resultHead` of `result_head`."""
-    first, *more = name.split("_")
-    return first + "".join(word.capitalize() for word in more)
-
-
-def kebab(name):
-    """A name as the needs of a proof have it: `result-head` of `result_head`."""
-    return name.replace("_", "-")
-
-
-def back(steps):
-    """The place of a walk that is so many steps before c."""
-    return " ".join(["c"] + [".before"] * steps)
-
-
 def format_of(kind):
     """The format of a kind."""
-    return FORMATS.get(kind, camel(kind))
+    return FORMATS.get(kind, kind)
+
+
+def par(text):
+    """A term as an argument."""
+    return f"({text})" if " " in text else text
+
+
+def used(homes, body):
+    """The `use` lines of the names that a body has: homes says which module has which names. A
+    field is none of them, neither projected (`c.result`) nor given (`record { slot = .. }`)."""
+    words = set(re.findall(r"[^\s(){},;.]+", re.sub(r"(?<=[\w)])\.[\w-]+|(?<=[{;] )\w+ = ", " ", body)))
+    lines = []
+    for home, names in homes.items():
+        named = [name for name in names.split() if name.replace("◌", "") in words]
+        if named:
+            lines.append(f"use {home}.{{{', '.join(named)}}}")
+    return lines

@@ -436,7 +436,7 @@ def refused_by_compiler(source, said, mutants):
         text, tokens = source.texts[m.f.path]
         first = text.count('\n', 0, tokens[m.f.body[0] - 1].at) + 1
         last = text.count('\n', 0, tokens[m.f.body[1]].at) + 1
-        for n in re.findall(re.escape(m.f.path.split('/', 1)[1]) + r':(\d+):\d+', said):
+        for n in re.findall(r'(?<![\w/])(?:\./)?' + re.escape(m.f.path.split('/', 2)[2]) + r':(\d+):\d+: error', said):
             if first <= int(n) <= last:
                 found.append(m)
                 break
@@ -501,7 +501,7 @@ def run_crate(room, source, crate, plan):
         through = [m for m in results if m.verdict == 'let through']
         print(f'{crate}: part {n + 1} of {len(rows)}, {passed} of {len(queue)} mutants judged, {len(through)} let through '
               f'({checks} checks, {took:.0f} s)', flush=True)
-    rename(room, source, crate, [m for m in results if m.verdict == 'shape' and m.kind == 'function' and not by_hand(m.f)])
+    rename(room, source, crate, [m for m in results if m.verdict == 'shape' and not by_hand(m.f)])
     save(source, crate, results)
     confirm(room, source, crate, through)
     for n, m in enumerate(through):
@@ -511,8 +511,8 @@ def run_crate(room, source, crate, plan):
 
 
 def rename(room, source, crate, mutants):
-    """Where another function is called and the proof only lacks its name: the same again, with that
-    name in the proof."""
+    """Where the proof only lacks a name that the change brings, of the function that is called now or
+    of a goal: the same again, with that name in the proof."""
     while mutants:
         row = list({m.f.full: m for m in reversed(mutants)}.values())
         mutants = [m for m in mutants if m not in row]
@@ -520,17 +520,20 @@ def rename(room, source, crate, mutants):
         proofs = {path: read(path) for folder in folders.values() for path in (folder + 'Answers.antt', folder + 'Invariants.antt') if os.path.exists(path)}
         room.write(applied(source, row))
         for m in row:
-            room.write({path: re.sub(rf'(?<!\w){m.old}(?!\w)', m.new, text) for path, text in proofs.items() if os.path.dirname(path) + '/' == folders[m.f.full]})
+            mine = {path: text for path, text in proofs.items() if os.path.dirname(path) + '/' == folders[m.f.full]}
+            room.write({path: re.sub(rf'(?<!\w){re.escape(m.old)}(?!\w)', m.new, text) if m.kind == 'function' else text for path, text in mine.items()})
         said, _, took = room.check(crate, f'{crate}.renamed')
+        others = [m.f for m in row if m.kind != 'function']
+        by_name = room.check_by_name(crate, f'{crate}.renamed', others, said) if others else None
         room.write({**originals(source, row), **proofs})
         for m in row:
-            m.verdict, m.why = judge(said, m.f)
+            m.verdict, m.why = judge(by_name if by_name and m.kind != 'function' else said, m.f)
             if m.verdict in ('fact', 'shape and fact'):
-                m.verdict, m.why = 'shape and fact', 'with its name in the proof: ' + m.why
+                m.verdict, m.why = 'shape and fact', 'with the new name in the proof: ' + m.why
             else:
-                m.why = f'with its name in the proof: {m.verdict} {m.why}'
+                m.why = f'with the new name in the proof: {m.verdict} {m.why}'
                 m.verdict = 'shape'
-        print(f"{crate}: {len(row)} with the called function's name in the proof, a fact fails for "
+        print(f"{crate}: {len(row)} with the new names in the proof, a fact fails for "
               f"{sum(m.verdict == 'shape and fact' for m in row)} ({took:.0f} s)", flush=True)
 
 

@@ -1,11 +1,11 @@
 #!/usr/bin/env python3
-"""Names the places before a need of a proof, with the steps back: scripts/places.py CRATE
-MODULE/FUNCTION:NEED ..
+"""Says what can be named in the answer to a goal: scripts/places.py CRATE MODULE/FUNCTION:GOAL ..
 
-A need is named as in the proof file (`returns`, `returns-2`, `callee-requires`). For each it prints
-how many `.before` lead to which place (`After-callee`, `Then1`, `Start`). It adds probes to the
-proof files, checks, reads the refusals and puts the files back; what else is refused is printed
-too. Run it from the repository's root.
+A goal is named as in the answers' file (`returns`, `returns-then-starts_with`). For each it prints
+what is to be proved, and the names by the steps that lead there (`c.starts_with: .result, .ensures`).
+It puts a hole in place of the answer, or adds one, checks that function, reads what `rt check` says
+of the hole, and puts the file back; what is refused besides is printed too. Run it from the
+repository's root.
 """
 import os
 import re
@@ -13,33 +13,39 @@ import subprocess
 import sys
 
 if len(sys.argv) < 3:
-    sys.exit("usage: scripts/places.py CRATE MODULE/FUNCTION:NEED ..")
+    sys.exit("usage: scripts/places.py CRATE MODULE/FUNCTION:GOAL ..")
 crate = sys.argv[1]
-old = {}
+old, flags = {}, []
 try:
     for item in sys.argv[2:]:
-        function, need = item.split(":")
-        path = f"crates/{crate}/proofs/{function}/Proof.antt"
-        if path not in old:
+        function, goal = item.split(":")
+        path = f"crates/{crate}/proofs/{function}/Answers.antt"
+        text = ""
+        if os.path.exists(path):
             with open(path, encoding="utf-8") as file:
-                old[path] = file.read()
-        name = "probe" + need.replace("-", "")
-        variables = "c κs" if "requires" in need else "c"
-        with open(path, "a", encoding="utf-8") as file:
-            for k in range(26):
-                file.write(f"\n{name}x{k} : tie.Need-{need}\n{name}x{k} {variables} = c{' .before' * k} .zzz\n")
-    run = subprocess.run(["rt", "dev", crate, "--allow-holes"], capture_output=True, text=True, errors="replace", env={**os.environ, "RT_CUT": "0"})
-finally:
-    for path, text in old.items():
+                text = file.read()
+        if path not in old:
+            old[path] = text
+        answer = re.compile(rf"^((?:pub )?{re.escape(goal)} : goal\.{re.escape(goal)}\n)(?:.*\n)*?(?=\n|\Z)", re.M)
+        hole = f"{goal} c = ?\n"
+        opened = f"use Rattle.{crate}.proofs.{function.replace('/', '.')}.Goals as goal\n"
+        if answer.search(text):
+            text = answer.sub(lambda m: m[1] + hole, text, count=1)
+        else:
+            text += ("" if "Goals as goal" in text else opened) + f"\npub {goal} : goal.{goal}\n{hole}"
         with open(path, "w", encoding="utf-8") as file:
             file.write(text)
+        flags += ["--only", function.replace("/", "::")]
+    run = subprocess.run(["rt", "check", *flags, "--allow-holes"], cwd=f"crates/{crate}", capture_output=True, text=True, errors="replace")
+finally:
+    for path, text in old.items():
+        if text:
+            with open(path, "w", encoding="utf-8") as file:
+                file.write(text)
+        else:
+            os.remove(path)
 said = run.stdout + run.stderr
-last = {}
-for m in re.finditer(r"proofs/(\S+)/Proof\.antt:\d+:\d+: error: `probe(\w+?)x(\d+)`: ([^\n]*(?:\n  [^\n]*)*)", said):
-    found = re.search(r"\.Lts\.([\w-]+)", re.sub(r"\s+", " ", m.group(4)))
-    place = found.group(1) if found else re.sub(r"\s+", " ", m.group(4))[:120]
-    if last.get(m.group(1, 2)) != "Start":
-        print(m.group(1), m.group(2), m.group(3), place)
-    last[m.group(1, 2)] = place
-for line in re.findall(r"[^\n]*error: (?!`probe)[^\n]*", said):
+for hole in re.findall(r"^\S+ goal \? in `[^\n]*\n(?:  [^\n]*\n)*", said, re.M):
+    print(hole)
+for line in re.findall(r"[^\n]*: error: [^\n]*", said):
     print(line[:300])

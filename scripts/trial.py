@@ -132,6 +132,34 @@ class Room:
             self.begin(crate)
         return self.run(crate, log, True)
 
+    def check_by_name(self, crate, log, functions, said):
+        """Checks the crate once more where a change has given goals other names, so that what is said
+        of these functions is only that their answers' goals are gone: with the new names in the
+        answers. A goal is named by the tests that lead to it, so a number in one is part of it.
+        Gives what was said, or None where the new names cannot be told."""
+        lost = {f: lost_goals(said, f) for f in functions}
+        paths = {f: f'crates/{crate}/{proofs_of(f)}Answers.antt' for f in functions if lost[f] and os.path.exists(f'crates/{crate}/{proofs_of(f)}Answers.antt')}
+        answers = {path: read(path) for path in paths.values()}
+        if not paths:
+            return None
+        try:
+            self.write({path: without(answers[path], lost[f]) for f, path in paths.items()})
+            opened, _, _ = self.check(crate, log + '.opened')
+            now = {f: open_goals(opened, f) for f in paths}
+            told = {f: path for f, path in paths.items() if len(now[f]) == len(lost[f])}
+            if not told:
+                return None
+            for f, path in paths.items():
+                text = answers[path]
+                for old, new in zip(lost[f], now[f]) if f in told else []:
+                    text = re.sub(rf"(?<![\w'-]){re.escape(old)}(?![\w'-])", new, text)
+                    # the test itself, `c.if-code-gt12288.true` of the goal `returns-then-code-gt12288`
+                    text = re.sub(rf"(?<=if-){re.escape(old.split('-then-')[-1])}(?![\w'-])", new.split('-then-')[-1], text)
+                self.write({path: text})
+            return self.check(crate, log + '.renamed')[0]
+        finally:
+            self.write(answers)
+
     def check_anew(self, crate, log):
         """Checks the crate as it stands in the copy, from nothing."""
         return self.run(crate, log, False)
@@ -166,6 +194,22 @@ def proofs_of(f):
 def own_errors(said, f):
     """What the prover said of a function's own proof."""
     return errors_at(said, proofs_of(f))
+
+
+def lost_goals(said, f):
+    """The goals that a function's answers name and that it does not have any more, in order."""
+    return list(dict.fromkeys(re.findall(r'error: `[^`]+`: `goal\.([^`]+)`: module .*? has no `', '\n'.join(own_errors(said, f)))))
+
+
+def open_goals(said, f):
+    """The goals of a function that have no answer and that the search did not prove."""
+    line = re.search(r'^fn ' + re.escape(f.full) + r': .*did not prove (.*)$', said, re.M)
+    return re.findall(r'`([^`]+)`', line[1]) if line else []
+
+
+def without(text, names):
+    """An answers' file without the answers to these goals."""
+    return '\n'.join(part for part in re.split(r'(?<=\n)\n+(?=\S)', text) if not re.search(r': goal\.(%s)\s' % '|'.join(map(re.escape, names)), part))
 
 
 def by_hand(f):

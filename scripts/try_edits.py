@@ -7,7 +7,9 @@ it, from the root of the repository.
 An edit of code or of a contract is about the functions that it changes, one of a constant about
 those that name it. It is judged by what the prover says of these: a fact must fail in the proof of
 one of them. Edits that are about different functions are checked together (scripts/trial.py). An
-edit of a definition is checked alone, and judged by the first error of all.
+edit of a definition is checked alone, and judged by the first error of all. Where an edit of code gives a
+goal another name, since a number in a test is part of it, it is judged with that name in the
+answers: `refused: its shape, then a fact`.
 
 The run fails where an edit is not refused, is refused for its shape alone, does not compile, or
 could not be judged. What the prover said of each edit is target/near-misses/CRATE/LABEL/.log. The
@@ -174,6 +176,10 @@ def check(room, source, crate, row, label):
     room.write(replaced(edits, texts))
     print(f'{crate}: check {label}, {len(row)} edits', flush=True)
     said, _, took = room.check(crate, f'{crate}.{label}')
+    for trial in row if reached_prover(said) else []:
+        trial.judge(said)
+    shapes = [trial for trial in row if trial.verdict == 'shape' and trial.edit.kind != 'definition']
+    renamed = room.check_by_name(crate, f'{crate}.{label}', [f for trial in shapes for f in trial.functions], said) if shapes else None
     room.write(texts)
     if reached_prover(said) or not row[0].functions:
         more = strays(source, crate, row, said) if row[0].functions else []
@@ -181,7 +187,12 @@ def check(room, source, crate, row, label):
             sys.exit(f"bin/near-misses: {crate}, check {label}: refused too, with no edit about them: {' '.join(more)}")
         for trial in row:
             trial.judge(said)
-            trial.log(said)
+            if trial in shapes and renamed:
+                trial.judge(renamed)
+                trial.verdict = 'shape and fact' if trial.verdict == 'fact' else trial.verdict
+                trial.log(renamed)
+            else:
+                trial.log(said)
     elif len(row) == 1:
         row[0].verdict = 'compiler'
         row[0].why = next((line for line in said.split('\n') if 'error' in line), '')

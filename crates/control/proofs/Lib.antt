@@ -1,11 +1,3 @@
-pub mod Known
-pub mod Parts
-pub mod Judged5
-pub mod Judged1
-pub mod Judged6
-pub mod ObserveParts
-pub mod Judged3
-pub mod Commands
-pub mod Observations
 pub mod HistoryLaws
 pub mod QuorumLaws
+pub mod Stored

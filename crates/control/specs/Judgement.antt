@@ -12,7 +12,7 @@ use Rattle.records.specs.declared.records.VoterReplacementEvidence.{VoterReplace
 use Rattle.records.specs.declared.records.VoterSlotLogId.{VoterSlotLogId}
 use Rattle.records.specs.declared.records.VoterSlotTable.{VoterSlotTable}
 use Rattle.records.specs.declared.records.VoterSnapshotEvidence.{VoterSnapshotEvidence}
-use Rattle.records.specs.Records.{caught_up, fenced, joint, prepared, uniform}
+use Rattle.records.specs.Records.{caught_up, fenced, prepared, uniform}
 use Rattle.records.specs.Equality.{eq_bytes, same_voter_slot_log_id, same_voter_snapshot_evidence}
 use Rattle.records.specs.Evidence.{follows, latest, snapshot_cut, in_order, valid_snapshot_id}
 use Rattle.records.specs.Validation.{target_phase, validity}

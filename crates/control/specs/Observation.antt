@@ -4,7 +4,7 @@
 -- what a BTreeSet is: the ids in strictly rising order, each once, whatever the order and the
 -- repeats of the members.
 -- Assumes nothing.
-use Rattle.std.specs.Prelude.{ℕ, zero, suc, ◌+◌, ◌^◌, Bool, true, false, cond, ◌&&◌, ◌||◌, List, ◌∷◌, [], length, take, drop, set, eqb, leb, ltb}
+use Rattle.std.specs.Prelude.{ℕ, zero, suc, ◌+◌, Bool, true, false, cond, ◌&&◌, ◌||◌, List, ◌∷◌, [], length, take, drop, set, eqb, leb, ltb}
 use Rattle.identity.specs.Identity.{max_consensus_node_id, node_id, from_node_id, value_of_number}
 use Rattle.identity.specs.Text.{every}
 use Rattle.identity.specs.declared.answer.Answer.{Answer}

@@ -5,11 +5,11 @@
 -- Assumes nothing.
 use Rattle.std.specs.Prelude.{ℕ, ◌<◌, ◌≤◌, ◌≡◌, Bool, not, ◌&&◌, ◌||◌, List}
 use Rattle.std.proofs.Math.Path.{refl}
-use Rattle.std.proofs.Common.{sym, ap, ap₂, ◌∙◌, arith, eq-eqb, ne_eqb}
+use Rattle.std.proofs.Common.{sym, ap, ◌∙◌, eq-eqb}
 use Rattle.std.proofs.Math.Bool.{cond, false, true, false≢true}
 use Rattle.std.proofs.Math.Dec.{eqb, leb, ltb}
 use Rattle.identity.specs.declared.answer.Answer.{Answer}
-use Rattle.identity.specs.declared.answer.Answer.TheVariants.{Accepted, InvalidTransition, RevisionExhausted, StaleIncarnation, Unrepresentable}
+use Rattle.identity.specs.declared.answer.Answer.TheVariants.{Accepted, InvalidTransition, StaleIncarnation, Unrepresentable}
 use Rattle.records.specs.declared.records.VoterSlotLogId.{VoterSlotLogId}
 use Rattle.records.specs.declared.records.VoterSlotTable.{VoterSlotTable}
 use Rattle.records.specs.Equality.{eq_bytes, same_voter_slot_log_id, same_voter_snapshot_evidence}

@@ -40,7 +40,7 @@ use Rattle.journal.specs.declared.bodies.BeginHead.{BeginHead}
 use Rattle.journal.specs.declared.bodies.MarkerBody.{MarkerBody}
 use Rattle.journal.specs.declared.replay.Mark.TheVariants.{Ad, Bg}
 use Rattle.journal.specs.Bodies.{is_whole, partless, advance_by, begin_by, supplied_body, attested_asking}
-use Rattle.journal.specs.Records.{sized_bytes, marker_body, no_snapshot_part, snapshot_part, step_body, advance_body, begin_head, BeginBody, begin_body}
+use Rattle.journal.specs.Records.{sized_bytes, marker_body, no_snapshot_part, snapshot_part, step_body, advance_body, begin_head, begin_body}
 use Rattle.journal.specs.RefusalLaws.{number, attestation-refused}
 use Rattle.journal.specs.Replay.{Asked, Asking, asking, formed, attested, snapshot_id_of, snapshot_of, step_of, advance_of, advance_control, advance_asked, begin_control, begin_of, begin_asked}
 use Rattle.journal.specs.Replay.Asked.{command}

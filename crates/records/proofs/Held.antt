@@ -1,9 +1,7 @@
 -- What the program logic says of a value that a function owns, as the `Held` records of specs/Held.antt. Written by scripts/records.py.
 -- Assumes nothing.
 use Prim.Native.Nat.{ℕ}
-use mathlib.Core.Path.{sym, ◌∙◌}
-use mathlib.Core.List.{List, [], ◌∷◌, map}
-use lib.ListN.{length-map}
+use mathlib.Core.List.{List, [], ◌∷◌}
 use mir.Syntax.{w8}
 use mir.Val.{Val}
 use base.Fml.{Fml}

@@ -193,12 +193,7 @@ same_voter_slot_member-true a b h =
     let e1 : a.key_digest ≡ b.key_digest = eq_bytes-true _ _ e.1.0 in
     let e2 : a.descriptor_digest ≡ b.descriptor_digest = eq_bytes-true _ _ e.1.1.0 in
     let e3 : a.admission_generation ≡ b.admission_generation = eqb-true _ _ e.1.1.1.0 in
-    λ i. record {
-      identity = e0 i;
-      key_digest = e1 i;
-      descriptor_digest = e2 i;
-      admission_generation = e3 i;
-    }
+    λ i. record { identity = e0 i; key_digest = e1 i; descriptor_digest = e2 i; admission_generation = e3 i }
 
 pub same_voter_slot_member-refl : (a : VoterSlotMember) → same_voter_slot_member a a ≡ true
 unfolding all_true same_voter_slot_member

@@ -7,6 +7,7 @@ use crate::records::*;
 use identity::identity::VoterSlotIdentity;
 use identity::text::{MAX_VOTER_SNAPSHOT_ID_BYTES, MAX_VOTER_SPIFFE_ID_BYTES};
 
+#[tactic(auto, unfolding(crate::specs::Blank::blank_voter_slot_identity))]
 pub fn blank_voter_slot_identity() -> VoterSlotIdentity
     ensures { result ≡ blank_voter_slot_identity }
 {
@@ -16,6 +17,7 @@ pub fn blank_voter_slot_identity() -> VoterSlotIdentity
     }
 }
 
+#[tactic(auto, unfolding(crate::specs::Blank::blank_spiffe_id))]
 pub fn blank_spiffe_id() -> SpiffeId
     ensures { result ≡ blank_spiffe_id }
 {
@@ -25,6 +27,7 @@ pub fn blank_spiffe_id() -> SpiffeId
     }
 }
 
+#[tactic(auto, unfolding(crate::specs::Blank::blank_snapshot_id))]
 pub fn blank_snapshot_id() -> SnapshotId
     ensures { result ≡ blank_snapshot_id }
 {
@@ -34,12 +37,14 @@ pub fn blank_snapshot_id() -> SnapshotId
     }
 }
 
+#[tactic(auto, unfolding(crate::specs::Blank::blank_voter_slot_log_id))]
 pub fn blank_voter_slot_log_id() -> VoterSlotLogId
     ensures { result ≡ blank_voter_slot_log_id }
 {
     VoterSlotLogId { term: 0, index: 0 }
 }
 
+#[tactic(auto, unfolding(crate::specs::Blank::blank_optional_log_id))]
 pub fn blank_optional_log_id() -> OptionalLogId
     ensures { result ≡ blank_optional_log_id }
 {
@@ -50,6 +55,7 @@ pub fn blank_optional_log_id() -> OptionalLogId
     }
 }
 
+#[tactic(auto, unfolding(crate::specs::Blank::blank_voter_slot_member))]
 pub fn blank_voter_slot_member() -> VoterSlotMember
     ensures { result ≡ blank_voter_slot_member }
 {
@@ -62,6 +68,7 @@ pub fn blank_voter_slot_member() -> VoterSlotMember
     }
 }
 
+#[tactic(auto, unfolding(crate::specs::Blank::blank_voter_replacement_result))]
 pub fn blank_voter_replacement_result() -> VoterReplacementResult
     ensures { result ≡ blank_voter_replacement_result }
 {
@@ -77,6 +84,7 @@ pub fn blank_voter_replacement_result() -> VoterReplacementResult
     }
 }
 
+#[tactic(auto, unfolding(crate::specs::Blank::blank_voter_slot_record))]
 pub fn blank_voter_slot_record() -> VoterSlotRecord
     ensures { result ≡ blank_voter_slot_record }
 {
@@ -91,6 +99,7 @@ pub fn blank_voter_slot_record() -> VoterSlotRecord
     }
 }
 
+#[tactic(auto, unfolding(crate::specs::Blank::blank_voter_snapshot_evidence))]
 pub fn blank_voter_snapshot_evidence() -> VoterSnapshotEvidence
     ensures { result ≡ blank_voter_snapshot_evidence }
 {
@@ -103,6 +112,7 @@ pub fn blank_voter_snapshot_evidence() -> VoterSnapshotEvidence
     }
 }
 
+#[tactic(auto, unfolding(crate::specs::Blank::blank_voter_configuration))]
 pub fn blank_voter_configuration() -> VoterConfiguration
     ensures { result ≡ blank_voter_configuration }
 {
@@ -114,6 +124,7 @@ pub fn blank_voter_configuration() -> VoterConfiguration
     }
 }
 
+#[tactic(auto, unfolding(crate::specs::Blank::blank_lost_voter_attestation_v1))]
 pub fn blank_lost_voter_attestation_v1() -> LostVoterAttestationV1
     ensures { result ≡ blank_lost_voter_attestation_v1 }
 {
@@ -140,6 +151,7 @@ pub fn blank_lost_voter_attestation_v1() -> LostVoterAttestationV1
     }
 }
 
+#[tactic(auto, unfolding(crate::specs::Blank::blank_voter_replacement_evidence))]
 pub fn blank_voter_replacement_evidence() -> VoterReplacementEvidence
     ensures { result ≡ blank_voter_replacement_evidence }
 {
@@ -159,6 +171,7 @@ pub fn blank_voter_replacement_evidence() -> VoterReplacementEvidence
     }
 }
 
+#[tactic(auto, unfolding(crate::specs::Blank::blank_voter_replacement_record))]
 pub fn blank_voter_replacement_record() -> VoterReplacementRecord
     ensures { result ≡ blank_voter_replacement_record }
 {
@@ -175,6 +188,7 @@ pub fn blank_voter_replacement_record() -> VoterReplacementRecord
     }
 }
 
+#[tactic(auto, unfolding(crate::specs::Blank::blank_voter_slot_table))]
 pub fn blank_voter_slot_table() -> VoterSlotTable
     ensures { result ≡ blank_voter_slot_table }
 {

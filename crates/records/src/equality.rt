@@ -39,12 +39,14 @@ pub fn same32(a: [u8; 32], b: [u8; 32]) -> bool
     same_bytes(&a, &b)
 }
 
+#[tactic(auto, unfolding(crate::specs::Equality::all_true, crate::specs::Equality::same_voter_slot_identity))]
 pub fn same_voter_slot_identity(a: VoterSlotIdentity, b: VoterSlotIdentity) -> bool
     ensures { result ≡ same_voter_slot_identity a b }
 {
     (a.slot == b.slot) & (a.incarnation == b.incarnation)
 }
 
+#[tactic(auto, unfolding(crate::specs::Equality::all_true, crate::specs::Equality::same_spiffe_id))]
 pub fn same_spiffe_id(a: SpiffeId, b: SpiffeId) -> bool
     ensures { result ≡ same_spiffe_id a b }
 {
@@ -52,6 +54,7 @@ pub fn same_spiffe_id(a: SpiffeId, b: SpiffeId) -> bool
     (a.len == b.len) & bytes
 }
 
+#[tactic(auto, unfolding(crate::specs::Equality::all_true, crate::specs::Equality::same_snapshot_id))]
 pub fn same_snapshot_id(a: SnapshotId, b: SnapshotId) -> bool
     ensures { result ≡ same_snapshot_id a b }
 {
@@ -59,12 +62,14 @@ pub fn same_snapshot_id(a: SnapshotId, b: SnapshotId) -> bool
     (a.len == b.len) & bytes
 }
 
+#[tactic(auto, unfolding(crate::specs::Equality::all_true, crate::specs::Equality::same_voter_slot_log_id))]
 pub fn same_voter_slot_log_id(a: VoterSlotLogId, b: VoterSlotLogId) -> bool
     ensures { result ≡ same_voter_slot_log_id a b }
 {
     (a.term == b.term) & (a.index == b.index)
 }
 
+#[tactic(auto, unfolding(crate::specs::Equality::all_true, crate::specs::Equality::same_optional_log_id))]
 pub fn same_optional_log_id(a: OptionalLogId, b: OptionalLogId) -> bool
     ensures { result ≡ same_optional_log_id a b }
 {
@@ -74,6 +79,7 @@ pub fn same_optional_log_id(a: OptionalLogId, b: OptionalLogId) -> bool
     (a.is_some == b.is_some) & cut
 }
 
+#[tactic(auto, unfolding(crate::specs::Equality::all_true, crate::specs::Equality::same_voter_slot_member))]
 pub fn same_voter_slot_member(a: VoterSlotMember, b: VoterSlotMember) -> bool
     ensures { result ≡ same_voter_slot_member a b }
 {
@@ -104,6 +110,7 @@ pub fn same_voter_slot_members(
     same
 }
 
+#[tactic(auto, unfolding(crate::specs::Equality::all_true, crate::specs::Equality::same_voter_replacement_result))]
 pub fn same_voter_replacement_result(a: VoterReplacementResult, b: VoterReplacementResult) -> bool
     ensures { result ≡ same_voter_replacement_result a b }
 {
@@ -120,6 +127,7 @@ pub fn same_voter_replacement_result(a: VoterReplacementResult, b: VoterReplacem
                         & ((a.kind == b.kind) & terminal)))))
 }
 
+#[tactic(auto, unfolding(crate::specs::Equality::all_true, crate::specs::Equality::same_voter_slot_record))]
 pub fn same_voter_slot_record(a: VoterSlotRecord, b: VoterSlotRecord) -> bool
     ensures { result ≡ same_voter_slot_record a b }
 {
@@ -152,6 +160,7 @@ pub fn same_voter_slot_records(
     same
 }
 
+#[tactic(auto, unfolding(crate::specs::Equality::all_true, crate::specs::Equality::same_voter_snapshot_evidence))]
 pub fn same_voter_snapshot_evidence(a: VoterSnapshotEvidence, b: VoterSnapshotEvidence) -> bool
     ensures { result ≡ same_voter_snapshot_evidence a b }
 {
@@ -165,6 +174,7 @@ pub fn same_voter_snapshot_evidence(a: VoterSnapshotEvidence, b: VoterSnapshotEv
     cut & (snapshot_id & digest)
 }
 
+#[tactic(auto, unfolding(crate::specs::Equality::all_true, crate::specs::Equality::same_voter_configuration))]
 pub fn same_voter_configuration(a: VoterConfiguration, b: VoterConfiguration) -> bool
     ensures { result ≡ same_voter_configuration a b }
 {
@@ -174,6 +184,7 @@ pub fn same_voter_configuration(a: VoterConfiguration, b: VoterConfiguration) ->
     (a.epoch == b.epoch) & (members & (a.count == b.count))
 }
 
+#[tactic(auto, unfolding(crate::specs::Equality::all_true, crate::specs::Equality::same_lost_voter_attestation_v1))]
 pub fn same_lost_voter_attestation_v1(a: LostVoterAttestationV1, b: LostVoterAttestationV1) -> bool
     ensures { result ≡ same_lost_voter_attestation_v1 a b }
 {
@@ -213,6 +224,7 @@ pub fn same_lost_voter_attestation_v1(a: LostVoterAttestationV1, b: LostVoterAtt
                                                                     & signature)))))))))))))))
 }
 
+#[tactic(auto, unfolding(crate::specs::Equality::all_true, crate::specs::Equality::same_voter_replacement_evidence))]
 pub fn same_voter_replacement_evidence(
     a: VoterReplacementEvidence,
     b: VoterReplacementEvidence,
@@ -248,6 +260,7 @@ pub fn same_voter_replacement_evidence(
             & (snapshot & (learner & (caught_up & (continuation & (fence & (joint & uniform)))))))
 }
 
+#[tactic(auto, unfolding(crate::specs::Equality::all_true, crate::specs::Equality::same_voter_replacement_record))]
 pub fn same_voter_replacement_record(a: VoterReplacementRecord, b: VoterReplacementRecord) -> bool
     ensures { result ≡ same_voter_replacement_record a b }
 {
@@ -267,6 +280,7 @@ pub fn same_voter_replacement_record(a: VoterReplacementRecord, b: VoterReplacem
         & (attestation & (predecessor & (successor & ((a.phase == b.phase) & evidence))))
 }
 
+#[tactic(auto, unfolding(crate::specs::Equality::all_true, crate::specs::Equality::same_voter_slot_table))]
 pub fn same_voter_slot_table(a: VoterSlotTable, b: VoterSlotTable) -> bool
     ensures { result ≡ same_voter_slot_table a b }
 {

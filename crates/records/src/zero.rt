@@ -24,6 +24,7 @@ pub fn zeros(bytes: &[u8]) -> bool
     all
 }
 
+#[tactic(auto, unfolding(crate::specs::Equality::all_true, crate::specs::Equality::same_voter_slot_identity, crate::specs::Blank::blank_voter_slot_identity))]
 pub fn is_blank_voter_slot_identity(x: VoterSlotIdentity) -> bool
     ensures { result ≡ same_voter_slot_identity x blank_voter_slot_identity }
 {
@@ -44,12 +45,14 @@ pub fn is_blank_snapshot_id(x: SnapshotId) -> bool
     (x.len == 0) & bytes
 }
 
+#[tactic(auto, unfolding(crate::specs::Equality::all_true, crate::specs::Equality::same_voter_slot_log_id, crate::specs::Blank::blank_voter_slot_log_id))]
 pub fn is_blank_voter_slot_log_id(x: VoterSlotLogId) -> bool
     ensures { result ≡ same_voter_slot_log_id x blank_voter_slot_log_id }
 {
     (x.term == 0) & (x.index == 0)
 }
 
+#[tactic(auto, unfolding(crate::specs::Equality::all_true, crate::specs::Equality::same_optional_log_id, crate::specs::Blank::blank_optional_log_id))]
 pub fn is_blank_optional_log_id(x: OptionalLogId) -> bool
     ensures { result ≡ same_optional_log_id x blank_optional_log_id }
 {
@@ -96,6 +99,7 @@ pub fn is_blank_voter_replacement_result(x: VoterReplacementResult) -> bool
                     & ((x.configuration_epoch == 0) & ((x.kind == 0) & terminal)))))
 }
 
+#[tactic(auto, unfolding(crate::specs::Equality::all_true, crate::specs::Equality::same_voter_slot_record, crate::specs::Blank::blank_voter_slot_record))]
 pub fn is_blank_voter_slot_record(x: VoterSlotRecord) -> bool
     ensures { result ≡ same_voter_slot_record x blank_voter_slot_record }
 {
@@ -117,6 +121,7 @@ pub fn is_blank_voter_snapshot_evidence(x: VoterSnapshotEvidence) -> bool
     cut & (snapshot_id & digest)
 }
 
+#[tactic(auto, unfolding(crate::specs::Equality::all_true, crate::specs::Equality::same_voter_configuration, crate::specs::Blank::blank_voter_configuration))]
 pub fn is_blank_voter_configuration(x: VoterConfiguration) -> bool
     ensures { result ≡ same_voter_configuration x blank_voter_configuration }
 {
@@ -161,6 +166,7 @@ pub fn is_blank_lost_voter_attestation_v1(x: LostVoterAttestationV1) -> bool
                                                                     & signature)))))))))))))))
 }
 
+#[tactic(auto, unfolding(crate::specs::Equality::all_true, crate::specs::Equality::same_voter_replacement_evidence, crate::specs::Blank::blank_voter_replacement_evidence))]
 pub fn is_blank_voter_replacement_evidence(x: VoterReplacementEvidence) -> bool
     ensures { result ≡ same_voter_replacement_evidence x blank_voter_replacement_evidence }
 {
@@ -185,6 +191,7 @@ pub fn is_blank_voter_replacement_evidence(x: VoterReplacementEvidence) -> bool
             & (snapshot & (learner & (caught_up & (continuation & (fence & (joint & uniform)))))))
 }
 
+#[tactic(auto, unfolding(crate::specs::Equality::all_true, crate::specs::Equality::same_voter_replacement_record, crate::specs::Blank::blank_voter_replacement_record))]
 pub fn is_blank_voter_replacement_record(x: VoterReplacementRecord) -> bool
     ensures { result ≡ same_voter_replacement_record x blank_voter_replacement_record }
 {

@@ -4,7 +4,7 @@
 -- Assumes nothing.
 use Rattle.std.specs.Prelude.{ℕ, zero, suc, ◌+◌, ◌*◌, ◌≤◌, ◌<◌, ◌≡◌, refl, Bool, true, false, cond, List, [], ◌∷◌, length, take, get_or}
 use Rattle.std.proofs.Common.{arith, add-one, ap, ap₂, ◌∙◌, length-append, length-take-le, get_or-take}
-use Rattle.format.specs.Combinators.{Codec, dep, check, via, held, always}
+use Rattle.format.specs.Combinators.{Codec, dep, check, via, always}
 use Rattle.format.specs.Num.{uint, raw, uint-long, raw_same}
 use Rattle.format.specs.List.{vec, enc_vec, padded, flag, either, opt}
 use Rattle.format.specs.Through.{boxed, boxed-bytes}

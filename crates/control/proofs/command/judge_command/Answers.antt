@@ -1,4 +1,5 @@
 -- `control::command::judge_command` meets its contract: the kind picks the judge, in each arm. Assumes nothing.
+use native.Mathlib.Omega.{arith}
 use borrow.Author.Tests.{ne_eqb}
 use Rattle.control.specs.Judgement.{judge}
 use Rattle.control.proofs.command.judge_command.Goals as goal
@@ -13,4 +14,4 @@ returns-in-1 c = simp (c.in-1.is, c.judge_advance.ensures, c.advance_of.ensures)
 
 pub returns-in_default : goal.returns-in_default
 unfolding judge
-returns-in_default c = simp (ne_eqb _ _ c.in_default.rest.0.1, ne_eqb _ _ c.in_default.rest.1, c.judge_named.ensures)
+returns-in_default c = simp (ne_eqb c.args.command.control.kind 0 (λ e. omega arith), ne_eqb c.args.command.control.kind 1 (λ e. omega arith), c.judge_named.ensures)

@@ -1,4 +1,5 @@
 -- `control::judge::judge_step` meets its contract: the kind picks the judge, in each arm. Assumes nothing.
+use native.Mathlib.Omega.{arith}
 use borrow.Author.Tests.{ne_eqb}
 use Rattle.control.specs.Judgement.{judge_step}
 use Rattle.control.proofs.judge.judge_step.Goals as goal
@@ -22,5 +23,4 @@ returns-in-3 c = simp (c.in-3.is, c.judge_fence.ensures)
 pub returns-in_default : goal.returns-in_default
 unfolding judge_step
 returns-in_default c =
-    let r = c.in_default.rest in
-    simp (ne_eqb _ _ r.0.0.0.1, ne_eqb _ _ r.0.0.1, ne_eqb _ _ r.0.1, ne_eqb _ _ r.1, c.judge_finalize.ensures)
+    simp (ne_eqb c.args.step.kind 0 (λ e. omega arith), ne_eqb c.args.step.kind 1 (λ e. omega arith), ne_eqb c.args.step.kind 2 (λ e. omega arith), ne_eqb c.args.step.kind 3 (λ e. omega arith), c.judge_finalize.ensures)

@@ -1,6 +1,5 @@
 -- `control::observe::accept_if` meets its contract: by the test. Assumes nothing.
 use mathlib.Core.Path.{sym}
-use Prim.Native.Nat.{◌-◌}
 use Rattle.identity.specs.declared.answer.Answer.TheVariants.{InvalidTransition}
 use Rattle.records.specs.TestLaws.{cond-false}
 use Rattle.control.specs.Judgement.Verdict.{refused}

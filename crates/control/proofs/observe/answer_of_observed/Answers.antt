@@ -1,6 +1,5 @@
 -- `control::observe::answer_of_observed` meets its contract: by the case. Assumes nothing.
 use mathlib.Core.Path.{sym, ap}
-use Prim.Native.Nat.{◌-◌}
 use Rattle.control.specs.ObserveSight.{answer_of_observed, verdict_of_observed}
 use Rattle.control.specs.declared.observe.Observed.{Observed}
 use Rattle.control.proofs.observe.answer_of_observed.Goals as goal

@@ -1,7 +1,5 @@
 -- `control::observe::carry_out` meets its contract: by the case; a maker has the room that its caller shows. Assumes nothing.
 use mathlib.Core.Path.{sym, ap, ◌∙◌}
-use Prim.Native.Nat.{◌-◌}
-use borrow.Author.Rules.{rules}
 use Rattle.identity.specs.declared.answer.Answer.{Answer}
 use Rattle.identity.specs.declared.answer.Answer.TheVariants.{Accepted}
 use Rattle.records.specs.declared.records.VoterSlotTable.{VoterSlotTable}
@@ -12,9 +10,6 @@ use Rattle.control.proofs.observe.carry_out.Goals as goal
 
 abbrev pair : Answer → VoterSlotTable → Answer × VoterSlotTable
 pair w n = (w, n)
-
-pub enum_told-1 : goal.enum_told-1
-enum_told-1 c = search rules
 
 pub learner_table-requires : goal.learner_table-requires
 learner_table-requires c = c.requires (ap (λ (j : Observed). is_change (verdict_of_observed j)) c.in-AddLearner.is)

@@ -1,7 +1,6 @@
 -- `control::observe::confirm` meets its contract: nothing is made, or something is. Assumes nothing.
 use mathlib.Core.Path.{sym, ap, ◌∙◌}
 use mathlib.Core.Bool.{Bool, cond}
-use Prim.Native.Nat.{◌-◌}
 use Rattle.identity.specs.Answer.{is_accepted}
 use Rattle.identity.specs.declared.answer.Answer.TheVariants.{InvalidTransition}
 use Rattle.records.specs.Validation.{validity}

@@ -1,7 +1,7 @@
 -- `control::observe::joint_table` meets its contract: the place of the slot is that of the definition. Assumes nothing.
 use mathlib.Core.Path.{ap, ◌∙◌}
 use mathlib.Core.Bool.{true}
-use Prim.Native.Nat.{ℕ, ◌+◌, ◌-◌}
+use Prim.Native.Nat.{ℕ, ◌+◌}
 use lib.ListN.{set}
 use Rattle.records.specs.Records.{slot_at, voting}
 use Rattle.records.specs.With.{in_phase, table_with}

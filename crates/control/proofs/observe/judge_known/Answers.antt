@@ -1,18 +1,13 @@
 -- `control::observe::judge_known` meets its contract: one arm for each thing that is seen. Assumes nothing.
 use mathlib.Core.Path.{sym, ap, ◌∙◌}
 use mathlib.Core.Bool.{Bool, cond}
-use Prim.Native.Nat.{◌-◌}
 use lib.Dec.{eqb}
-use borrow.Author.Rules.{rules}
 use Rattle.identity.specs.declared.answer.Answer.TheVariants.{InvalidTransition}
 use Rattle.control.specs.Judgement.Addition.{adds_joint, adds_learner, adds_uniform}
 use Rattle.control.specs.Judgement.Verdict.{refused, kept, moves}
 use Rattle.control.specs.ObserveSight.{judge_known, sight_of}
 use Rattle.control.specs.declared.observe.Seen.{Seen}
 use Rattle.control.proofs.observe.judge_known.Goals as goal
-
-pub enum_told-1 : goal.enum_told-1
-enum_told-1 c = search rules
 
 pub returns-in-Strange : goal.returns-in-Strange
 unfolding judge_known

@@ -1,7 +1,6 @@
 -- `control::observe::judge_members` meets its contract: both sets are that of the members. Assumes nothing.
 use mathlib.Core.Path.{◌∙◌}
 use mathlib.Core.Bool.{cond, ◌&&◌}
-use Prim.Native.Nat.{◌-◌}
 use Rattle.identity.specs.declared.answer.Answer.TheVariants.{InvalidTransition}
 use Rattle.control.specs.Judgement.Verdict.{refused, kept}
 use Rattle.control.proofs.observe.judge_members.Goals as goal

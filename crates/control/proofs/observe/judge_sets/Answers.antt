@@ -1,7 +1,6 @@
 -- `control::observe::judge_sets` meets its contract: no request is open, or one is. Assumes nothing.
 use mathlib.Core.Path.{sym, ap, ◌∙◌}
 use mathlib.Core.Bool.{cond}
-use Prim.Native.Nat.{◌-◌}
 use lib.Dec.{eqb}
 use borrow.Author.Tests.{not-true, not-false}
 use Rattle.identity.specs.declared.answer.Answer.TheVariants.{RevisionExhausted}

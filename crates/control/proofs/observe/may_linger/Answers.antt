@@ -1,9 +1,7 @@
 -- `control::observe::may_linger` meets its contract: no node, one that reads as no identity, and one that does. Assumes nothing.
 use mathlib.Core.Path.{sym, ap, ◌∙◌}
 use mathlib.Core.Bool.{Bool, ◌||◌}
-use Prim.Native.Nat.{◌-◌}
 use native.Mathlib.Omega.{arith}
-use borrow.Author.Rules.{rules}
 use borrow.Author.Tests.{eq-eqb, ne_eqb}
 use Rattle.identity.specs.Identity.{from_node_id}
 use Rattle.identity.proofs.IdentityLaws.{identity-told, read-telling}
@@ -15,9 +13,6 @@ pub returns-then-node-eq-NO_ID : goal.returns-then-node-eq-NO_ID
 returns-then-node-eq-NO_ID c =
     let a = c.args in
     sym (ap (λ (b : Bool). b || is_obsolete a.table.replacement (from_node_id a.node)) (eq-eqb a.node no_id (omega arith)))
-
-pub enum_told-1 : goal.enum_told-1
-enum_told-1 c = search rules
 
 pub returns-in-Err : goal.returns-in-Err
 unfolding is_obsolete

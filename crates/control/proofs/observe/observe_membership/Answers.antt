@@ -1,6 +1,5 @@
 -- `control::observe::observe_membership` meets its contract: the verdict of the entry point, carried out (`observes-entry`). Assumes nothing.
 use mathlib.Core.Path.{sym, ap, ◌∙◌}
-use Prim.Native.Nat.{◌-◌}
 use Rattle.control.specs.Judgement.{added, carried}
 use Rattle.control.specs.ObserveSight.{is_change}
 use Rattle.control.specs.ObserveLaws.{entry-room, observes-entry}

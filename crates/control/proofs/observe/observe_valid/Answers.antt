@@ -1,6 +1,5 @@
 -- `control::observe::observe_valid` meets its contract: the verdict, carried out (`observes-valid`). Assumes nothing.
 use mathlib.Core.Path.{sym, ap, ◌∙◌}
-use Prim.Native.Nat.{◌-◌}
 use Rattle.control.specs.Judgement.{added, carried}
 use Rattle.control.specs.ObserveSight.{is_change}
 use Rattle.control.specs.ObserveLaws.{observes-valid, weighed-room}

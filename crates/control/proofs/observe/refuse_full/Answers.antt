@@ -1,6 +1,5 @@
 -- `control::observe::refuse_full` meets its contract: by the test. Assumes nothing.
 use mathlib.Core.Path.{sym}
-use Prim.Native.Nat.{◌-◌}
 use lib.Dec.{eqb}
 use borrow.Author.Tests.{eq-eqb, ne_eqb}
 use Rattle.identity.specs.declared.answer.Answer.TheVariants.{RevisionExhausted}

@@ -1,7 +1,6 @@
 -- `control::observe::see_by` meets its contract: each pick is one test of the definition. Assumes nothing.
 use mathlib.Core.Path.{ap, ◌∙◌}
 use mathlib.Core.Bool.{cond}
-use Prim.Native.Nat.{◌-◌}
 use Rattle.control.specs.Observation.{Sight}
 use Rattle.control.specs.Observation.Sight.{strange}
 use Rattle.control.specs.ObserveSight.{seen_by}

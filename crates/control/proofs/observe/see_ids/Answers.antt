@@ -1,6 +1,5 @@
 -- `control::observe::see_ids` meets its contract: the tests, and then the picks. Assumes nothing.
 use mathlib.Core.Path.{ap, ◌∙◌}
-use Prim.Native.Nat.{◌-◌}
 use lib.Dec.{eqb}
 use Rattle.control.specs.ObserveSets.{no_id}
 use Rattle.control.specs.ObserveSight.{lingers_as, seen_by, tests_of}

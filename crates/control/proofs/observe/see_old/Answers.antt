@@ -1,7 +1,6 @@
 -- `control::observe::see_old` meets its contract: each pick is one test of the definition. Assumes nothing.
 use mathlib.Core.Path.{ap, ◌∙◌}
 use mathlib.Core.Bool.{cond}
-use Prim.Native.Nat.{◌-◌}
 use lib.Dec.{ltb}
 use Rattle.records.specs.Records.{snapshot_installed}
 use Rattle.control.specs.Observation.{Sight}

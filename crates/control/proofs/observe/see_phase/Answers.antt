@@ -1,7 +1,6 @@
 -- `control::observe::see_phase` meets its contract: each pick is one test of the definition. Assumes nothing.
 use mathlib.Core.Path.{◌∙◌}
 use mathlib.Core.Bool.{cond}
-use Prim.Native.Nat.{◌-◌}
 use Rattle.control.specs.ObserveSetsLaws.{eqb-next}
 use Rattle.control.specs.ObserveSight.{sight_of}
 use Rattle.control.proofs.observe.see_phase.Goals as goal

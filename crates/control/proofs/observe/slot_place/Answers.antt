@@ -36,18 +36,18 @@ pub loop-i-preserved-then-table-i : goal.loop-i-preserved-then-table-i
 loop-i-preserved-then-table-i c =
     let s = c.args in
     let i = c.loop-i.i in
-    (omega arith, stops s.t1 (bears s.slot) (i - 1) c.if-table-i.true)
+    (omega arith, stops s.table (bears s.slot) (i - 1) c.if-table-i.true)
 
 pub loop-i-preserved : goal.loop-i-preserved
 loop-i-preserved c =
     let s = c.args in
     let l = c.loop-i in
     let e : l.i ≡ l.i - 1 + 1 = omega arith in
-    (omega arith, l.invariant.1 ∙ (ap (place_from s.t1 (bears s.slot)) e ∙ goes_on s.t1 (bears s.slot) (l.i - 1) c.if-table-i.false))
+    (omega arith, l.invariant.1 ∙ (ap (place_from s.table (bears s.slot)) e ∙ goes_on s.table (bears s.slot) (l.i - 1) c.if-table-i.false))
 
 pub returns : goal.returns
 returns c =
     let s = c.args in
     let l = c.loop-i in
     let e : l.i ≡ 0 = omega arith in
-    l.invariant.1 ∙ (ap (place_from s.t1 (bears s.slot)) e ∙ place-first s.t1 (bears s.slot))
+    l.invariant.1 ∙ (ap (place_from s.table (bears s.slot)) e ∙ place-first s.table (bears s.slot))

@@ -1,5 +1,5 @@
 -- `control::observe::slot_place` meets its contract: the place so far is the first of those passed. Assumes nothing.
-use Prim.Native.Nat.{ℕ, ◌≤◌, ◌-◌}
+use Prim.Native.Nat.{ℕ, ◌≤◌}
 use mathlib.Core.Path.{◌≡◌}
 use mathlib.Core.Bool.{Bool}
 use lib.Dec.{eqb}

@@ -1,7 +1,7 @@
 -- `control::observe::test_sets` meets its contract: each test is that of its call. Assumes nothing.
 use mathlib.Core.Path.{ap, ◌∙◌}
 use mathlib.Core.Bool.{◌&&◌}
-use Prim.Native.Nat.{ℕ, ◌-◌}
+use Prim.Native.Nat.{ℕ}
 use lib.Dec.{eqb, ltb}
 use Rattle.records.specs.Records.{joint}
 use Rattle.control.specs.Observation.{contains}

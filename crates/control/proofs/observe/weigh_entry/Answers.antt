@@ -1,12 +1,10 @@
 -- `control::observe::weigh_entry` meets its contract: 30 of the table, the verdict, validity where something is new. Assumes nothing.
 use mathlib.Core.Path.{sym, ap, ◌∙◌}
 use mathlib.Core.Bool.{Bool, cond}
-use Prim.Native.Nat.{◌-◌}
 use Rattle.identity.specs.Answer.{is_accepted}
 use Rattle.identity.specs.declared.answer.Answer.TheVariants.{Unrepresentable}
 use Rattle.records.specs.RepresentableLaws.{representable-count}
 use Rattle.records.specs.Validation.{validity}
-use Rattle.records.specs.ValidationLaws.{failed, held}
 use Rattle.control.specs.Judgement.Verdict.{refused}
 use Rattle.control.specs.ObserveSight.{confirmed, weighed}
 use Rattle.control.proofs.observe.weigh_entry.Goals as goal
@@ -14,10 +12,10 @@ use Rattle.control.proofs.observe.weigh_entry.Goals as goal
 pub returns-then-not-is_representable : goal.returns-then-not-is_representable
 returns-then-not-is_representable c =
     let a = c.args in
-    sym (ap (λ (b : Bool). cond b (confirmed (is_accepted (validity a.table)) (weighed a.table a.sets.now a.counts.now a.nodes.now a.cut)) (refused Unrepresentable)) (failed c.is_representable.ensures c.if-not-is_representable.true-raw))
+    sym (ap (λ (b : Bool). cond b (confirmed (is_accepted (validity a.table)) (weighed a.table a.sets.now a.counts.now a.nodes.now a.cut)) (refused Unrepresentable)) (sym c.is_representable.ensures ∙ c.if-not-is_representable.true))
 
 pub confirm-requires : goal.confirm-requires
-confirm-requires c = representable-count c.args.table (held c.is_representable.ensures c.if-not-is_representable.false-raw)
+confirm-requires c = representable-count c.args.table (sym c.is_representable.ensures ∙ c.if-not-is_representable.false)
 
 pub returns : goal.returns
 returns c =
@@ -25,4 +23,4 @@ returns c =
     let v = is_accepted (validity a.table) in
     c.confirm.ensures
     ∙ (ap (confirmed v) c.weigh-judged.ensures
-    ∙ sym (ap (λ (b : Bool). cond b (confirmed v (weighed a.table a.sets.now a.counts.now a.nodes.now a.cut)) (refused Unrepresentable)) (held c.is_representable.ensures c.if-not-is_representable.false-raw)))
+    ∙ sym (ap (λ (b : Bool). cond b (confirmed v (weighed a.table a.sets.now a.counts.now a.nodes.now a.cut)) (refused Unrepresentable)) (sym c.is_representable.ensures ∙ c.if-not-is_representable.false)))

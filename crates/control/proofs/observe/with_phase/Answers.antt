@@ -1,10 +1,10 @@
 -- `control::observe::with_phase` meets its contract: up to the place nothing is stored, and after it that one phase. Assumes nothing.
-use Prim.Native.Nat.{ℕ, ◌-◌}
+use Prim.Native.Nat.{ℕ}
 use mathlib.Core.Path.{refl, ap₂, ◌∙◌}
-use mathlib.Core.Logic.{⊎_elim}
 use native.Mathlib.Omega.{arith}
 use Rattle.records.specs.declared.records.VoterSlotTable.{VoterSlotTable}
 use Rattle.control.proofs.observe.with_phase.Goals as goal
+use Rattle.control.proofs.observe.with_phase.Goals.{then-i-at, else-i-at}
 use Rattle.control.proofs.observe.with_phase.Invariants.{phased}
 
 pub loop-i-init : goal.loop-i-init
@@ -16,12 +16,12 @@ loop-i-preserved c =
     let l = c.loop-i in (
       omega arith,
       (
-        λ h. ⊎_elim (λ w. let e = w.0.taken in absurd (omega arith)) (λ w. w.1 ∙ l.invariant.1.0 (omega arith)) c.if-i-at.branch,
+        λ h. elim c.if-i-at.branch [ then-i-at w ↦ absurd (omega arith) | else-i-at w ↦ w.next-is ∙ l.invariant.1.0 (omega arith) ],
         λ h.
-            ⊎_elim
-            (λ w. let e = w.0.taken in w.2 ∙ ap₂ (λ (u : VoterSlotTable) (k : ℕ). phased u k a.phase) (l.invariant.1.0 (omega arith)) e)
-            (λ w. let n = w.0.left in w.1 ∙ l.invariant.1.1 (omega arith))
-            c.if-i-at.branch,
+            elim c.if-i-at.branch [
+              | then-i-at w ↦ w.next-is ∙ ap₂ (λ (u : VoterSlotTable) (k : ℕ). phased u k a.phase) (l.invariant.1.0 (omega arith)) w.if-i-at.true
+              | else-i-at w ↦ let n = w.if-i-at.false in w.next-is ∙ l.invariant.1.1 (omega arith)
+            ],
       ),
     )
 

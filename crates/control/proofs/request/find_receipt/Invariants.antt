@@ -1,5 +1,5 @@
 -- `control::request::find_receipt` meets its contract: what was found is at the first of the places passed. Assumes nothing.
-use Prim.Native.Nat.{◌≤◌, ◌-◌}
+use Prim.Native.Nat.{◌≤◌}
 use mathlib.Core.Path.{◌≡◌}
 use mathlib.Core.Bool.{false}
 use Rattle.control.specs.BeginJudge.{has_digest, has_receipt, is_place, read_at}

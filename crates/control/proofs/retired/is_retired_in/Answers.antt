@@ -1,7 +1,6 @@
 -- `control::retired::is_retired_in` meets its contract: an identity that was read is looked for, and where reading is refused the answer is no. Assumes nothing.
 use Prim.Native.Nat.{ℕ, ◌≤◌}
 use mathlib.Core.Path.{◌≡◌, ap, sym, subst, ◌∙◌}
-use borrow.Author.Rules.{rules}
 use Rattle.identity.specs.Identity.{from_node_id}
 use Rattle.identity.proofs.IdentityLaws.{TellingIdentity, identity-told, read-telling}
 use Rattle.identity.specs.declared.identity.VoterSlotIdentity.{VoterSlotIdentity}
@@ -18,9 +17,6 @@ is_retired_identity-requires c =
     let node = c.args.node in
     let read = identity-told c.from_node_id.result (from_node_id node) (read-telling node) c.from_node_id.ensures in
     has-slot node c.in-Ok.identity (sym read ∙ c.in-Ok.is)
-
-pub enum_told-1 : goal.enum_told-1
-enum_told-1 c = search rules
 
 pub returns-in-Ok : goal.returns-in-Ok
 returns-in-Ok c =

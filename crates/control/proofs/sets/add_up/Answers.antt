@@ -1,6 +1,5 @@
 -- `control::sets::add_up` meets its contract: what is left of the length is what is left of the counts, if they add up. Assumes nothing.
 use mathlib.Core.Path.{sym}
-use Prim.Native.Nat.{◌-◌}
 use native.Mathlib.Omega.{arith}
 use borrow.Author.Tests.{ne_eqb}
 use Rattle.control.specs.Observation.{total}
@@ -28,4 +27,4 @@ returns c =
     let counts = c.args.counts.now in
     let len = c.args.len in
     let z = total-end counts c.loop-i.i (omega arith) in
-    left-none (total counts) len c.loop-i.false (omega arith)
+    left-none (total counts) len c.loop-i.left (omega arith)

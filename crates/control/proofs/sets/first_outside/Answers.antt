@@ -1,10 +1,8 @@
 -- `control::sets::first_outside` meets its contract: the first of what is left is the first of all. Assumes nothing.
 use mathlib.Core.Path.{◌≡◌, refl, sym, ◌∙◌}
 use mathlib.Core.Bool.{◌||◌}
-use Prim.Native.Nat.{◌-◌}
 use native.Mathlib.Omega.{arith}
 use lib.ListN.{get_or}
-use Rattle.records.specs.ValidationLaws.{failed, held}
 use Rattle.control.specs.Observation.{contains, union_ids}
 use Rattle.control.specs.ObserveSets.{first_of}
 use Rattle.control.specs.ObserveSetsLaws.{outside-passed, outside-found, outside-none}
@@ -19,7 +17,7 @@ returns-then-not-before-after c =
     let x = get_or s.set.now c.loop-i.i 0 in
     let met : (c.contains-before.result || c.contains-after.result) ≡ (contains x s.old.now || contains x s.new.now) =
     λ i. c.contains-before.ensures i || c.contains-after.ensures i in
-    sym (c.loop-i.invariant.1 ∙ outside-found s.set.now s.old.now s.new.now c.loop-i.i (omega arith) (failed met c.if-not-before-after.true-raw))
+    sym (c.loop-i.invariant.1 ∙ outside-found s.set.now s.old.now s.new.now c.loop-i.i (omega arith) (sym met ∙ c.if-not-before-after.true))
 
 pub loop-i-preserved : goal.loop-i-preserved
 loop-i-preserved c =
@@ -27,7 +25,7 @@ loop-i-preserved c =
     let x = get_or s.set.now c.loop-i.i 0 in
     let met : (c.contains-before.result || c.contains-after.result) ≡ (contains x s.old.now || contains x s.new.now) =
     λ i. c.contains-before.ensures i || c.contains-after.ensures i in
-    (omega arith, c.loop-i.invariant.1 ∙ outside-passed s.set.now s.old.now s.new.now c.loop-i.i (omega arith) (held met c.if-not-before-after.false-raw))
+    (omega arith, c.loop-i.invariant.1 ∙ outside-passed s.set.now s.old.now s.new.now c.loop-i.i (omega arith) (sym met ∙ c.if-not-before-after.false))
 
 pub returns : goal.returns
 unfolding first_of

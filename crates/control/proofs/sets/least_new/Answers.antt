@@ -1,7 +1,7 @@
 -- `control::sets::least_new` meets its contract: the least of what is left, and of the least so far, is the least of all. Assumes nothing.
 use mathlib.Core.Path.{refl, sym, ap, ◌∙◌}
 use mathlib.Core.Bool.{Bool, cond, not, ◌&&◌}
-use Prim.Native.Nat.{◌+◌, ◌-◌}
+use Prim.Native.Nat.{◌+◌}
 use native.Mathlib.Omega.{arith}
 use lib.ListN.{get_or, drop}
 use lib.Dec.{ltb}

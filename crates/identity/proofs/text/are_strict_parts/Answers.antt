@@ -1,7 +1,7 @@
 -- `identity::text::are_strict_parts` meets its contract: what was read so far is in the part, and the answer is that part's for the bytes that follow.
 -- Assumes nothing.
 use mathlib.Core.Path.{◌≡◌, sym, ap, ◌∙◌}
-use Prim.Native.Nat.{◌<◌, ◌-◌}
+use Prim.Native.Nat.{◌<◌}
 use native.Mathlib.Omega.{arith}
 use lib.ListN.{length, get_or, drop_of_length-le}
 use Rattle.identity.specs.Text.{next_part}

@@ -20,7 +20,7 @@ use Rattle.journal.proofs.bodies.read_advance.Goals.{After-read_marker_body-name
 
 -- the call that reads what names the request, from after it; the bytes
 abbrev called : In-To → After-read_marker_body-named_read
-called c = (record { before = c.before.before.before; type_inv = record { body = c.type_inv.body } })
+called c = (record { before = c.before.before.before; type_inv = record { body = c.shared_slice_known-1.given } })
 
 abbrev input : In-To → List ℕ
 input c = (called c).args.body.now
@@ -45,11 +45,11 @@ pub slice_bounds-read_step-start : goal.slice_bounds-read_step-start
 slice_bounds-read_step-start c = marker_body.within _ (named c)
 
 pub overflow_sub-body : goal.overflow_sub-body
-overflow_sub-body c = marker_body.within _ (named (record { before = c.before.before.before.before; type_inv = record { body = c.type_inv.body } }))
+overflow_sub-body c = marker_body.within _ (named (record { before = c.before.before.before.before; type_inv = record { body = c.shared_slice_known-1.given } }))
 
 pub returns : goal.returns
 returns c =
-    let k : In-To = record { before = c.before.before.before.before.before.before; type_inv = record { body = c.type_inv.body } } in
+    let k : In-To = record { before = c.before.before.before.before.before.before; type_inv = record { body = c.shared_slice_known-1.given } } in
     let r = c.read_step-step_read in
     (λ i. cond (c.is_whole.ensures i) (asks (command (advance_control (c.advance_by.ensures i)) (c.advance_by.ensures i).cut)) bad)
     ∙ advance-asks (input k) r.result.answer (named k) (r.ensures ∙ ap (λ l. outcome blank_voter_replacement_step (dec_map step_body.dec step_of l)) (rest (input k) _))

@@ -29,7 +29,7 @@ bytes c i = omega (arith, c.shared_slice_known-1.given i)
 
 -- where the bytes are known, from after the size was read
 abbrev known : In-Read → After-shared_slice_known-1
-known c = (record { before = c.before.before.before; type_inv = record { bytes = c.type_inv.bytes } })
+known c = (record { before = c.before.before.before; type_inv = record { bytes = c.shared_slice_known-1.given } })
 
 -- how many bytes the id has, where it begins, and in which bytes
 abbrev id-size : In-Read → ℕ
@@ -49,11 +49,11 @@ fits : (c : In-Read) → id-at c + id-size c ≤ length (input c)
 fits c = (sized 65535).within _ (is c)
 
 -- as many as have a place
-few : (c : After-at_most_256) → (c.at_most_256.result ≤ id-size (record { before = c.before.before; type_inv = record { bytes = c.type_inv.bytes } })) × (c.at_most_256.result ≤ 256)
-few c = subst (λ r. (r ≤ id-size (record { before = c.before.before; type_inv = record { bytes = c.type_inv.bytes } })) × (r ≤ 256)) (sym c.at_most_256.ensures) (at_most 256 (id-size (record { before = c.before.before; type_inv = record { bytes = c.type_inv.bytes } })))
+few : (c : After-at_most_256) → (c.at_most_256.result ≤ id-size (record { before = c.before.before; type_inv = record { bytes = c.shared_slice_known-1.given } })) × (c.at_most_256.result ≤ 256)
+few c = subst (λ r. (r ≤ id-size (record { before = c.before.before; type_inv = record { bytes = c.shared_slice_known-1.given } })) × (r ≤ 256)) (sym c.at_most_256.ensures) (at_most 256 (id-size (record { before = c.before.before; type_inv = record { bytes = c.shared_slice_known-1.given } })))
 
-stops : (c : After-at_most_256) → id-at (record { before = c.before.before; type_inv = record { bytes = c.type_inv.bytes } }) + c.at_most_256.result ≤ length (input (record { before = c.before.before; type_inv = record { bytes = c.type_inv.bytes } }))
-stops c = omega (arith, fits (record { before = c.before.before; type_inv = record { bytes = c.type_inv.bytes } }), (few c).0)
+stops : (c : After-at_most_256) → id-at (record { before = c.before.before; type_inv = record { bytes = c.shared_slice_known-1.given } }) + c.at_most_256.result ≤ length (input (record { before = c.before.before; type_inv = record { bytes = c.shared_slice_known-1.given } }))
+stops c = omega (arith, fits (record { before = c.before.before; type_inv = record { bytes = c.shared_slice_known-1.given } }), (few c).0)
 
 pub enum_told-1 : goal.enum_told-1
 enum_told-1 c = search rules
@@ -63,30 +63,30 @@ returns-in_default c =
     let s = c.args.bytes.now in
     outcome-no _ (c.refused_snapshot_id.ensures ∙ ap (λ a. outcome blank_snapshot_id (no (number_of a))) (c.why_sized.ensures ∙ ap why_sized c.in_default.is))
     (map-no sized_bytes.dec snapshot_id_of s
-    (any-no s (bytes (record { before = c.before.before.before.before.before; type_inv = record { bytes = c.type_inv.bytes } })) (got (λ r. sized_read r s) c.read_sized-size.ensures c.in_default.is)))
+    (any-no s (bytes (record { before = c.before.before.before.before.before; type_inv = record { bytes = c.shared_slice_known-1.given } })) (got (λ r. sized_read r s) c.read_sized-size.ensures c.in_default.is)))
 
 pub overflow_add-stop : goal.overflow_add-stop
-overflow_add-stop c = record { fits = lt_of_le_of_lt (stops c) (known (record { before = c.before.before; type_inv = record { bytes = c.type_inv.bytes } })).well_formed.0.0 }
+overflow_add-stop c = record { fits = lt_of_le_of_lt (stops c) (known (record { before = c.before.before; type_inv = record { bytes = c.shared_slice_known-1.given } })).well_formed.0.0 }
 
 pub slice_bounds-put_bytes-end-2 : goal.slice_bounds-put_bytes-end-2
-slice_bounds-put_bytes-end-2 c = stops (record { before = c.before.before.before; type_inv = record { bytes = c.type_inv.bytes } })
+slice_bounds-put_bytes-end-2 c = stops (record { before = c.before.before.before; type_inv = record { bytes = c.shared_slice_known-1.given } })
 
 pub put_bytes-requires : goal.put_bytes-requires
 put_bytes-requires c =
-    let m : After-at_most_256 = record { before = c.before.before.before.before; type_inv = record { bytes = c.type_inv.bytes } } in
-    let at = id-at (record { before = m.before.before; type_inv = record { bytes = m.type_inv.bytes } }) in
+    let m : After-at_most_256 = record { before = c.before.before.before.before; type_inv = record { bytes = c.shared_slice_known-1.given } } in
+    let at = id-at (record { before = m.before.before; type_inv = record { bytes = m.shared_slice_known-1.given } }) in
     let z : length c.zeros256-place.result ≡ 256 = ap length c.zeros256-place.ensures ∙ length-zeros 256 in
-    omega (arith, length-take (at + m.at_most_256.result - at) (drop at (input (record { before = m.before.before; type_inv = record { bytes = m.type_inv.bytes } }))), z, (few m).1)
+    omega (arith, length-take (at + m.at_most_256.result - at) (drop at (input (record { before = m.before.before; type_inv = record { bytes = m.shared_slice_known-1.given } }))), z, (few m).1)
 
 pub overflow_add-result : goal.overflow_add-result
 overflow_add-result c =
-    let k : In-Read = record { before = c.before.before.before.before.before.before.before; type_inv = record { bytes = c.type_inv.bytes } } in
+    let k : In-Read = record { before = c.before.before.before.before.before.before.before; type_inv = record { bytes = c.shared_slice_known-1.given } } in
     record { fits = lt_of_le_of_lt (fits k) (known k).well_formed.0.0 }
 
 pub returns : goal.returns
 unfolding snapshot_id_of
 returns c =
-    let k : In-Read = record { before = c.before.before.before.before.before.before.before; type_inv = record { bytes = c.type_inv.bytes } } in
+    let k : In-Read = record { before = c.before.before.before.before.before.before.before; type_inv = record { bytes = c.shared_slice_known-1.given } } in
     let n = id-size k in
     let at = id-at k in
     let s = input k in

@@ -14,10 +14,10 @@ use Rattle.journal.proofs.bodies.read_attested.Goals.{After-decode_lost_voter_at
 
 -- the attestation's decoding, from after it was accepted; that place, from the first digest's call
 abbrev decoded : Else-not-accepted → After-decode_lost_voter_attestation-decoded
-decoded c = (record { before = c.before.before.before; type_inv = record { supplied = c.type_inv.supplied; attestation = c.type_inv.attestation } })
+decoded c = (record { before = c.before.before.before; type_inv = record { supplied = c.shared_slice_known-2-1.given; attestation = c.shared_slice_known-1.given } })
 
 abbrev accepted-at : After-read_array32-digest_read → Else-not-accepted
-accepted-at c = (record { before = c.before.before.before; type_inv = record { supplied = c.type_inv.supplied; attestation = c.type_inv.attestation } })
+accepted-at c = (record { before = c.before.before.before; type_inv = record { supplied = c.shared_slice_known-2-1.given; attestation = c.shared_slice_known-1.given } })
 
 pub returns-then-not-accepted : goal.returns-then-not-accepted
 unfolding begin_asking_by
@@ -30,7 +30,7 @@ returns-then-not-accepted c =
 pub returns : goal.returns
 unfolding begin_asking_by
 returns c =
-    let r : After-read_array32-digest_read = record { before = c.before.before.before.before.before.before; type_inv = record { supplied = c.type_inv.supplied; attestation = c.type_inv.attestation } } in
+    let r : After-read_array32-digest_read = record { before = c.before.before.before.before.before.before; type_inv = record { supplied = c.shared_slice_known-2-1.given; attestation = c.shared_slice_known-1.given } } in
     let k = accepted-at r in
     let d = (decoded k).decode_lost_voter_attestation-decoded in
     let s = (decoded k).args in
@@ -38,4 +38,4 @@ returns c =
     (supplied-read s.supplied.now (omega arith) r.read_array32-digest_read.ensures)
     (supplied-read (drop 32 s.supplied.now) (omega (arith, length-drop 32 s.supplied.now))
     (c.read_array32-configuration_read.ensures ∙ ap (λ l. outcome (zeros 32) ((raw 32).dec l)) (rest s.supplied.now 32)))
-    d.ensures (held k.before.accepted.ensures k.if1.left)
+    d.ensures (held c.accepted.ensures c.if-not-accepted.false-raw)

@@ -25,16 +25,16 @@ bytes c i = omega (arith, c.shared_slice_known-1.given i)
 
 -- the head's call, from after the head; the head's place, from the call of the size; the size's call, from after the size and from after its refusal
 abbrev called-head : In-To → After-read_begin_head-head_read
-called-head c = (record { before = c.before.before.before; type_inv = record { body = c.type_inv.body } })
+called-head c = (record { before = c.before.before.before; type_inv = record { body = c.shared_slice_known-1.given } })
 
 abbrev after-head : After-read_sized-size → In-To
-after-head c = (record { before = c.before.before.before; type_inv = record { body = c.type_inv.body } })
+after-head c = (record { before = c.before.before.before; type_inv = record { body = c.shared_slice_known-1.given } })
 
 abbrev called-size : In-Read → After-read_sized-size
-called-size c = (record { before = c.before.before; type_inv = record { body = c.type_inv.body } })
+called-size c = (record { before = c.before.before; type_inv = record { body = c.shared_slice_known-1.given } })
 
 abbrev refused-size : After-refused_begin-in_default-size → After-read_sized-size
-refused-size c = (record { before = c.before.before.before; type_inv = record { body = c.type_inv.body } })
+refused-size c = (record { before = c.before.before.before; type_inv = record { body = c.shared_slice_known-1.given } })
 
 -- the bytes and the size of the head; all that stands after it
 abbrev input : In-To → List ℕ
@@ -66,7 +66,7 @@ sized-is c =
     subst (λ l. sized_read c.read_sized-size.result l ≡ (sized 65535).dec l) (rest (input (after-head c)) (head-size (after-head c))) c.read_sized-size.ensures
 
 after-bytes : (c : In-To) → Bytes (after c)
-after-bytes c = bytes_drop (head-size c) (input c) (bytes (record { before = (called-head c).before.before; type_inv = record { body = (called-head c).type_inv.body } }))
+after-bytes c = bytes_drop (head-size c) (input c) (bytes (record { before = (called-head c).before.before; type_inv = record { body = (called-head c).shared_slice_known-1.given } }))
 
 attestation : (c : In-Read)
     → sized_bytes.dec (after (head_of c)) ≡ ok (take (len c) (drop (from c) (after (head_of c)))) (from c + len c)
@@ -115,26 +115,26 @@ pub returns-then-body-to-ne-SUPPLIED : goal.returns-then-body-to-ne-SUPPLIED
 unfolding begin_asking_by
 returns-then-body-to-ne-SUPPLIED c =
     ap (λ a. begin_asking_by a c.refused_begin-then-body-to-ne-SUPPLIED.result.value) c.refused_begin-then-body-to-ne-SUPPLIED.ensures
-    ∙ sym (begin-bad-3 _ (head (head_of (record { before = c.before.before.before; type_inv = record { body = c.type_inv.body } }))) (attestation (record { before = c.before.before.before; type_inv = record { body = c.type_inv.body } })) (λ e. c.if-body-to-ne-SUPPLIED.true (omega arith)))
+    ∙ sym (begin-bad-3 _ (head (head_of (record { before = c.before.before.before; type_inv = record { body = c.shared_slice_known-1.given } }))) (attestation (record { before = c.before.before.before; type_inv = record { body = c.shared_slice_known-1.given } })) (λ e. c.if-body-to-ne-SUPPLIED.true (omega arith)))
 
 pub slice_bounds-read_attested-end : goal.slice_bounds-read_attested-end
-slice_bounds-read_attested-end c = omega (arith, front (record { before = c.before.before; type_inv = record { body = c.type_inv.body } }))
+slice_bounds-read_attested-end c = omega (arith, front (record { before = c.before.before; type_inv = record { body = c.shared_slice_known-1.given } }))
 
 pub slice_bounds-read_attested-count-2 : goal.slice_bounds-read_attested-count-2
-slice_bounds-read_attested-count-2 c = omega (arith, front (record { before = c.before.before.before; type_inv = record { body = c.type_inv.body } }))
+slice_bounds-read_attested-count-2 c = omega (arith, front (record { before = c.before.before.before; type_inv = record { body = c.shared_slice_known-1.given } }))
 
 pub slice_bounds-read_attested-start-2 : goal.slice_bounds-read_attested-start-2
-slice_bounds-read_attested-start-2 c = omega (arith, front (record { before = c.before.before.before; type_inv = record { body = c.type_inv.body } }))
+slice_bounds-read_attested-start-2 c = omega (arith, front (record { before = c.before.before.before; type_inv = record { body = c.shared_slice_known-1.given } }))
 
 pub read_attested-requires : goal.read_attested-requires
 read_attested-requires c =
-    let k : In-Read = record { before = c.before.before.before.before; type_inv = record { body = c.type_inv.body } } in
+    let k : In-Read = record { before = c.before.before.before.before; type_inv = record { body = c.shared_slice_known-1.given } } in
     let to = head-size (head_of k) + from k + len k in
     ap length (rest (input (head_of k)) to) ∙ length-drop to (input (head_of k)) ∙ omega arith
 
 pub returns : goal.returns
 returns c =
-    let k : In-Read = record { before = c.before.before.before.before.before; type_inv = record { body = c.type_inv.body } } in
+    let k : In-Read = record { before = c.before.before.before.before.before; type_inv = record { body = c.shared_slice_known-1.given } } in
     let at = head-size (head_of k) in
     let f = from k in
     let n = len k in

@@ -20,10 +20,10 @@ use Rattle.journal.proofs.bodies.read_caught_up_step.Goals.{After-blank_voter_sn
 
 -- the cut's call, from after what was read and from after its refusal; where the function began, from that call
 abbrev called : After-blank_voter_snapshot_evidence-snapshot → After-read_log_id-read
-called c = (record { before = c.before.before.before; type_inv = record { bytes = c.type_inv.bytes } })
+called c = (record { before = c.before.before.before; type_inv = record { bytes = c.shared_slice_known-1.given } })
 
 abbrev refused : After-refused_step → After-read_log_id-read
-refused c = (record { before = c.before.before.before.before; type_inv = record { bytes = c.type_inv.bytes } })
+refused c = (record { before = c.before.before.before.before; type_inv = record { bytes = c.shared_slice_known-1.given } })
 
 abbrev start : After-read_log_id-read → Start
 start c = c.before.before.before.before

@@ -22,25 +22,25 @@ use Rattle.journal.proofs.bodies.read_snapshot_part.Goals.{After-digest-1, After
 
 -- the call that reads each field, from after the field and from after its refusal; the place after a field, from the call that reads the next
 abbrev called-cut : In-Read → After-read_log_id-cut_read
-called-cut c = (record { before = c.before.before; type_inv = record { bytes = c.type_inv.bytes } })
+called-cut c = (record { before = c.before.before; type_inv = record { bytes = c.shared_slice_known-1.given } })
 
 abbrev after-cut : After-read_any_snapshot_id-snapshot_id_read → In-Read
-after-cut c = (record { before = c.before.before.before; type_inv = record { bytes = c.type_inv.bytes } })
+after-cut c = (record { before = c.before.before.before; type_inv = record { bytes = c.shared_slice_known-1.given } })
 
 abbrev called-snapshot-id : After-snapshot_id-1 → After-read_any_snapshot_id-snapshot_id_read
-called-snapshot-id c = (record { before = c.before.before.before; type_inv = record { bytes = c.type_inv.bytes } })
+called-snapshot-id c = (record { before = c.before.before.before; type_inv = record { bytes = c.shared_slice_known-1.given } })
 
 abbrev refused-snapshot-id : After-refused_snapshot-in_default-snapshot_id_to → After-read_any_snapshot_id-snapshot_id_read
-refused-snapshot-id c = (record { before = c.before.before.before.before; type_inv = record { bytes = c.type_inv.bytes } })
+refused-snapshot-id c = (record { before = c.before.before.before.before; type_inv = record { bytes = c.shared_slice_known-1.given } })
 
 abbrev after-snapshot-id : After-read_array32-digest_read → After-snapshot_id-1
-after-snapshot-id c = (record { before = c.before.before.before; type_inv = record { bytes = c.type_inv.bytes } })
+after-snapshot-id c = (record { before = c.before.before.before; type_inv = record { bytes = c.shared_slice_known-1.given } })
 
 abbrev called-digest : After-digest-1 → After-read_array32-digest_read
-called-digest c = (record { before = c.before.before.before; type_inv = record { bytes = c.type_inv.bytes } })
+called-digest c = (record { before = c.before.before.before; type_inv = record { bytes = c.shared_slice_known-1.given } })
 
 abbrev refused-digest : After-refused_snapshot-in_default-digest_to → After-read_array32-digest_read
-refused-digest c = (record { before = c.before.before.before.before; type_inv = record { bytes = c.type_inv.bytes } })
+refused-digest c = (record { before = c.before.before.before.before; type_inv = record { bytes = c.shared_slice_known-1.given } })
 
 -- where the function began, from the call that reads each field
 abbrev start-cut : After-read_log_id-cut_read → Start
@@ -68,7 +68,7 @@ value c =
     let i = called-snapshot-id (after-snapshot-id (called-digest c)) in
     record {
       cut = (after-cut i).in-Read.cut;
-      snapshot_id = i.read-any-snapshot-id.result.value;
+      snapshot_id = i.read_any_snapshot_id-snapshot_id_read.result.value;
       digest = (called-digest c).read_array32-digest_read.result.value;
     }
 

@@ -21,10 +21,10 @@ use Rattle.journal.proofs.bodies.read_snapshot_step.Goals.{After-blank_voter_slo
 
 -- the part's call, from after what was read and from after its refusal; where the function began, from that call
 abbrev called : After-blank_voter_slot_log_id-caught_up → After-read_snapshot_part-read
-called c = (record { before = c.before.before.before.before; type_inv = record { bytes = c.type_inv.bytes } })
+called c = (record { before = c.before.before.before.before; type_inv = record { bytes = c.shared_slice_known-1.given } })
 
 abbrev refused : After-refused_step → After-read_snapshot_part-read
-refused c = (record { before = c.before.before.before.before; type_inv = record { bytes = c.type_inv.bytes } })
+refused c = (record { before = c.before.before.before.before; type_inv = record { bytes = c.shared_slice_known-1.given } })
 
 abbrev start : After-read_snapshot_part-read → Start
 start c = c.before.before.before.before

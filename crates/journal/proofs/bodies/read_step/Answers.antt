@@ -25,10 +25,10 @@ returns-in_default c =
     (step-no _ (got u8_read c.read_choice-kind_read.ensures c.in_default.is))
 
 pub read_snapshot_step-requires : goal.read_snapshot_step-requires
-read_snapshot_step-requires c = kinded (record { before = c.before.before; type_inv = record { bytes = c.type_inv.bytes } }) ∙ ap (λ k. ok k c.in-Read.at) c.in-0.is
+read_snapshot_step-requires c = kinded (record { before = c.before.before; type_inv = record { bytes = c.shared_slice_known-1.given } }) ∙ ap (λ k. ok k c.in-Read.at) c.in-0.is
 
 pub read_caught_up_step-requires : goal.read_caught_up_step-requires
-read_caught_up_step-requires c = kinded (record { before = c.before.before; type_inv = record { bytes = c.type_inv.bytes } }) ∙ ap (λ k. ok k c.in-Read.at) c.in-1.is
+read_caught_up_step-requires c = kinded (record { before = c.before.before; type_inv = record { bytes = c.shared_slice_known-1.given } }) ∙ ap (λ k. ok k c.in-Read.at) c.in-1.is
 
 pub returns-in_default-kind : goal.returns-in_default-kind
-returns-in_default-kind c = outcome-ok _ (step-partless _ (kinded (record { before = c.before.before.before; type_inv = record { bytes = c.type_inv.bytes } })) c.in_default-kind.rest.0.1 c.in_default-kind.rest.1 ∙ ap (λ v. ok v c.in-Read.at) (sym c.step_of.ensures))
+returns-in_default-kind c = outcome-ok _ (step-partless _ (kinded (record { before = c.before.before.before; type_inv = record { bytes = c.shared_slice_known-1.given } })) c.in_default-kind.in_default-kind-own.rest.0.1 c.in_default-kind.in_default-kind-own.rest.1 ∙ ap (λ v. ok v c.in-Read.at) (sym c.step_of.ensures))

@@ -1,8 +1,8 @@
 -- `journal::bodies::refused_marker_body` meets its contract. Written by scripts/readers.py. Assumes nothing.
+use Rattle.std.proofs.Common.{ap}
 use Rattle.format.specs.Res.Res.{no}
 use Rattle.identity.specs.Answer.{number_of}
 use Rattle.layout.specs.Reading.{outcome}
-use mathlib.Core.Path.{ap}
 use Rattle.journal.proofs.bodies.refused_marker_body.Goals as goal
 
 pub returns : goal.returns

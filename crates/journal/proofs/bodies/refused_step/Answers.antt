@@ -1,9 +1,9 @@
 -- `journal::bodies::refused_step` meets its contract. Written by scripts/readers.py. Assumes nothing.
-use Rattle.control.specs.Blank.{blank_voter_replacement_step}
+use Rattle.std.proofs.Common.{ap}
 use Rattle.format.specs.Res.Res.{no}
 use Rattle.identity.specs.Answer.{number_of}
 use Rattle.layout.specs.Reading.{outcome}
-use mathlib.Core.Path.{ap}
+use Rattle.control.specs.Blank.{blank_voter_replacement_step}
 use Rattle.journal.proofs.bodies.refused_step.Goals as goal
 
 pub returns : goal.returns

@@ -3,21 +3,23 @@
 use mathlib.Core.Path.{◌≡◌, ◌∙◌}
 use native.Mathlib.Omega.{arith}
 use lib.ListN.{take, length-take}
+use mathlib.Core.List.{List}
+use Prim.Native.Nat.{ℕ}
+use Rattle.io.specs.Digits.{last_digits, IsDigitCount}
 use Rattle.journal.specs.Replay.{decimal}
 use Rattle.journal.specs.ReplayLaws.{decimal-is}
 use Rattle.journal.specs.TextLaws.{put_same}
 use Rattle.journal.proofs.line.put_decimal.Goals as goal
-use Rattle.journal.proofs.line.put_decimal.Goals.{After-decimal-count}
 
 -- the digits are those of the number
-is : (c : After-decimal-count) → take c.decimal-count.result c.decimal-count.new.1.0 ≡ decimal c.args.number
-is c = c.decimal-count.ensures.1.1 ∙ decimal-is _ _ c.decimal-count.ensures.1.0
+is : (digits : List ℕ) (n k : ℕ) → IsDigitCount 10 1 n k → take k digits ≡ last_digits 10 k n → take k digits ≡ decimal n
+is digits n k count e = e ∙ decimal-is n k count
 
 pub slice_bounds-put_bytes-end : goal.slice_bounds-put_bytes-end
 slice_bounds-put_bytes-end c = simp length-take (omega arith)
 
 pub put_bytes-requires : goal.put_bytes-requires
-put_bytes-requires c = rw (is (record { before = c.before.before; type_inv = record { digits = ?; out = ? } })) c.requires
+put_bytes-requires c = rw (is _ _ _ c.decimal-count.ensures.len c.decimal-count.ensures.digits) c.requires
 
 pub returns : goal.returns
-returns c = put_same (is (record { before = c.before.before.before.before.before.before; type_inv = record { digits = ?; out = c.type_inv.out } })) c.put_bytes.ensures
+returns c = put_same (is _ _ _ c.decimal-count.ensures.len c.decimal-count.ensures.digits) c.put_bytes.ensures

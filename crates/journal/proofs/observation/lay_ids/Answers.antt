@@ -1,6 +1,6 @@
 -- `journal::observation::lay_ids` meets its contract. The loop's invariant: so many ids as were
 -- passed stand from the place on. Assumes nothing.
-use Prim.Native.Nat.{◌+◌, ◌-◌}
+use Prim.Native.Nat.{◌+◌}
 use native.Mathlib.Omega.{arith}
 use mathlib.Core.Path.{◌≡◌, refl, ap, ◌∙◌}
 use lib.ListN.{drop, length-drop, length-set, length-take}

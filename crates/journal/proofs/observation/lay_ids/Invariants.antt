@@ -7,7 +7,7 @@ use Rattle.journal.specs.SetBody.{LaidIds}
 use Rattle.journal.proofs.observation.lay_ids.Given as goal
 
 abbrev pub invariant-loop-i : goal.invariant-loop-i
-invariant-loop-i l = (l.i ≤ l.initial.ids) × (l.at ≡ 8 * l.i) × (length l.ids ≡ length l.from) × LaidIds l.bytes l.count l.i l.from l.ids
+invariant-loop-i l = (l.i ≤ l.count) × (l.at ≡ 8 * l.i) × (length l.ids ≡ length l.initial.ids) × LaidIds l.bytes l.from l.i l.initial.ids l.ids
 
 abbrev pub decreases-loop-i : goal.decreases-loop-i
-decreases-loop-i l = l.initial.ids - l.i
+decreases-loop-i l = l.count - l.i

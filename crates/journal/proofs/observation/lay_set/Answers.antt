@@ -1,6 +1,4 @@
 -- `journal::observation::lay_set` meets its contract: the count, and so many ids. Assumes nothing.
-use Prim.Native.Nat.{ℕ}
-use mathlib.Core.List.{List}
 use mathlib.Core.Path.{◌≡◌}
 use Rattle.format.specs.Num.{uint}
 use Rattle.format.specs.Res.Res.{ok}
@@ -9,25 +7,10 @@ use Rattle.layout.specs.ReadingLaws.{got}
 use Rattle.journal.specs.SetBodyLaws.{head-within, set-headless, set-short, set_there}
 use borrow.Author.Rules.{rules}
 use Rattle.journal.proofs.observation.lay_set.Goals as goal
-use Rattle.journal.proofs.observation.lay_set.Goals.{In-Read, Start}
-
--- the start, from after the count
-abbrev start : In-Read → Start
-start c = c.before.before.before.before.before
-
--- the bytes, and from where on the ids are laid
-abbrev bytes_of : In-Read → List ℕ
-bytes_of c = (start c).args.bytes.now
-
-abbrev from-of : In-Read → ℕ
-from-of c = (start c).args.from
-
--- the count
-count : (c : In-Read) → (uint 2).dec (bytes_of c) ≡ ok c.in-Read.count c.in-Read.at
-count c = got u16_read c.read_u16-count_read.ensures c.in-Read.is
 
 pub enum_told-1 : goal.enum_told-1
-enum_told-1 c = search rules
+enum_told-1 c =
+    search rules
 
 pub returns-in_default : goal.returns-in_default
 returns-in_default c =
@@ -36,20 +19,31 @@ returns-in_default c =
     (got u16_read c.read_u16-count_read.ensures c.in_default.is)
 
 pub overflow_sub-bytes : goal.overflow_sub-bytes
-overflow_sub-bytes c = head-within (bytes_of c) (from-of c) (count c)
+overflow_sub-bytes c =
+    let count : (uint 2).dec c.args.bytes.now ≡ ok c.in-Read.count c.in-Read.at =
+    got u16_read c.read_u16-count_read.ensures c.in-Read.is in
+    head-within c.args.bytes.now c.args.from count
 
 pub returns-then-bytes-at : goal.returns-then-bytes-at
 returns-then-bytes-at c =
-    let s : In-Read = record { before = c.before.before.before; type_inv = record { ids = c.type_inv.ids; bytes = c.type_inv.bytes } } in
-    set-short (bytes_of s) (from-of s) (count s) (start s).args.ids.now c.not_laid-then-bytes-at.ensures c.if-bytes-at.true
+    let count : (uint 2).dec c.args.bytes.now ≡ ok c.in-Read.count c.in-Read.at =
+    got u16_read c.read_u16-count_read.ensures c.in-Read.is in
+    set-short c.args.bytes.now c.args.from count c.args.ids.now c.not_laid-then-bytes-at.ensures c.if-bytes-at.true
 
 pub slice_bounds-lay_ids-count : goal.slice_bounds-lay_ids-count
-slice_bounds-lay_ids-count c = head-within (bytes_of (record { before = c.before.before; type_inv = record { ids = c.type_inv.ids; bytes = c.type_inv.bytes } })) (from-of (record { before = c.before.before; type_inv = record { ids = c.type_inv.ids; bytes = c.type_inv.bytes } })) (count (record { before = c.before.before; type_inv = record { ids = c.type_inv.ids; bytes = c.type_inv.bytes } }))
+slice_bounds-lay_ids-count c =
+    let count : (uint 2).dec c.args.bytes.now ≡ ok c.in-Read.count c.in-Read.at =
+    got u16_read c.read_u16-count_read.ensures c.in-Read.is in
+    head-within c.args.bytes.now c.args.from count
 
 pub slice_bounds-lay_ids-start : goal.slice_bounds-lay_ids-start
-slice_bounds-lay_ids-start c = head-within (bytes_of (record { before = c.before.before; type_inv = record { ids = c.type_inv.ids; bytes = c.type_inv.bytes } })) (from-of (record { before = c.before.before; type_inv = record { ids = c.type_inv.ids; bytes = c.type_inv.bytes } })) (count (record { before = c.before.before; type_inv = record { ids = c.type_inv.ids; bytes = c.type_inv.bytes } }))
+slice_bounds-lay_ids-start c =
+    let count : (uint 2).dec c.args.bytes.now ≡ ok c.in-Read.count c.in-Read.at =
+    got u16_read c.read_u16-count_read.ensures c.in-Read.is in
+    head-within c.args.bytes.now c.args.from count
 
 pub returns : goal.returns
 returns c =
-    let s : In-Read = record { before = c.before.before.before.before.before.before.before; type_inv = record { ids = c.type_inv.ids; bytes = c.type_inv.bytes } } in
-    set_there (bytes_of s) (from-of s) (count s) c.if-bytes-at.false c.lay_ids.ensures
+    let count : (uint 2).dec c.args.bytes.now ≡ ok c.in-Read.count c.in-Read.at =
+    got u16_read c.read_u16-count_read.ensures c.in-Read.is in
+    set_there c.args.bytes.now c.args.from count c.if-bytes-at.false c.lay_ids.ensures

@@ -23,23 +23,23 @@ abbrev start : In-Read → Start
 start c = c.before.before.before.before.before.before
 
 abbrev cut-read : In-Read-count_read → In-Read
-cut-read c = (record { before = c.before.before.before.before; type_inv = record { counts = c.type_inv.counts; ids = c.type_inv.ids; body = c.type_inv.body } })
+cut-read c = (record { before = c.before.before.before.before; type_inv = record { counts = c.slice_known-2-1.given; ids = c.slice_known-1.given; body = c.shared_slice_known-1.given } })
 
--- its `.pre` is what is required of the call
+-- its `.requires` is what is required of the call
 abbrev required : In-Read-count_read → Start
 required c = start (cut-read c)
 
 abbrev counted : After-lay_sets-laid → In-Read-count_read
-counted c = (record { before = c.before.before.before.before.before; type_inv = record { counts = ?; ids = ?; body = c.type_inv.body } })
+counted c = (record { before = c.before.before.before.before.before; type_inv = record { counts = c.slice_known-2-1.given; ids = c.slice_known-1.given; body = c.shared_slice_known-1.given } })
 
 abbrev sets-read : After-struct_known-2-1 → After-lay_sets-laid
-sets-read c = (record { before = c.before.before.before.before.before.before.before.before; type_inv = record { body = c.type_inv.body } })
+sets-read c = (record { before = c.before.before.before.before.before.before.before.before; type_inv = record { body = c.shared_slice_known-1.given } })
 
 abbrev told : After-struct_known-2-1 → In-Read-count_read
 told c = counted (sets-read c)
 
 abbrev sets : After-lay_set-nodes → After-struct_known-2-1
-sets c = (record { before = c.before.before.before.before; type_inv = record { counts = c.type_inv.counts; ids = ?; body = c.type_inv.body } })
+sets c = (record { before = c.before.before.before.before; type_inv = record { counts = c.slice_known-4-1.given; ids = c.slice_known-3-1.given; body = c.shared_slice_known-1.given } })
 
 -- after the cut: the body, and the place after it
 abbrev body1 : In-Read → List ℕ
@@ -65,19 +65,19 @@ got-2 : (c : In-Read-count_read) → (uint 1).dec (drop (at1 (cut-read c)) (body
 got-2 c = got u8_read (c.read_u8-count_read.ensures ∙ ap (uint 1).dec (rest (body2 c) (at1 (cut-read c)))) c.in-Read-count_read.is
 
 -- after the sets
-laid : (c : After-lay_sets-laid) → LaidSets c.lay_sets-laid.result (drop (at2 (counted c)) (body2 (counted c))) (count (counted c)) c.lay_sets-laid.new.1.1.0 c.lay_sets-laid.new.1.1.1.0
+laid : (c : After-lay_sets-laid) → LaidSets c.lay_sets-laid.result (drop (at2 (counted c)) (body2 (counted c))) (count (counted c)) c.lay_sets-laid.new.ids c.lay_sets-laid.new.counts
 laid c = sets-rest (body2 (counted c)) (at2 (counted c)) c.lay_sets-laid.ensures
 
 abbrev at3 : After-struct_known-2-1 → ℕ
 at3 c = at2 (told c) + (sets-read c).lay_sets-laid.result.taken
 
 so : (c : After-struct_known-2-1)
-    → SetsSo (drop (at2 (told c)) (body2 (told c))) (count (told c)) (sets-read c).lay_sets-laid.result.taken (sets-read c).lay_sets-laid.result.ids (sets-read c).lay_sets-laid.new.1.1.0 (sets-read c).lay_sets-laid.new.1.1.1.0
+    → SetsSo (drop (at2 (told c)) (body2 (told c))) (count (told c)) (sets-read c).lay_sets-laid.result.taken (sets-read c).lay_sets-laid.result.ids (sets-read c).lay_sets-laid.new.ids (sets-read c).lay_sets-laid.new.counts
 so c = (laid (sets-read c)).formed (held refl c.if-not-laid.false)
 
 -- after the nodes
 nodes : (c : After-lay_set-nodes)
-    → LaidSet c.lay_set-nodes.result (drop (at3 (sets c)) (body2 (told (sets c)))) (sets-read (sets c)).lay_sets-laid.result.ids (sets-read (sets c)).lay_sets-laid.new.1.1.0 c.lay_set-nodes.new.1.0
+    → LaidSet c.lay_set-nodes.result (drop (at3 (sets c)) (body2 (told (sets c)))) (sets-read (sets c)).lay_sets-laid.result.ids (sets-read (sets c)).lay_sets-laid.new.ids c.lay_set-nodes.new.ids
 nodes c = set_rest (body2 (told (sets c))) (at3 (sets c)) c.lay_set-nodes.ensures
 
 -- no part ends after the body
@@ -106,7 +106,7 @@ slice_bounds-read_u8-start c = within-1 c
 
 pub returns-in_default-count_read : goal.returns-in_default-count_read
 returns-in_default-count_read c =
-    let p : In-Read = record { before = c.before.before.before.before.before; type_inv = record { counts = c.type_inv.counts; ids = c.type_inv.ids; body = c.type_inv.body } } in
+    let p : In-Read = record { before = c.before.before.before.before.before; type_inv = record { counts = c.slice_known-2-1.given; ids = c.slice_known-1.given; body = c.shared_slice_known-1.given } } in
     let s = (start p).args in (
       unformed c.not_formed-in_default-count_read.result s.ids.now s.counts.now c.not_formed-in_default-count_read.ensures.0
           (observation-countless s.body.now (got-1 p) (got u8_read (c.read_u8-count_read.ensures ∙ ap (uint 1).dec (rest (body1 p) (at1 p))) c.in_default-count_read.is)),
@@ -127,9 +127,9 @@ lay_sets-laid-requires c = simp (length-take, length-drop) (omega arith)
 
 pub returns-then-not-laid : goal.returns-then-not-laid
 returns-then-not-laid c =
-    let q : After-lay_sets-laid = record { before = c.before.before.before.before.before.before.before.before; type_inv = record { body = c.type_inv.body } } in
+    let q : After-lay_sets-laid = record { before = c.before.before.before.before.before.before.before.before; type_inv = record { body = c.shared_slice_known-1.given } } in
     let p = counted q in (
-      unformed c.not_formed-then-not-laid.result q.lay_sets-laid.new.1.1.0 q.lay_sets-laid.new.1.1.1.0 c.not_formed-then-not-laid.ensures.0
+      unformed c.not_formed-then-not-laid.result q.lay_sets-laid.new.ids q.lay_sets-laid.new.counts c.not_formed-then-not-laid.ensures.0
           (observation-setless (body2 p) (got-1 (cut-read p)) (got-2 p) ((laid q).refused (failed refl c.if-not-laid.true))),
       (omega (arith, c.not_formed-then-not-laid.ensures.1.0), omega (arith, c.not_formed-then-not-laid.ensures.1.1)),
     )
@@ -145,24 +145,24 @@ slice_bounds-lay_set-start c = within-3 c
 
 pub lay_set-nodes-requires : goal.lay_set-nodes-requires
 lay_set-nodes-requires c =
-    let p : After-struct_known-2-1 = record { before = c.before.before.before; type_inv = record { counts = c.type_inv.counts; ids = ?; body = c.type_inv.body } } in
+    let p : After-struct_known-2-1 = record { before = c.before.before.before; type_inv = record { counts = c.slice_known-4-1.given; ids = c.slice_known-3-1.given; body = c.shared_slice_known-1.given } } in
     let t = told p in
-    let r = (required t).pre in
+    let r = (required t).requires in
     simp (length-take, length-drop)
     (omega (arith, r.0, r.1.0, (so p).few, (so p).within, within-3 p, length-drop (at2 t) (body2 t)))
 
 pub overflow_add-result : goal.overflow_add-result
 overflow_add-result c =
-    let n : After-lay_set-nodes = record { before = c.before.before.before.before; type_inv = record { counts = c.type_inv.counts; body = c.type_inv.body } } in
+    let n : After-lay_set-nodes = record { before = c.before.before.before.before; type_inv = record { counts = c.slice_known-4-1.given; body = c.shared_slice_known-1.given } } in
     let p = sets n in
     omega (arith, (required (told p)).requires.0, within-3 p, (nodes n).within, length-drop (at3 p) (body2 (told p)))
 
 pub returns : goal.returns
 returns c =
-    let n : After-lay_set-nodes = record { before = c.before.before.before.before.before; type_inv = record { counts = c.type_inv.counts; body = c.type_inv.body } } in
+    let n : After-lay_set-nodes = record { before = c.before.before.before.before.before; type_inv = record { counts = c.slice_known-4-1.given; body = c.shared_slice_known-1.given } } in
     let p = sets n in
     let t = told p in
     let l = nodes n in (
       observation-end (body2 t) (got-1 (cut-read t)) (got-2 t) (so p) l,
-      (omega (arith, (required t).pre.0, l.few, l.within, (so p).few, within-3 p, length-drop (at3 p) (body2 t)), omega arith),
+      (omega (arith, (required t).requires.0, l.few, l.within, (so p).few, within-3 p, length-drop (at3 p) (body2 t)), omega arith),
     )

@@ -1,76 +1,19 @@
 -- `journal::play::open_log` meets its contract. Assumes nothing.
-use Prim.Native.Nat.{ℕ, ◌<◌}
+use Prim.Native.Nat.{◌<◌}
 use native.Mathlib.Omega.{arith}
 use mathlib.Core.Path.{◌≡◌, sym, ap, ◌∙◌, subst}
 use mathlib.Core.Bool.{Bool, false, false≢true}
-use mathlib.Core.List.{List}
-use mathlib.Core.Logic.{⊎_elim}
 use lib.ListN.{length}
 use Rattle.format.specs.Combinators.{Bytes}
 use Rattle.identity.specs.Answer.{number_of}
-use Rattle.journal.specs.Replay.{Standing}
-use Rattle.journal.specs.declared.play.Opened.{Opened}
+use Rattle.journal.specs.Replay.{Standing, step}
+use Rattle.journal.specs.Replay.Entry.{framed}
 use Rattle.journal.specs.declared.record.Record.{Record}
-use Rattle.journal.specs.Play.{Goes, Safe, brings, opened_at}
+use Rattle.journal.specs.Play.{Goes, Safe, brings, opened_at, standing, standing_in}
 use Rattle.journal.specs.Step.{ValidStanding}
 use Rattle.journal.specs.PlayLaws.{Brought, Here, body_in, brought, goes_none, goes_then, goes-turn, here, opens, put-less, safe-turn, turn-left, turn-none}
 use Rattle.journal.proofs.play.open_log.Goals as goal
-use Rattle.journal.proofs.play.open_log.Goals.{After-open_record-opened, After-put_turn-place, After-record_at-found, After-shared_slice_known-1, At-loop-place, Joined-stands, Start}
-
-bytes : (c : After-shared_slice_known-1) → Bytes c.args.input.now
-unfolding Bytes
-bytes c i = omega (arith, c.shared_slice_known-1.given i)
-
--- the loop's head, from after the record was read; the start, from there
-abbrev head : After-record_at-found → At-loop-place
-head c = (record { before = c.before.before.before.before; type_inv = record { input = c.type_inv.input } })
-
-abbrev start : At-loop-place → Start
-start c = c.before.before.before.before.before.before
-
--- where the record was read, from after its body was; that, from where a table that it brought is in place
-abbrev found : After-open_record-opened → After-record_at-found
-found c = (record { before = c.before.before.before; type_inv = record { input = c.type_inv.input } })
-
-abbrev opened : Joined-stands → After-open_record-opened
-opened c = (record { before = c.before.before.before; type_inv = record { input = c.type_inv.input } })
-
-abbrev joined_of : After-put_turn-place → Joined-stands
-joined_of c = (record { before = c.before.before.before.before; type_inv = record { input = c.type_inv.input } })
-
--- the bytes, whether they are the last, and what stands at the loop's head
-abbrev input_of : At-loop-place → List ℕ
-input_of c = (start c).args.input.now
-
-abbrev last_of : At-loop-place → Bool
-last_of c = (start c).args.last
-
-abbrev opened-at : At-loop-place → Opened
-opened-at c = opened_at c.loop-place.place c.loop-place.stands c.loop-place.table
-
-here-at : (c : After-record_at-found) → Here (input_of (head c)) (last_of (head c)) (head c).loop-place.place.read c.record_at-found.result
-here-at c =
-    let input = input_of (head c) in
-    let last = last_of (head c) in
-    let at = (head c).loop-place.place.read in
-    subst (λ (r : Record). Here input last at r) (sym c.record_at-found.ensures)
-    (here input last at (head c).loop-place.invariant.1.within (bytes (record { before = (head c).before.before.before.before.before; type_inv = record { input = (head c).type_inv.input } })))
-
--- there are turns left, and no table yet
-left : (c : After-record_at-found) → (0 < (head c).loop-place.place.turns) × ((head c).loop-place.stands ≡ false)
-left c = turn-left (head c).loop-place.place.turns (head c).loop-place.stands c.loop-place-test.true
-
--- a table that the record brought takes the place of the one before
-joined : (c : Joined-stands)
-    → let u = (opened c).open_record-opened.result.table in
-    Brought (brings u) u (head (found (opened c))).loop-place.table c.if-stands.table
-joined c =
-    let u = (opened c).open_record-opened.result.table in
-    let old = (head (found (opened c))).loop-place.table in
-    ⊎_elim
-    (λ w. brought (brings u) u old c.if-stands.table (λ _. w.2) (λ k. absurd (false≢true (sym k ∙ w.0.taken))))
-    (λ w. brought (brings u) u old c.if-stands.table (λ k. absurd (false≢true (sym w.0.left ∙ k))) (λ _. w.1))
-    c.if-stands.branch
+use Rattle.journal.proofs.play.open_log.Goals.{then-stands, else-stands}
 
 pub loop-place-init : goal.loop-place-init
 loop-place-init c =
@@ -82,63 +25,112 @@ loop-place-init c =
     (goes_none a.input.now a.last none a.out.now (omega arith), safe)
 
 pub record_at-found-requires : goal.record_at-found-requires
-record_at-found-requires c = c.loop-place.invariant.1.within
+record_at-found-requires c =
+    c.loop-place.invariant.1.within
 
 pub slice_bounds-open_record-count : goal.slice_bounds-open_record-count
-slice_bounds-open_record-count c = let h = here-at c in omega arith
+unfolding Bytes
+slice_bounds-open_record-count c =
+    let bytes : Bytes c.args.input.now =
+    λ i. omega (arith, c.shared_slice_known-1.given i) in
+    let here-at : Here c.args.input.now c.args.last c.loop-place.place.read c.record_at-found.result =
+    let input = c.args.input.now in
+    let last = c.args.last in
+    let at = c.loop-place.place.read in
+    subst (λ (r : Record). Here input last at r) (sym c.record_at-found.ensures)
+    (here input last at c.loop-place.invariant.1.within bytes) in
+    let h = here-at in omega arith
 
 pub slice_bounds-open_record-start : goal.slice_bounds-open_record-start
-slice_bounds-open_record-start c = let h = here-at c in omega arith
+unfolding Bytes
+slice_bounds-open_record-start c =
+    let bytes : Bytes c.args.input.now =
+    λ i. omega (arith, c.shared_slice_known-1.given i) in
+    let here-at : Here c.args.input.now c.args.last c.loop-place.place.read c.record_at-found.result =
+    let input = c.args.input.now in
+    let last = c.args.last in
+    let at = c.loop-place.place.read in
+    subst (λ (r : Record). Here input last at r) (sym c.record_at-found.ensures)
+    (here input last at c.loop-place.invariant.1.within bytes) in
+    let h = here-at in omega arith
 
 pub slice_bounds-open_record-end : goal.slice_bounds-open_record-end
-slice_bounds-open_record-end c = let h = here-at c in omega arith
+unfolding Bytes
+slice_bounds-open_record-end c =
+    let bytes : Bytes c.args.input.now =
+    λ i. omega (arith, c.shared_slice_known-1.given i) in
+    let here-at : Here c.args.input.now c.args.last c.loop-place.place.read c.record_at-found.result =
+    let input = c.args.input.now in
+    let last = c.args.last in
+    let at = c.loop-place.place.read in
+    subst (λ (r : Record). Here input last at r) (sym c.record_at-found.ensures)
+    (here input last at c.loop-place.invariant.1.within bytes) in
+    let h = here-at in omega arith
 
 pub put_turn-place-requires : goal.put_turn-place-requires
 put_turn-place-requires c =
-    let r = found (opened (record { before = c.before.before.before; type_inv = record { input = c.type_inv.input } })) in
-    let l = (head r).loop-place in
-    ((left r).0, (l.inv.1.lines_fit, l.inv.1.counts-fit))
+    let left : (0 < c.loop-place.place.turns) × (c.loop-place.stands ≡ false) =
+    turn-left c.loop-place.place.turns c.loop-place.stands c.loop-place-test.true in
+    let l = c.loop-place in
+    (left.0, (l.invariant.1.lines_fit, l.invariant.1.counts-fit))
 
 pub loop-place-smaller : goal.loop-place-smaller
-loop-place-smaller c = put-less c.put_turn-place.ensures (left (found (opened (joined_of (record { before = c.before.before.before; type_inv = record { input = c.type_inv.input } }))))).0
+loop-place-smaller c =
+    let left : (0 < c.loop-place.place.turns) × (c.loop-place.stands ≡ false) =
+    turn-left c.loop-place.place.turns c.loop-place.stands c.loop-place-test.true in
+    put-less c.put_turn-place.ensures left.0
 
 pub loop-place-preserved : goal.loop-place-preserved
+unfolding Bytes
 loop-place-preserved c =
-    let put : After-put_turn-place = record { before = c.before.before.before; type_inv = record { input = c.type_inv.input } } in
-    let m = joined_of put in
-    let d = found (opened m) in
-    let input = input_of (head d) in
-    let last = last_of (head d) in
-    let l = (head d).loop-place in
-    let o = opened-at (head d) in
-    let r = d.record-at.result in
-    let u = (opened m).open_record-opened.result in
-    let table = m.if2.table in
-    let j = joined m in
-    let steps =
-    opens o r.asks (body_in input r) (left d).1
-    ∙ (sym (opened m).open_record-opened.ensures.0 ∙ ap (λ (x : Standing). (number_of u.answer, x)) (sym j.0)) in
-    let keeps : brings u.table ≡ false → (l.stands ≡ false) × (table ≡ l.table) = λ k. ((left d).1, j.1.0 k) in
-    let revision-is = put.revision_of-revision.ensures ∙ j.1.1 in
-    let q = put.put_turn-place.result in (
-      goes_then l.inv.0
-          (goes-turn input last o l.out l.inv.1 (left d).0 r (here-at d) u.answer (brings u.table) table steps keeps
-          put.revision_of-revision.result revision-is q _ put.put_turn-place.ensures),
-      safe-turn input last o l.out l.inv.1 (left d).0 r (here-at d) u.answer (brings u.table) table steps keeps
-          put.revision_of-revision.result revision-is q _ put.put_turn-place.ensures (subst ValidStanding (sym j.0) (opened m).open_record-opened.ensures.1),
+    let bytes : Bytes c.args.input.now =
+    λ i. omega (arith, c.shared_slice_known-1.given i) in
+    let here-at : Here c.args.input.now c.args.last c.loop-place.place.read c.record_at-found.result =
+    let input = c.args.input.now in
+    let last = c.args.last in
+    let at = c.loop-place.place.read in
+    subst (λ (r : Record). Here input last at r) (sym c.record_at-found.ensures)
+    (here input last at c.loop-place.invariant.1.within bytes) in
+    let left : (0 < c.loop-place.place.turns) × (c.loop-place.stands ≡ false) =
+    turn-left c.loop-place.place.turns c.loop-place.stands c.loop-place-test.true in
+    let joined : Brought (brings c.open_record-opened.result.table) c.open_record-opened.result.table c.loop-place.table c.if-stands.table =
+    let u = c.open_record-opened.result.table in
+    let old = c.loop-place.table in
+    elim c.if-stands.branch [
+      | then-stands w ↦ brought (brings u) u old c.if-stands.table (λ _. w.table-is) (λ k. absurd (false≢true (sym k ∙ w.if-stands.true-raw)))
+      | else-stands w ↦ brought (brings u) u old c.if-stands.table (λ k. absurd (false≢true (sym w.if-stands.false-raw ∙ k))) (λ _. w.table-is)
+    ] in
+    let input = c.args.input.now in
+    let last = c.args.last in
+    let l = c.loop-place in
+    let o = (opened_at c.loop-place.place c.loop-place.stands c.loop-place.table) in
+    let r = c.record_at-found.result in
+    let u = c.open_record-opened.result in
+    let table = c.if-stands.table in
+    let j = joined in
+    let steps : step (standing_in o) (framed r.asks (body_in input r)) ≡ (number_of u.answer, standing (brings u.table) table) =
+    opens o r.asks (body_in input r) left.1
+    ∙ (sym c.open_record-opened.ensures.0 ∙ ap (λ (x : Standing). (number_of u.answer, x)) (sym j.0)) in
+    let keeps : brings u.table ≡ false → (l.stands ≡ false) × (table ≡ l.table) = λ k. (left.1, j.1.0 k) in
+    let revision-is = c.revision_of-revision.ensures ∙ j.1.1 in
+    let q = c.put_turn-place.result in (
+      goes_then l.invariant.0
+          (goes-turn input last o l.out l.invariant.1 left.0 r here-at u.answer (brings u.table) table steps keeps
+          c.revision_of-revision.result revision-is q _ c.put_turn-place.ensures),
+      safe-turn input last o l.out l.invariant.1 left.0 r here-at u.answer (brings u.table) table steps keeps
+          c.revision_of-revision.result revision-is q _ c.put_turn-place.ensures (subst ValidStanding (sym j.0) c.open_record-opened.ensures.1),
     )
 
 pub shape_of-out : goal.shape_of-out
-shape_of-out c = c.loop-place.invariant.0.long
+shape_of-out c =
+    c.loop-place.invariant.0.long
 
 pub returns : goal.returns
 returns c =
-    let h : At-loop-place = record { before = c.before.before.before; type_inv = record { input = c.type_inv.input } } in
-    let s = start h in
-    let a = s.args in
-    let l = h.loop-place in (
+    let a = c.args in
+    let l = c.loop-place in (
       subst
-          (λ (b : Bool). Goes a.input.now a.last (opened_at a.from.place b a.from.table) a.out.now (opened-at h) l.out)
-          (sym s.pre.1) l.invariant.0,
+          (λ (b : Bool). Goes a.input.now a.last (opened_at a.from.place b a.from.table) a.out.now (opened_at c.loop-place.place c.loop-place.stands c.loop-place.table) l.out)
+          (sym c.requires.1) l.invariant.0,
       (l.invariant.1, turn-none l.place.turns l.stands c.loop-place-test.false),
     )

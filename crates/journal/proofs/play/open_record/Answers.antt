@@ -17,7 +17,7 @@ enum_told-1 c = search rules
 
 pub returns-in-Tb : goal.returns-in-Tb
 returns-in-Tb c =
-    let known : After-shared_slice_known-1 = record { before = c.before.before.before; type_inv = record { body = c.type_inv.body } } in
+    let known : After-shared_slice_known-1 = record { before = c.before.before.before; type_inv = record { body = c.shared_slice_known-1.given } } in
     let a = known.args in
     let read = c.decode_voter_slot_table in
     opening-table a.body.now (bytes known) a.asks c.in-Tb.is read.result.answer read.result.table read.ensures

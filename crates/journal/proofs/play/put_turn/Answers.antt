@@ -16,7 +16,7 @@ abbrev called-line : After-turns_after-turns → After-put_line-written
 called-line c = c.before.before.before.before
 
 abbrev goes_on : After-put_line-written → Else-found-place
-goes_on c = (record { before = c.before.before.before; type_inv = record { out = ? } })
+goes_on c = (record { before = c.before.before.before; type_inv = record { out = c.slice_known-1.given } })
 
 abbrev start : Else-found-place → Start
 start c = c.before.before.before.before.before
@@ -49,7 +49,7 @@ place_after c =
     }
 
 turned : (c : After-turns_after-turns)
-    → PutTurn (place_of c) (found_of c) (answer-of c) (revision-of c) (out_of c) (called-line c).put_line-written.new.0 (place_after c)
+    → PutTurn (place_of c) (found_of c) (answer-of c) (revision-of c) (out_of c) (called-line c).put_line-written.new.out (place_after c)
 turned c =
     put_some (place_of c) (found_of c) (answer-of c) (revision-of c) (out_of c) (goes_on (called-line c)).if-found-place.false
     (called-line c).put_line-written.ensures c.turns_after-turns.ensures (omega arith) (omega arith)
@@ -60,7 +60,7 @@ returns-then-found-place c =
     put-none a.place a.found a.answer a.revision a.out.now c.if-found-place.true
 
 pub shape_of-out : goal.shape_of-out
-shape_of-out c = put-long (turned (record { before = c.before.before.before; type_inv = record { out = c.type_inv.out } })) (omega arith)
+shape_of-out c = put-long (turned (record { before = c.before.before.before; type_inv = record { out = c.slice_known-2-1.given } })) (omega arith)
 
 pub returns : goal.returns
-returns c = turned (record { before = c.before.before.before; type_inv = record { out = c.type_inv.out } })
+returns c = turned (record { before = c.before.before.before; type_inv = record { out = c.slice_known-2-1.given } })

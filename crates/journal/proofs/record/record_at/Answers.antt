@@ -23,13 +23,13 @@ abbrev start : After-mark_of-mark → Start
 start c = c.before.before.before.before.before.before.before
 
 abbrev found-mark : Else-not-is_known → After-mark_of-mark
-found-mark c = (record { before = c.before.before.before; type_inv = record { bytes = c.type_inv.bytes; input = c.type_inv.input } })
+found-mark c = (record { before = c.before.before.before; type_inv = record { bytes = c.shared_slice_known-3-1.given; input = c.shared_slice_known-1.given } })
 
 abbrev known-mark : After-read_u16-size_read → Else-not-is_known
-known-mark c = (record { before = c.before.before.before; type_inv = record { bytes = ?; input = c.type_inv.input } })
+known-mark c = (record { before = c.before.before.before; type_inv = record { bytes = c.shared_slice_known-3-1.given; input = c.shared_slice_known-1.given } })
 
 abbrev called-size : In-Read → After-read_u16-size_read
-called-size c = (record { before = c.before.before; type_inv = record { input = c.type_inv.input } })
+called-size c = (record { before = c.before.before; type_inv = record { input = c.shared_slice_known-1.given } })
 
 -- the arguments, and the bytes from the place on, from where the mark was read
 abbrev input_of : After-mark_of-mark → List ℕ
@@ -66,7 +66,7 @@ returns-then-len-lt2 c =
 
 pub returns-then-not-is_known : goal.returns-then-not-is_known
 returns-then-not-is_known c =
-    let m : After-mark_of-mark = record { before = c.before.before.before.before; type_inv = record { bytes = ?; input = c.type_inv.input } } in
+    let m : After-mark_of-mark = record { before = c.before.before.before.before; type_inv = record { bytes = c.shared_slice_known-3-1.given; input = c.shared_slice_known-1.given } } in
     c.cut_short-then-not-is_known.ensures
     ∙ record-unknown (input_of m) (at_of m) (last_of m) (omega arith) (marked m) (failed c.is_known.ensures c.if-not-is_known.true-raw)
 
@@ -75,7 +75,7 @@ enum_told-1 c = search rules
 
 pub returns-in_default : goal.returns-in_default
 returns-in_default c =
-    let s : After-read_u16-size_read = record { before = c.before.before.before; type_inv = record { input = c.type_inv.input } } in
+    let s : After-read_u16-size_read = record { before = c.before.before.before; type_inv = record { input = c.shared_slice_known-1.given } } in
     let k = known-mark s in
     let m = found-mark k in
     c.cut_short-in_default.ensures
@@ -88,14 +88,14 @@ overflow_sub-len c =
 
 pub returns-then-len-size : goal.returns-then-len-size
 returns-then-len-size c =
-    let s : In-Read = record { before = c.before.before.before; type_inv = record { input = c.type_inv.input } } in
+    let s : In-Read = record { before = c.before.before.before; type_inv = record { input = c.shared_slice_known-1.given } } in
     let k = known-mark (called-size s) in
     let m = found-mark k in
     c.cut_short-then-len-size.ensures ∙ record-cut (input_of m) (at_of m) (last_of m) (marked m) (known k) (sized s) c.if-len-size.true
 
 pub returns : goal.returns
 returns c =
-    let s : In-Read = record { before = c.before.before; type_inv = record { input = c.type_inv.input } } in
+    let s : In-Read = record { before = c.before.before; type_inv = record { input = c.shared_slice_known-1.given } } in
     let k = known-mark (called-size s) in
     let m = found-mark k in
     record-whole (input_of m) (at_of m) (last_of m) (marked m) (known k) (sized s) c.if-len-size.false

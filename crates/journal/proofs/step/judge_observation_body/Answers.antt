@@ -10,13 +10,13 @@ start c = c.before.before.before.before.before
 
 pub returns-then-not-read : goal.returns-then-not-read
 returns-then-not-read c =
-    let called : After-read_observation-read = record { before = c.before.before.before; type_inv = record { body = c.type_inv.body } } in
+    let called : After-read_observation-read = record { before = c.before.before.before; type_inv = record { body = c.shared_slice_known-1.given } } in
     let a = (start called).args in
     observed-bad a.table called.read_observation-read.result _ _ a.body.now called.read_observation-read.ensures.0 (not-true _ c.if-not-read.true)
 
 pub returns : goal.returns
 returns c =
-    let called : After-read_observation-read = record { before = c.before.before.before.before.before.before.before.before; type_inv = record { body = c.type_inv.body } } in
+    let called : After-read_observation-read = record { before = c.before.before.before.before.before.before.before.before; type_inv = record { body = c.shared_slice_known-1.given } } in
     let a = (start called).args in
     observed-formed a.table called.read_observation-read.result _ _ a.body.now called.read_observation-read.ensures.0 (not-false _ c.if-not-read.false)
     c.weigh_read.ensures

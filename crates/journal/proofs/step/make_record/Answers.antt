@@ -5,144 +5,102 @@ use Rattle.control.specs.Judgement.Addition.{adds_learner, adds_joint, adds_unif
 use Rattle.control.specs.Judgement.Move.{records_snapshot, records_caught_up, continues, fences, finalizes}
 use Rattle.journal.specs.MakerLaws.{addition-makes, addition-room, begin-makes, begin-target, stays, step-makes, step_room, step-target}
 use Rattle.journal.proofs.step.make_record.Goals as goal
-use Rattle.journal.proofs.step.make_record.Goals.{After-route_of_called, Start}
-
--- the start, from after the route is known
-abbrev start : After-route_of_called → Start
-start c = c.before.before.before
 
 pub snapshot_table-requires : goal.snapshot_table-requires
 snapshot_table-requires c =
-    let p : After-route_of_called = record { before = c.before.before.before; type_inv = record { body = c.type_inv.body } } in
-    let s = start p in
-    step_room s.args.table s.args.body.now s.args.called s.pre records_snapshot refl
-    (sym p.route_of_called.ensures ∙ c.in-1.is) c.advance_in.result c.advance_in.ensures
+    step_room c.args.table c.args.body.now c.args.called c.requires records_snapshot refl
+    (sym c.route_of_called.ensures ∙ c.in-1.is) c.advance_in.result c.advance_in.ensures
 
 pub catch_up_table-requires : goal.catch_up_table-requires
 catch_up_table-requires c =
-    let p : After-route_of_called = record { before = c.before.before.before; type_inv = record { body = c.type_inv.body } } in
-    let s = start p in
-    step_room s.args.table s.args.body.now s.args.called s.pre records_caught_up refl
-    (sym p.route_of_called.ensures ∙ c.in-2.is) c.advance_in-in-2.result c.advance_in-in-2.ensures
+    step_room c.args.table c.args.body.now c.args.called c.requires records_caught_up refl
+    (sym c.route_of_called.ensures ∙ c.in-2.is) c.advance_in-in-2.result c.advance_in-in-2.ensures
 
 pub continue_table-requires : goal.continue_table-requires
 continue_table-requires c =
-    let p : After-route_of_called = record { before = c.before.before.before; type_inv = record { body = c.type_inv.body } } in
-    let s = start p in
-    step_room s.args.table s.args.body.now s.args.called s.pre continues refl
-    (sym p.route_of_called.ensures ∙ c.in-3.is) c.advance_in-in-3.result c.advance_in-in-3.ensures
+    step_room c.args.table c.args.body.now c.args.called c.requires continues refl
+    (sym c.route_of_called.ensures ∙ c.in-3.is) c.advance_in-in-3.result c.advance_in-in-3.ensures
 
 pub fence_table-requires : goal.fence_table-requires
 fence_table-requires c =
-    let p : After-route_of_called = record { before = c.before.before.before; type_inv = record { body = c.type_inv.body } } in
-    let s = start p in
-    step_room s.args.table s.args.body.now s.args.called s.pre fences refl
-    (sym p.route_of_called.ensures ∙ c.in-4.is) c.advance_in-in-4.result c.advance_in-in-4.ensures
+    step_room c.args.table c.args.body.now c.args.called c.requires fences refl
+    (sym c.route_of_called.ensures ∙ c.in-4.is) c.advance_in-in-4.result c.advance_in-in-4.ensures
 
 pub finalize_table-requires : goal.finalize_table-requires
 finalize_table-requires c =
-    let p : After-route_of_called = record { before = c.before.before.before; type_inv = record { body = c.type_inv.body } } in
-    let s = start p in
-    step-target s.args.table s.args.body.now s.args.called s.pre finalizes refl
-    (sym p.route_of_called.ensures ∙ c.in-5.is) c.advance_in-in-5.result c.advance_in-in-5.ensures
+    step-target c.args.table c.args.body.now c.args.called c.requires finalizes refl
+    (sym c.route_of_called.ensures ∙ c.in-5.is) c.advance_in-in-5.result c.advance_in-in-5.ensures
 
 pub begin_table-requires : goal.begin_table-requires
 begin_table-requires c =
-    let p : After-route_of_called = record { before = c.before.before.before; type_inv = record { body = c.type_inv.body } } in
-    let s = start p in
-    begin-target s.args.table s.args.body.now s.args.called s.pre
-    (sym p.route_of_called.ensures ∙ c.in-6.is) c.begin_in.result c.begin_in.ensures
+    begin-target c.args.table c.args.body.now c.args.called c.requires
+    (sym c.route_of_called.ensures ∙ c.in-6.is) c.begin_in.result c.begin_in.ensures
 
 pub learner_table-requires : goal.learner_table-requires
 learner_table-requires c =
-    let p : After-route_of_called = record { before = c.before.before.before; type_inv = record { body = c.type_inv.body } } in
-    let s = start p in
-    addition-room s.args.table s.args.body.now s.args.called s.pre adds_learner
-    (sym p.route_of_called.ensures ∙ c.in-7.is)
+    addition-room c.args.table c.args.body.now c.args.called c.requires adds_learner
+    (sym c.route_of_called.ensures ∙ c.in-7.is)
 
 pub joint_table-requires : goal.joint_table-requires
 joint_table-requires c =
-    let p : After-route_of_called = record { before = c.before.before.before; type_inv = record { body = c.type_inv.body } } in
-    let s = start p in
-    addition-room s.args.table s.args.body.now s.args.called s.pre adds_joint
-    (sym p.route_of_called.ensures ∙ c.in-8.is)
+    addition-room c.args.table c.args.body.now c.args.called c.requires adds_joint
+    (sym c.route_of_called.ensures ∙ c.in-8.is)
 
 pub uniform_table-requires : goal.uniform_table-requires
 uniform_table-requires c =
-    let p : After-route_of_called = record { before = c.before.before.before; type_inv = record { body = c.type_inv.body } } in
-    let s = start p in
-    addition-room s.args.table s.args.body.now s.args.called s.pre adds_uniform
-    (sym p.route_of_called.ensures ∙ c.in-9.is)
+    addition-room c.args.table c.args.body.now c.args.called c.requires adds_uniform
+    (sym c.route_of_called.ensures ∙ c.in-9.is)
 
 pub returns-in-1 : goal.returns-in-1
 unfolding step_made
 returns-in-1 c =
-    let p : After-route_of_called = record { before = c.before.before.before.before; type_inv = record { body = c.type_inv.body } } in
-    let s = start p in
-    step-makes s.args.table s.args.body.now s.args.called s.pre records_snapshot refl
-    (sym p.route_of_called.ensures ∙ c.in-1.is) c.advance_in.result c.advance_in.ensures c.snapshot_table.ensures
+    step-makes c.args.table c.args.body.now c.args.called c.requires records_snapshot refl
+    (sym c.route_of_called.ensures ∙ c.in-1.is) c.advance_in.result c.advance_in.ensures c.snapshot_table.ensures
 
 pub returns-in-2 : goal.returns-in-2
 unfolding step_made
 returns-in-2 c =
-    let p : After-route_of_called = record { before = c.before.before.before.before; type_inv = record { body = c.type_inv.body } } in
-    let s = start p in
-    step-makes s.args.table s.args.body.now s.args.called s.pre records_caught_up refl
-    (sym p.route_of_called.ensures ∙ c.in-2.is) c.advance_in-in-2.result c.advance_in-in-2.ensures c.catch_up_table.ensures
+    step-makes c.args.table c.args.body.now c.args.called c.requires records_caught_up refl
+    (sym c.route_of_called.ensures ∙ c.in-2.is) c.advance_in-in-2.result c.advance_in-in-2.ensures c.catch_up_table.ensures
 
 pub returns-in-3 : goal.returns-in-3
 unfolding step_made
 returns-in-3 c =
-    let p : After-route_of_called = record { before = c.before.before.before.before; type_inv = record { body = c.type_inv.body } } in
-    let s = start p in
-    step-makes s.args.table s.args.body.now s.args.called s.pre continues refl
-    (sym p.route_of_called.ensures ∙ c.in-3.is) c.advance_in-in-3.result c.advance_in-in-3.ensures c.continue_table.ensures
+    step-makes c.args.table c.args.body.now c.args.called c.requires continues refl
+    (sym c.route_of_called.ensures ∙ c.in-3.is) c.advance_in-in-3.result c.advance_in-in-3.ensures c.continue_table.ensures
 
 pub returns-in-4 : goal.returns-in-4
 unfolding step_made
 returns-in-4 c =
-    let p : After-route_of_called = record { before = c.before.before.before.before; type_inv = record { body = c.type_inv.body } } in
-    let s = start p in
-    step-makes s.args.table s.args.body.now s.args.called s.pre fences refl
-    (sym p.route_of_called.ensures ∙ c.in-4.is) c.advance_in-in-4.result c.advance_in-in-4.ensures c.fence_table.ensures
+    step-makes c.args.table c.args.body.now c.args.called c.requires fences refl
+    (sym c.route_of_called.ensures ∙ c.in-4.is) c.advance_in-in-4.result c.advance_in-in-4.ensures c.fence_table.ensures
 
 pub returns-in-5 : goal.returns-in-5
 unfolding step_made
 returns-in-5 c =
-    let p : After-route_of_called = record { before = c.before.before.before.before; type_inv = record { body = c.type_inv.body } } in
-    let s = start p in
-    step-makes s.args.table s.args.body.now s.args.called s.pre finalizes refl
-    (sym p.route_of_called.ensures ∙ c.in-5.is) c.advance_in-in-5.result c.advance_in-in-5.ensures c.finalize_table.ensures
+    step-makes c.args.table c.args.body.now c.args.called c.requires finalizes refl
+    (sym c.route_of_called.ensures ∙ c.in-5.is) c.advance_in-in-5.result c.advance_in-in-5.ensures c.finalize_table.ensures
 
 pub returns-in-6 : goal.returns-in-6
 returns-in-6 c =
-    let p : After-route_of_called = record { before = c.before.before.before.before; type_inv = record { body = c.type_inv.body } } in
-    let s = start p in
-    begin-makes s.args.table s.args.body.now s.args.called s.pre
-    (sym p.route_of_called.ensures ∙ c.in-6.is) c.begin_in.result c.begin_in.ensures c.begin_table.ensures
+    begin-makes c.args.table c.args.body.now c.args.called c.requires
+    (sym c.route_of_called.ensures ∙ c.in-6.is) c.begin_in.result c.begin_in.ensures c.begin_table.ensures
 
 pub returns-in-7 : goal.returns-in-7
 returns-in-7 c =
-    let p : After-route_of_called = record { before = c.before.before.before.before; type_inv = record { body = c.type_inv.body } } in
-    let s = start p in
-    addition-makes s.args.table s.args.body.now s.args.called s.pre adds_learner
-    (sym p.route_of_called.ensures ∙ c.in-7.is) c.cut_in.ensures c.learner_table.ensures
+    addition-makes c.args.table c.args.body.now c.args.called c.requires adds_learner
+    (sym c.route_of_called.ensures ∙ c.in-7.is) c.cut_in.ensures c.learner_table.ensures
 
 pub returns-in-8 : goal.returns-in-8
 returns-in-8 c =
-    let p : After-route_of_called = record { before = c.before.before.before.before; type_inv = record { body = c.type_inv.body } } in
-    let s = start p in
-    addition-makes s.args.table s.args.body.now s.args.called s.pre adds_joint
-    (sym p.route_of_called.ensures ∙ c.in-8.is) c.cut_in-in-8.ensures c.joint_table.ensures
+    addition-makes c.args.table c.args.body.now c.args.called c.requires adds_joint
+    (sym c.route_of_called.ensures ∙ c.in-8.is) c.cut_in-in-8.ensures c.joint_table.ensures
 
 pub returns-in-9 : goal.returns-in-9
 returns-in-9 c =
-    let p : After-route_of_called = record { before = c.before.before.before.before; type_inv = record { body = c.type_inv.body } } in
-    let s = start p in
-    addition-makes s.args.table s.args.body.now s.args.called s.pre adds_uniform
-    (sym p.route_of_called.ensures ∙ c.in-9.is) c.cut_in-in-9.ensures c.uniform_table.ensures
+    addition-makes c.args.table c.args.body.now c.args.called c.requires adds_uniform
+    (sym c.route_of_called.ensures ∙ c.in-9.is) c.cut_in-in-9.ensures c.uniform_table.ensures
 
 pub returns-in_default : goal.returns-in_default
 returns-in_default c =
-    let s = start (record { before = c.before.before; type_inv = record { body = c.type_inv.body } }) in
-    stays s.args.table s.args.body.now s.args.called c.route_of_called.ensures c.in_default.rest
+    stays c.args.table c.args.body.now c.args.called c.route_of_called.ensures c.in_default.in_default-own.rest

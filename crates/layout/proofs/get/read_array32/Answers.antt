@@ -1,14 +1,12 @@
 -- `layout::get::read_array32` meets its contract. Written by scripts/readers.py. Assumes nothing.
+use Rattle.std.specs.Prelude.{◌≡◌, length, take}
+use Rattle.std.proofs.Common.{arith, sym, ap, ◌∙◌, length-take, length-take-le}
 use Rattle.format.specs.Copy.{zeros, length-zeros}
 use Rattle.format.specs.Fill.{put_whole}
 use Rattle.format.specs.Num.{raw-got, raw-not}
 use Rattle.format.specs.Put.{put}
 use Rattle.format.specs.Res.Res.{ok}
 use Rattle.layout.specs.ReadingLaws.{outcome-ok, outcome-no}
-use lib.ListN.{length, take, length-take}
-use lib.Seq.{length-take-le}
-use mathlib.Core.Path.{◌≡◌, sym, ap, ◌∙◌}
-use native.Mathlib.Omega.{arith}
 use Rattle.layout.proofs.get.read_array32.Goals as goal
 
 pub returns-then-bytes-lt32 : goal.returns-then-bytes-lt32

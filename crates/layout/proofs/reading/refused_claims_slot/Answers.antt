@@ -1,8 +1,8 @@
 -- `layout::reading::refused_claims_slot` meets its contract. Written by scripts/readers.py. Assumes nothing.
+use Rattle.std.proofs.Common.{ap}
 use Rattle.format.specs.Res.Res.{no}
 use Rattle.identity.specs.Answer.{number_of}
 use Rattle.layout.specs.Reading.{outcome}
-use mathlib.Core.Path.{ap}
 use Rattle.layout.proofs.reading.refused_claims_slot.Goals as goal
 
 pub returns : goal.returns

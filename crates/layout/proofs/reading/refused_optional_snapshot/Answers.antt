@@ -1,9 +1,9 @@
 -- `layout::reading::refused_optional_snapshot` meets its contract. Written by scripts/readers.py. Assumes nothing.
+use Rattle.std.specs.Prelude.{false}
+use Rattle.std.proofs.Common.{ap}
 use Rattle.format.specs.Res.Res.{no}
 use Rattle.identity.specs.Answer.{number_of}
 use Rattle.layout.specs.Reading.{outcome}
-use mathlib.Core.Bool.{false}
-use mathlib.Core.Path.{ap}
 use Rattle.layout.proofs.reading.refused_optional_snapshot.Goals as goal
 
 pub returns : goal.returns

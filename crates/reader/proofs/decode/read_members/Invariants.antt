@@ -1,11 +1,9 @@
 -- `reader::decode::read_members` meets its contract. Written by scripts/readers.py. Assumes nothing.
-use Prim.Native.Nat.{◌-◌, ◌≤◌}
+use Rattle.std.specs.Prelude.{◌-◌, ◌≤◌, ◌≡◌, length, take, drop}
 use Rattle.format.specs.List.{vec}
 use Rattle.format.specs.Res.Res.{ok}
-use Rattle.layout.specs.Layout.{member}
 use Rattle.records.specs.Blank.{blank_voter_slot_member}
-use lib.ListN.{length, take, drop}
-use mathlib.Core.Path.{◌≡◌}
+use Rattle.layout.specs.Layout.{member}
 use Rattle.reader.proofs.decode.read_members.Given as goal
 
 abbrev pub invariant-loop-i : goal.invariant-loop-i

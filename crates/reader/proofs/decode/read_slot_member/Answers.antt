@@ -1,165 +1,71 @@
 -- `reader::decode::read_slot_member` meets its contract: field by field. Written by scripts/readers.py. Assumes nothing.
-use Prim.Native.Nat.{ℕ, ◌+◌}
-use mathlib.Core.Path.{◌≡◌, sym, ap, ◌∙◌}
-use native.Mathlib.Nat.{lt_of_le_of_lt}
-use borrow.Author.Rules.{rules}
-use Rattle.format.specs.Res.Res.{ok, no}
-use Rattle.format.specs.Combinators.{Codec, dep, dep-ok, dep-no-1, dep-no-2, via-ok, via-no, rest}
-use Rattle.layout.specs.Parts.{blank_binding, blank_slot_member}
+use Rattle.std.specs.Prelude.{◌+◌}
+use Rattle.std.proofs.Common.{lt_of_le_of_lt, sym, ap, ◌∙◌}
+use Rattle.format.specs.Combinators.{dep, dep-ok, dep-no-1, dep-no-2, via-ok, via-no, rest}
 use Rattle.format.specs.Num.{uint}
-use Rattle.layout.specs.Layout.{identity, binding, member, slot_member}
-use Rattle.layout.specs.Reading.{outcome, identity_read, u64_read, why_identity, why_of, why_u64}
-use Rattle.layout.specs.ReadingLaws.{told, told-not, got, outcome-ok, outcome-no}
+use Rattle.format.specs.Res.Res.{ok, no}
 use Rattle.identity.specs.Answer.{number_of}
-use Rattle.identity.specs.declared.identity.VoterSlotIdentity.{VoterSlotIdentity}
-use Rattle.layout.specs.declared.parts.Binding.{Binding}
+use Rattle.layout.specs.Layout.{identity, binding, slot_member}
+use Rattle.layout.specs.Parts.{blank_binding, blank_slot_member}
+use Rattle.layout.specs.Reading.{outcome, why_of, u64_read, why_u64, identity_read, why_identity}
+use Rattle.layout.specs.ReadingLaws.{told, told-not, outcome-ok, outcome-no, got}
 use Rattle.reader.proofs.decode.read_slot_member.Goals as goal
-use Rattle.reader.proofs.decode.read_slot_member.Goals.{After-binding-1, After-read_binding-binding_read, After-read_identity-identity_read, After-read_u64-retired_through_read, After-refused_slot_member, After-refused_slot_member-in_default-binding_to, After-refused_slot_member-in_default-retired_through_read, In-Read, In-Read-retired_through_read, Start}
-
--- the format up to each field
-abbrev to-identity : Codec VoterSlotIdentity
-to-identity = identity
-
-abbrev to-retired-through : Codec (VoterSlotIdentity × ℕ)
-to-retired-through = dep to-identity (λ a. uint 8)
-
-abbrev to-binding : Codec ((VoterSlotIdentity × ℕ) × Binding)
-to-binding = dep to-retired-through (λ a. binding)
-
--- the call that reads each field, from after the field and from after its refusal; the place after a field, from the call that reads the next
-abbrev called-identity : In-Read → After-read_identity-identity_read
-called-identity c = (record { before = c.before.before; type_inv = record { bytes = c.shared_slice_known-1.given } })
-
-abbrev refused-identity : After-refused_slot_member → After-read_identity-identity_read
-refused-identity c = (record { before = c.before.before.before.before; type_inv = record { bytes = c.shared_slice_known-1.given } })
-
-abbrev after-identity : After-read_u64-retired_through_read → In-Read
-after-identity c = (record { before = c.before.before.before; type_inv = record { bytes = c.shared_slice_known-1.given } })
-
-abbrev called-retired-through : In-Read-retired_through_read → After-read_u64-retired_through_read
-called-retired-through c = (record { before = c.before.before; type_inv = record { bytes = c.shared_slice_known-1.given } })
-
-abbrev refused-retired-through : After-refused_slot_member-in_default-retired_through_read → After-read_u64-retired_through_read
-refused-retired-through c = (record { before = c.before.before.before.before; type_inv = record { bytes = c.shared_slice_known-1.given } })
-
-abbrev after-retired-through : After-read_binding-binding_read → In-Read-retired_through_read
-after-retired-through c = (record { before = c.before.before.before; type_inv = record { bytes = c.shared_slice_known-1.given } })
-
-abbrev called-binding : After-binding-1 → After-read_binding-binding_read
-called-binding c = (record { before = c.before.before.before; type_inv = record { bytes = c.shared_slice_known-1.given } })
-
-abbrev refused-binding : After-refused_slot_member-in_default-binding_to → After-read_binding-binding_read
-refused-binding c = (record { before = c.before.before.before.before; type_inv = record { bytes = c.shared_slice_known-1.given } })
-
--- where the function began, from the call that reads each field
-abbrev start-identity : After-read_identity-identity_read → Start
-start-identity c = c.before.before.before
-
-abbrev start-retired-through : After-read_u64-retired_through_read → Start
-start-retired-through c = start-identity (called-identity (after-identity c))
-
-abbrev start-binding : After-read_binding-binding_read → Start
-start-binding c = start-retired-through (called-retired-through (after-retired-through c))
-
--- the value of each field and its size; the values up to it and their size
-abbrev identity-value : In-Read → VoterSlotIdentity
-identity-value c = c.in-Read.identity
-
-abbrev identity-size : In-Read → ℕ
-identity-size c = c.in-Read.at
-
-abbrev retired-through-value : In-Read-retired_through_read → ℕ
-retired-through-value c = c.in-Read-retired_through_read.retired_through
-
-abbrev retired-through-size : In-Read-retired_through_read → ℕ
-retired-through-size c = c.in-Read-retired_through_read.n
-
-abbrev values-to-retired-through : In-Read-retired_through_read → VoterSlotIdentity × ℕ
-values-to-retired-through c = (identity-value (after-identity (called-retired-through c)), retired-through-value c)
-
-abbrev size-to-retired-through : In-Read-retired_through_read → ℕ
-size-to-retired-through c = identity-size (after-identity (called-retired-through c)) + retired-through-size c
-
-abbrev binding-value : After-binding-1 → Binding
-binding-value c = (called-binding c).read_binding-binding_read.result.value
-
-abbrev binding-size : After-binding-1 → ℕ
-binding-size c = c.in-To.n
-
-abbrev values-to-binding : After-binding-1 → (VoterSlotIdentity × ℕ) × Binding
-values-to-binding c = (values-to-retired-through (after-retired-through (called-binding c)), binding-value c)
-
-abbrev size-to-binding : After-binding-1 → ℕ
-size-to-binding c = size-to-retired-through (after-retired-through (called-binding c)) + binding-size c
-
--- after each field: what was read so far, and up to where
-got-identity : (c : In-Read)
-    → to-identity.dec (start-identity (called-identity c)).args.bytes.now ≡ ok (identity-value c) (identity-size c)
-got-identity c = got identity_read (called-identity c).read_identity-identity_read.ensures c.in-Read.is
-
-got-retired-through : (c : In-Read-retired_through_read)
-    → to-retired-through.dec (start-retired-through (called-retired-through c)).args.bytes.now ≡ ok (values-to-retired-through c) (size-to-retired-through c)
-got-retired-through c =
-    dep-ok _ _ _ (got-identity (after-identity (called-retired-through c)))
-    (got u64_read
-    ((called-retired-through c).read_u64-retired_through_read.ensures ∙ ap (uint 8).dec (rest (start-retired-through (called-retired-through c)).args.bytes.now _))
-    c.in-Read-retired_through_read.is)
-
-got-binding : (c : After-binding-1)
-    → to-binding.dec (start-binding (called-binding c)).args.bytes.now ≡ ok (values-to-binding c) (size-to-binding c)
-got-binding c =
-    dep-ok _ _ _ (got-retired-through (after-retired-through (called-binding c)))
-    (told blank_binding _
-    ((called-binding c).read_binding-binding_read.ensures ∙ ap (λ l. outcome blank_binding (binding.dec l)) (rest (start-binding (called-binding c)).args.bytes.now _))
-    c.in-To.is)
-
-pub enum_told-1 : goal.enum_told-1
-enum_told-1 c = search rules
 
 pub returns-in_default : goal.returns-in_default
 unfolding slot_member
 returns-in_default c =
+    let q = got identity_read c.read_identity-identity_read.ensures c.in_default.is in
     outcome-no _ (c.refused_slot_member.ensures ∙ ap (λ a. outcome blank_slot_member (no (number_of a))) (c.why_identity.ensures ∙ ap why_identity c.in_default.is))
-    (via-no _ _ _ _ _ (dep-no-1 _ _ _ (dep-no-1 _ _ _ (got identity_read (refused-identity c).read_identity-identity_read.ensures c.in_default.is))))
+    (via-no _ _ _ _ _ (dep-no-1 _ _ _ (dep-no-1 _ _ _ q)))
 
 pub slice_bounds-read_u64-count : goal.slice_bounds-read_u64-count
-slice_bounds-read_u64-count c = to-identity.within _ (got-identity c)
+slice_bounds-read_u64-count c =
+    let p1 = got identity_read c.read_identity-identity_read.ensures c.in-Read.is in
+    identity.within _ p1
 
 pub slice_bounds-read_u64-start : goal.slice_bounds-read_u64-start
-slice_bounds-read_u64-start c = to-identity.within _ (got-identity c)
+slice_bounds-read_u64-start c = slice_bounds-read_u64-count c
 
 pub returns-in_default-retired_through_read : goal.returns-in_default-retired_through_read
 unfolding slot_member
 returns-in_default-retired_through_read c =
+    let p1 = got identity_read c.read_identity-identity_read.ensures c.in-Read.is in
+    let q = got u64_read (c.read_u64-retired_through_read.ensures ∙ ap (uint 8).dec (rest c.args.bytes.now _)) c.in_default-retired_through_read.is in
     outcome-no _ (c.refused_slot_member-in_default-retired_through_read.ensures ∙ ap (λ a. outcome blank_slot_member (no (number_of a))) (c.why_u64.ensures ∙ ap why_u64 c.in_default-retired_through_read.is))
-    (via-no _ _ _ _ _ (dep-no-1 _ _ _ (dep-no-2 _ _ _ (got-identity (after-identity (refused-retired-through c)))
-    (got u64_read
-    ((refused-retired-through c).read_u64-retired_through_read.ensures ∙ ap (uint 8).dec (rest (start-retired-through (refused-retired-through c)).args.bytes.now _))
-    c.in_default-retired_through_read.is))))
-
-pub overflow_add-at : goal.overflow_add-at
-overflow_add-at c = record { fits = lt_of_le_of_lt (to-retired-through.within _ (got-retired-through c)) (start-retired-through (called-retired-through c)).well_formed.0.0 }
+    (via-no _ _ _ _ _ (dep-no-1 _ _ _ (dep-no-2 _ _ _ p1 q)))
 
 pub slice_bounds-read_binding-count : goal.slice_bounds-read_binding-count
-slice_bounds-read_binding-count c = to-retired-through.within _ (got-retired-through c)
+slice_bounds-read_binding-count c =
+    let p1 = got identity_read c.read_identity-identity_read.ensures c.in-Read.is in
+    let p2 = got u64_read (c.read_u64-retired_through_read.ensures ∙ ap (uint 8).dec (rest c.args.bytes.now _)) c.in-Read-retired_through_read.is in
+    (dep identity (λ a. uint 8)).within _ (dep-ok _ _ _ p1 p2)
 
 pub slice_bounds-read_binding-start : goal.slice_bounds-read_binding-start
-slice_bounds-read_binding-start c = to-retired-through.within _ (got-retired-through c)
+slice_bounds-read_binding-start c = slice_bounds-read_binding-count c
+
+pub overflow_add-at : goal.overflow_add-at
+overflow_add-at c = record { fits = lt_of_le_of_lt (slice_bounds-read_binding-count c) c.well_formed.0.0 }
 
 pub returns-in_default-binding_to : goal.returns-in_default-binding_to
 unfolding slot_member
 returns-in_default-binding_to c =
+    let p1 = got identity_read c.read_identity-identity_read.ensures c.in-Read.is in
+    let p2 = got u64_read (c.read_u64-retired_through_read.ensures ∙ ap (uint 8).dec (rest c.args.bytes.now _)) c.in-Read-retired_through_read.is in
+    let q = told-not blank_binding _ (c.read_binding-binding_read.ensures ∙ ap (λ l. outcome blank_binding (binding.dec l)) (rest c.args.bytes.now _)) c.in_default-binding_to.is in
     outcome-no _ (c.refused_slot_member-in_default-binding_to.ensures ∙ ap (λ a. outcome blank_slot_member (no (number_of a))) (c.why.ensures ∙ ap why_of c.in_default-binding_to.is))
-    (via-no _ _ _ _ _ (dep-no-2 _ _ _ (got-retired-through (after-retired-through (refused-binding c)))
-    (told-not blank_binding _
-    ((refused-binding c).read_binding-binding_read.ensures ∙ ap (λ l. outcome blank_binding (binding.dec l)) (rest (start-binding (refused-binding c)).args.bytes.now _))
-    c.in_default-binding_to.is)))
+    (via-no _ _ _ _ _ (dep-no-2 _ _ _ (dep-ok _ _ _ p1 p2) q))
 
 pub overflow_add-result : goal.overflow_add-result
-overflow_add-result c = record { fits = lt_of_le_of_lt (to-binding.within _ (got-binding c)) (start-binding (called-binding c)).well_formed.0.0 }
+overflow_add-result c =
+    let p1 = got identity_read c.read_identity-identity_read.ensures c.in-Read.is in
+    let p2 = got u64_read (c.read_u64-retired_through_read.ensures ∙ ap (uint 8).dec (rest c.args.bytes.now _)) c.in-Read-retired_through_read.is in
+    let p3 = told blank_binding _ (c.read_binding-binding_read.ensures ∙ ap (λ l. outcome blank_binding (binding.dec l)) (rest c.args.bytes.now _)) c.in-To.is in
+    record { fits = lt_of_le_of_lt ((dep (dep identity (λ a. uint 8)) (λ a. binding)).within _ (dep-ok _ _ _ (dep-ok _ _ _ p1 p2) p3)) c.well_formed.0.0 }
 
 pub returns : goal.returns
 unfolding slot_member
 returns c =
-    outcome-ok _ (via-ok _ _ _ _ _ (got-binding (record { before = c.before.before; type_inv = record { bytes = c.shared_slice_known-1.given } }))
-    ∙ ap (λ v. ok (record { member = v; retired_through = retired-through-value (after-retired-through (called-binding (record { before = c.before.before; type_inv = record { bytes = c.shared_slice_known-1.given } }))) }) (size-to-binding (record { before = c.before.before; type_inv = record { bytes = c.shared_slice_known-1.given } }))) (sym c.member_of.ensures))
+    let p1 = got identity_read c.read_identity-identity_read.ensures c.in-Read.is in
+    let p2 = got u64_read (c.read_u64-retired_through_read.ensures ∙ ap (uint 8).dec (rest c.args.bytes.now _)) c.in-Read-retired_through_read.is in
+    let p3 = told blank_binding _ (c.read_binding-binding_read.ensures ∙ ap (λ l. outcome blank_binding (binding.dec l)) (rest c.args.bytes.now _)) c.in-To.is in
+    outcome-ok _ (via-ok _ _ _ _ _ (dep-ok _ _ _ (dep-ok _ _ _ p1 p2) p3) ∙ ap (λ v. ok (record { member = v; retired_through = c.in-Read-retired_through_read.retired_through }) (c.in-Read.at + c.in-Read-retired_through_read.n + c.in-To.n)) (sym c.member_of.ensures))

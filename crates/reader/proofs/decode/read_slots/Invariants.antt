@@ -1,11 +1,9 @@
 -- `reader::decode::read_slots` meets its contract. Written by scripts/readers.py. Assumes nothing.
-use Prim.Native.Nat.{◌-◌, ◌≤◌}
+use Rattle.std.specs.Prelude.{◌-◌, ◌≤◌, ◌≡◌, length, take, drop}
 use Rattle.format.specs.List.{vec}
 use Rattle.format.specs.Res.Res.{ok}
-use Rattle.layout.specs.Layout.{slot}
 use Rattle.records.specs.Blank.{blank_voter_slot_record}
-use lib.ListN.{length, take, drop}
-use mathlib.Core.Path.{◌≡◌}
+use Rattle.layout.specs.Layout.{slot}
 use Rattle.reader.proofs.decode.read_slots.Given as goal
 
 abbrev pub invariant-loop-i : goal.invariant-loop-i

@@ -1,106 +1,45 @@
 -- `reader::reader::read_identity` meets its contract: field by field. Written by scripts/readers.py. Assumes nothing.
-use Prim.Native.Nat.{ℕ, ◌+◌}
-use mathlib.Core.Path.{◌≡◌, sym, ap, ◌∙◌}
-use native.Mathlib.Nat.{lt_of_le_of_lt}
-use borrow.Author.Rules.{rules}
-use Rattle.format.specs.Res.Res.{ok, no}
-use Rattle.format.specs.Combinators.{Codec, dep, dep-ok, dep-no-1, dep-no-2, via-ok, via-no, rest}
-use Rattle.layout.specs.Layout.{slot_id, incarnation, identity}
-use Rattle.layout.specs.Reading.{u16_read, u64_read, why_u16, why_u64}
-use Rattle.layout.specs.ReadingLaws.{got}
+use Rattle.std.proofs.Common.{lt_of_le_of_lt, sym, ap, ◌∙◌}
+use Rattle.format.specs.Combinators.{dep, dep-ok, dep-no-1, dep-no-2, via-ok, via-no, rest}
+use Rattle.format.specs.Res.Res.{no}
 use Rattle.identity.specs.Answer.{number_of}
+use Rattle.layout.specs.Layout.{slot_id, incarnation, identity}
+use Rattle.layout.specs.Reading.{u64_read, why_u64, u16_read, why_u16}
+use Rattle.layout.specs.ReadingLaws.{got}
 use Rattle.reader.proofs.reader.read_identity.Goals as goal
-use Rattle.reader.proofs.reader.read_identity.Goals.{After-read_incarnation-incarnation_read, After-read_slot_id-slot_read, After-why_u16, After-why_u64, In-Read, In-Read-incarnation_read, Start}
-
--- the format up to each field
-abbrev to-slot : Codec ℕ
-to-slot = slot_id
-
-abbrev to-incarnation : Codec (ℕ × ℕ)
-to-incarnation = dep to-slot (λ a. incarnation)
-
--- the call that reads each field, from after the field and from after its refusal; the place after a field, from the call that reads the next
-abbrev called-slot : In-Read → After-read_slot_id-slot_read
-called-slot c = (record { before = c.before.before; type_inv = record { bytes = c.shared_slice_known-1.given } })
-
-abbrev refused-slot : After-why_u16 → After-read_slot_id-slot_read
-refused-slot c = (record { before = c.before.before.before; type_inv = record { bytes = c.shared_slice_known-1.given } })
-
-abbrev after-slot : After-read_incarnation-incarnation_read → In-Read
-after-slot c = (record { before = c.before.before.before; type_inv = record { bytes = c.shared_slice_known-1.given } })
-
-abbrev called-incarnation : In-Read-incarnation_read → After-read_incarnation-incarnation_read
-called-incarnation c = (record { before = c.before.before; type_inv = record { bytes = c.shared_slice_known-1.given } })
-
-abbrev refused-incarnation : After-why_u64 → After-read_incarnation-incarnation_read
-refused-incarnation c = (record { before = c.before.before.before; type_inv = record { bytes = c.shared_slice_known-1.given } })
-
--- where the function began, from the call that reads each field
-abbrev start-slot : After-read_slot_id-slot_read → Start
-start-slot c = c.before.before.before
-
-abbrev start-incarnation : After-read_incarnation-incarnation_read → Start
-start-incarnation c = start-slot (called-slot (after-slot c))
-
--- the value of each field and its size; the values up to it and their size
-abbrev slot-value : In-Read → ℕ
-slot-value c = c.in-Read.slot
-
-abbrev slot-size : In-Read → ℕ
-slot-size c = c.in-Read.at
-
-abbrev incarnation-value : In-Read-incarnation_read → ℕ
-incarnation-value c = c.in-Read-incarnation_read.incarnation
-
-abbrev incarnation-size : In-Read-incarnation_read → ℕ
-incarnation-size c = c.in-Read-incarnation_read.n
-
-abbrev values-to-incarnation : In-Read-incarnation_read → ℕ × ℕ
-values-to-incarnation c = (slot-value (after-slot (called-incarnation c)), incarnation-value c)
-
-abbrev size-to-incarnation : In-Read-incarnation_read → ℕ
-size-to-incarnation c = slot-size (after-slot (called-incarnation c)) + incarnation-size c
-
--- after each field: what was read so far, and up to where
-got-slot : (c : In-Read)
-    → to-slot.dec (start-slot (called-slot c)).args.bytes.now ≡ ok (slot-value c) (slot-size c)
-got-slot c = got u16_read (called-slot c).read_slot_id-slot_read.ensures c.in-Read.is
-
-got-incarnation : (c : In-Read-incarnation_read)
-    → to-incarnation.dec (start-incarnation (called-incarnation c)).args.bytes.now ≡ ok (values-to-incarnation c) (size-to-incarnation c)
-got-incarnation c =
-    dep-ok _ _ _ (got-slot (after-slot (called-incarnation c)))
-    (got u64_read
-    ((called-incarnation c).read_incarnation-incarnation_read.ensures ∙ ap incarnation.dec (rest (start-incarnation (called-incarnation c)).args.bytes.now _))
-    c.in-Read-incarnation_read.is)
-
-pub enum_told-1 : goal.enum_told-1
-enum_told-1 c = search rules
 
 pub returns-in_default : goal.returns-in_default
 unfolding identity
 returns-in_default c =
+    let q = got u16_read c.read_slot_id-slot_read.ensures c.in_default.is in
     ap (λ a. no (number_of a)) (c.why_u16.ensures ∙ ap why_u16 c.in_default.is)
-    ∙ sym (via-no _ _ _ _ _ (dep-no-1 _ _ _ (got u16_read (refused-slot c).read_slot_id-slot_read.ensures c.in_default.is)))
+    ∙ sym (via-no _ _ _ _ _ (dep-no-1 _ _ _ q))
 
 pub slice_bounds-read_incarnation-count : goal.slice_bounds-read_incarnation-count
-slice_bounds-read_incarnation-count c = to-slot.within _ (got-slot c)
+slice_bounds-read_incarnation-count c =
+    let p1 = got u16_read c.read_slot_id-slot_read.ensures c.in-Read.is in
+    slot_id.within _ p1
 
 pub slice_bounds-read_incarnation-start : goal.slice_bounds-read_incarnation-start
-slice_bounds-read_incarnation-start c = to-slot.within _ (got-slot c)
+slice_bounds-read_incarnation-start c = slice_bounds-read_incarnation-count c
 
 pub returns-in_default-incarnation_read : goal.returns-in_default-incarnation_read
 unfolding identity
 returns-in_default-incarnation_read c =
+    let p1 = got u16_read c.read_slot_id-slot_read.ensures c.in-Read.is in
+    let q = got u64_read (c.read_incarnation-incarnation_read.ensures ∙ ap incarnation.dec (rest c.args.bytes.now _)) c.in_default-incarnation_read.is in
     ap (λ a. no (number_of a)) (c.why_u64.ensures ∙ ap why_u64 c.in_default-incarnation_read.is)
-    ∙ sym (via-no _ _ _ _ _ (dep-no-2 _ _ _ (got-slot (after-slot (refused-incarnation c)))
-    (got u64_read
-    ((refused-incarnation c).read_incarnation-incarnation_read.ensures ∙ ap incarnation.dec (rest (start-incarnation (refused-incarnation c)).args.bytes.now _))
-    c.in_default-incarnation_read.is)))
+    ∙ sym (via-no _ _ _ _ _ (dep-no-2 _ _ _ p1 q))
 
 pub overflow_add-result : goal.overflow_add-result
-overflow_add-result c = record { fits = lt_of_le_of_lt (to-incarnation.within _ (got-incarnation c)) (start-incarnation (called-incarnation c)).well_formed.0.0 }
+overflow_add-result c =
+    let p1 = got u16_read c.read_slot_id-slot_read.ensures c.in-Read.is in
+    let p2 = got u64_read (c.read_incarnation-incarnation_read.ensures ∙ ap incarnation.dec (rest c.args.bytes.now _)) c.in-Read-incarnation_read.is in
+    record { fits = lt_of_le_of_lt ((dep slot_id (λ a. incarnation)).within _ (dep-ok _ _ _ p1 p2)) c.well_formed.0.0 }
 
 pub returns : goal.returns
 unfolding identity
-returns c = sym (via-ok _ _ _ _ _ (got-incarnation c))
+returns c =
+    let p1 = got u16_read c.read_slot_id-slot_read.ensures c.in-Read.is in
+    let p2 = got u64_read (c.read_incarnation-incarnation_read.ensures ∙ ap incarnation.dec (rest c.args.bytes.now _)) c.in-Read-incarnation_read.is in
+    sym (via-ok _ _ _ _ _ (dep-ok _ _ _ p1 p2))

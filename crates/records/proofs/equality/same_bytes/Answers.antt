@@ -1,6 +1,5 @@
 -- `records::equality::same_bytes` meets its contract: the answer so far is that of the bytes passed. Written by scripts/records.py. Assumes nothing.
 use mathlib.Core.Path.{refl, sym}
-use Prim.Native.Nat.{◌-◌}
 use native.Mathlib.Omega.{arith}
 use lib.Dec.{eqb}
 use Rattle.records.specs.Equality.{eq_list}

@@ -1,6 +1,5 @@
 -- `records::equality::same_voter_slot_members` meets its contract: the answer so far is that of the places passed. Written by scripts/records.py. Assumes nothing.
 use mathlib.Core.Path.{refl}
-use Prim.Native.Nat.{◌-◌}
 use native.Mathlib.Omega.{arith}
 use Rattle.records.specs.Equality.{eq_list, same_voter_slot_member}
 use Rattle.records.specs.EqualityLaws.{eq_list-more, eq_list-end}

@@ -1,6 +1,5 @@
 -- `records::evidence::is_valid_evidence` meets its contract: each test that ends the function decides the definition, and past them the stages and the continuation do. Assumes nothing.
 use mathlib.Core.Path.{◌≡◌, sym, ◌∙◌}
-use mathlib.Core.Logic.{⊎_elim}
 use mathlib.Core.Bool.{true}
 use borrow.Author.Tests.{not-true, not-false}
 use Rattle.records.specs.Evidence.{valid_log_id, valid_evidence}

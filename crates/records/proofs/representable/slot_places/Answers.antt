@@ -1,7 +1,5 @@
 -- `records::representable::slot_places` meets its contract: the answer so far is that of the places passed. Assumes nothing.
 use mathlib.Core.Path.{◌≡◌, refl, ◌∙◌}
-use mathlib.Core.Logic.{⊎_elim}
-use Prim.Native.Nat.{◌-◌}
 use native.Mathlib.Omega.{arith}
 use borrow.Author.Tests.{le-leb, lt-leb}
 use Rattle.records.specs.Records.{all_below}

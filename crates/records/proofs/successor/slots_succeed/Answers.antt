@@ -1,5 +1,4 @@
 -- `records::successor::slots_succeed` meets its contract: the answer so far is that of the places passed. Assumes nothing.
-use Prim.Native.Nat.{◌-◌}
 use mathlib.Core.Path.{◌≡◌, refl}
 use native.Mathlib.Omega.{arith}
 use Rattle.records.specs.Records.{all_below}

@@ -1,7 +1,6 @@
 -- `records::validation::has_target` meets its contract: the answer so far is that none of the places passed is the target. Assumes nothing.
 use mathlib.Core.Path.{◌≡◌, refl, ap}
 use mathlib.Core.Bool.{not}
-use Prim.Native.Nat.{◌-◌}
 use native.Mathlib.Omega.{arith}
 use Rattle.records.specs.Records.{all_below}
 use Rattle.records.specs.RecordsLaws.{all_below-turn}

@@ -1,6 +1,5 @@
 -- `records::validation::members_have_generations` meets its contract: the answer so far is that of the places passed. Assumes nothing.
 use mathlib.Core.Path.{◌≡◌, refl, ◌∙◌}
-use Prim.Native.Nat.{◌-◌}
 use native.Mathlib.Omega.{arith}
 use Rattle.records.specs.Records.{all_below}
 use Rattle.records.specs.RecordsLaws.{all_below-turn, all_below-nine}

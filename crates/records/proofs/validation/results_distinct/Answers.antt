@@ -1,8 +1,6 @@
 -- `records::validation::results_distinct` meets its contract: the answer so far is that of the places passed, of which one without a receipt changes nothing. Assumes nothing.
 use mathlib.Core.Path.{◌≡◌, refl, sym, ◌∙◌}
 use mathlib.Core.Bool.{true, and-true}
-use mathlib.Core.Logic.{⊎_elim}
-use Prim.Native.Nat.{◌-◌}
 use native.Mathlib.Omega.{arith}
 use Rattle.records.specs.Records.{all_below}
 use Rattle.records.specs.RecordsLaws.{all_below-turn}

@@ -1,6 +1,5 @@
 -- `records::zero::is_blank_voter_slot_members` meets its contract: the answer so far is that of the places passed. Written by scripts/records.py. Assumes nothing.
 use mathlib.Core.Path.{refl}
-use Prim.Native.Nat.{◌-◌}
 use native.Mathlib.Omega.{arith}
 use lib.ListN.{length-replicate}
 use Rattle.records.specs.Blank.{blank_voter_slot_member}

@@ -1,7 +1,7 @@
 -- `records::zero::zeros` meets its contract: the answer so far is that of the bytes passed. Written by scripts/records.py. Assumes nothing.
 use mathlib.Core.Path.{refl, sym, ap, ◌∙◌}
 use mathlib.Core.Bool.{Bool, ◌&&◌}
-use Prim.Native.Nat.{◌<◌, ◌-◌}
+use Prim.Native.Nat.{◌<◌}
 use native.Mathlib.Omega.{arith}
 use lib.ListN.{length, get_or}
 use lib.Seq.{take_all}
@@ -22,5 +22,4 @@ loop-i-preserved c =
     (omega arith, ap (λ (t : Bool). t && is_zero (get_or bytes i 0)) c.loop-i.invariant.1 ∙ sym (all_more is_zero bytes i h))
 
 pub returns : goal.returns
-returns c =
-    c.loop-i.invariant.1 ∙ ap (every is_zero) (take_all c.loop-i.i c.args.bytes.now (omega arith))
+returns c = c.loop-i.invariant.1 ∙ ap (every is_zero) (take_all c.loop-i.i c.args.bytes.now (omega arith))

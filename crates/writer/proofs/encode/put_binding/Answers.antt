@@ -1,69 +1,28 @@
 -- `writer::encode::put_binding` meets its contract: one put after the other. Written by scripts/writers.py. Assumes nothing.
-use Prim.Native.Nat.{ℕ, ◌+◌, ◌≤◌}
-use mathlib.Core.Path.{ap, ◌∙◌}
-use mathlib.Core.List.{List, ◌++◌}
-use lib.ListN.{length}
+use Rattle.std.specs.Prelude.{◌+◌, ◌≡◌, ◌++◌, length}
+use Rattle.std.proofs.Common.{arith, length-append}
 use Rattle.format.specs.Combinators.{dep, via}
 use Rattle.format.specs.Num.{uint, raw}
-use Rattle.format.specs.Put.{Put, then, room, room-left, length-put}
+use Rattle.format.specs.Put.{then, room-left}
+use Rattle.layout.specs.Parts.{binding_of}
 use Rattle.layout.specs.Layout.{binding}
 use Rattle.records.specs.declared.records.VoterSlotMember.{VoterSlotMember}
 use Rattle.writer.proofs.encode.put_binding.Goals as goal
-use Rattle.writer.proofs.encode.put_binding.Goals.{After-put_be, After-put_bytes-at, After-put_bytes-at-2, Start}
 
--- what is written, put by put
-abbrev e1 : VoterSlotMember → List ℕ
-e1 x = x.key_digest
-
-abbrev e2 : VoterSlotMember → List ℕ
-e2 x = e1 x ++ x.descriptor_digest
-
-abbrev e3 : VoterSlotMember → List ℕ
-e3 x = e2 x ++ (uint 8).enc x.admission_generation
-
--- there is room for all of it, and so for each part
-room3 : (c : Start) → c.args.at + length (e3 c.args.member) ≤ length c.args.buffer.now
+-- the length of what is written
+lengths : (x : VoterSlotMember) → length (binding.enc (binding_of x)) ≡ length x.key_digest + length x.descriptor_digest + length ((uint 8).enc x.admission_generation)
 unfolding binding via dep raw
-room3 c = c.requires
-
-room2 : (c : Start) → c.args.at + length (e2 c.args.member) ≤ length c.args.buffer.now
-room2 c = room-left (e2 c.args.member) ((uint 8).enc c.args.member.admission_generation) _ _ (room3 c)
-
-room1 : (c : Start) → c.args.at + length (e1 c.args.member) ≤ length c.args.buffer.now
-room1 c = room-left (e1 c.args.member) c.args.member.descriptor_digest _ _ (room2 c)
-
--- where the function began, from after each put
-abbrev start1 : After-put_bytes-at → Start
-start1 c = c.before.before.before.before.before
-
-abbrev start2 : After-put_bytes-at-2 → Start
-start2 c = start1 c.before.before.before.before.before.before
-
-abbrev start3 : After-put_be → Start
-start3 c = start2 c.before.before.before.before
-
--- what was written after each put
-wrote1 : (c : After-put_bytes-at) → Put (e1 (start1 c).args.member) (start1 c).args.at (start1 c).args.buffer.now c.put_bytes-at.new.buffer c.put_bytes-at.result
-wrote1 c = c.put_bytes-at.ensures
-
-wrote2 : (c : After-put_bytes-at-2) → Put (e2 (start2 c).args.member) (start2 c).args.at (start2 c).args.buffer.now c.put_bytes-at-2.new.buffer c.put_bytes-at-2.result
-wrote2 c = then _ (wrote1 c.before.before.before.before.before.before) (room2 (start2 c)) c.put_bytes-at-2.ensures
-
-wrote3 : (c : After-put_be) → Put (e3 (start3 c).args.member) (start3 c).args.at (start3 c).args.buffer.now c.put_be.new.buffer c.put_be.result
-wrote3 c = then _ (wrote2 c.before.before.before.before) (room3 (start3 c)) c.put_be.ensures
+lengths x = omega (arith, length-append (x.key_digest ++ x.descriptor_digest) ((uint 8).enc x.admission_generation), length-append x.key_digest x.descriptor_digest)
 
 pub put_bytes-at-requires : goal.put_bytes-at-requires
-put_bytes-at-requires c = room1 c.before.before.before.before
+put_bytes-at-requires c = omega (arith, lengths c.args.member)
 
 pub put_bytes-at-requires-2 : goal.put_bytes-at-requires-2
-put_bytes-at-requires-2 c = room _ (wrote1 c.before.before.before.before.before) (room2 (start1 c.before.before.before.before.before))
+put_bytes-at-requires-2 c = omega (arith, lengths c.args.member)
 
 pub put_be-requires : goal.put_be-requires
-put_be-requires c = room _ (wrote2 c.before.before.before) (room3 (start2 c.before.before.before))
-
-pub shape_of-buffer : goal.shape_of-buffer
-shape_of-buffer c = ap length (wrote3 c.before.before.before).bytes ∙ length-put _ _ _ (room3 (start3 c.before.before.before))
+put_be-requires c = omega (arith, lengths c.args.member)
 
 pub returns : goal.returns
 unfolding binding via dep raw
-returns c = wrote3 c.before.before.before
+returns c = then _ (then _ c.put_bytes-at.ensures (room-left _ _ _ _ c.requires) c.put_bytes-at-2.ensures) c.requires c.put_be.ensures

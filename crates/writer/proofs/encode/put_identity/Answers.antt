@@ -1,54 +1,24 @@
 -- `writer::encode::put_identity` meets its contract: one put after the other. Written by scripts/writers.py. Assumes nothing.
-use Prim.Native.Nat.{ℕ, ◌+◌, ◌≤◌}
-use mathlib.Core.Path.{ap, ◌∙◌}
-use mathlib.Core.List.{List, ◌++◌}
-use lib.ListN.{length}
+use Rattle.std.specs.Prelude.{◌+◌, ◌≡◌, length}
+use Rattle.std.proofs.Common.{arith, length-append}
 use Rattle.format.specs.Combinators.{dep, via, check}
 use Rattle.format.specs.Num.{uint}
-use Rattle.format.specs.Put.{Put, then, room, room-left, length-put}
+use Rattle.format.specs.Put.{then}
 use Rattle.layout.specs.Layout.{slot_id, incarnation, identity}
 use Rattle.identity.specs.declared.identity.VoterSlotIdentity.{VoterSlotIdentity}
 use Rattle.writer.proofs.encode.put_identity.Goals as goal
-use Rattle.writer.proofs.encode.put_identity.Goals.{After-put_be, After-put_be-at, Start}
 
--- what is written, put by put
-abbrev e1 : VoterSlotIdentity → List ℕ
-e1 x = (uint 2).enc x.slot
-
-abbrev e2 : VoterSlotIdentity → List ℕ
-e2 x = e1 x ++ (uint 8).enc x.incarnation
-
--- there is room for all of it, and so for each part
-room2 : (c : Start) → c.args.at + length (e2 c.args.identity) ≤ length c.args.buffer.now
+-- the length of what is written
+lengths : (x : VoterSlotIdentity) → length (identity.enc x) ≡ length ((uint 2).enc x.slot) + length ((uint 8).enc x.incarnation)
 unfolding identity slot_id incarnation via dep check
-room2 c = c.requires
-
-room1 : (c : Start) → c.args.at + length (e1 c.args.identity) ≤ length c.args.buffer.now
-room1 c = room-left (e1 c.args.identity) ((uint 8).enc c.args.identity.incarnation) _ _ (room2 c)
-
--- where the function began, from after each put
-abbrev start1 : After-put_be-at → Start
-start1 c = c.before.before.before.before
-
-abbrev start2 : After-put_be → Start
-start2 c = start1 c.before.before.before.before
-
--- what was written after each put
-wrote1 : (c : After-put_be-at) → Put (e1 (start1 c).args.identity) (start1 c).args.at (start1 c).args.buffer.now c.put_be-at.new.buffer c.put_be-at.result
-wrote1 c = c.put_be-at.ensures
-
-wrote2 : (c : After-put_be) → Put (e2 (start2 c).args.identity) (start2 c).args.at (start2 c).args.buffer.now c.put_be.new.buffer c.put_be.result
-wrote2 c = then _ (wrote1 c.before.before.before.before) (room2 (start2 c)) c.put_be.ensures
+lengths x = omega (arith, length-append ((uint 2).enc x.slot) ((uint 8).enc x.incarnation))
 
 pub put_be-at-requires : goal.put_be-at-requires
-put_be-at-requires c = room1 c.before.before.before
+put_be-at-requires c = omega (arith, lengths c.args.identity)
 
 pub put_be-requires : goal.put_be-requires
-put_be-requires c = room _ (wrote1 c.before.before.before) (room2 (start1 c.before.before.before))
-
-pub shape_of-buffer : goal.shape_of-buffer
-shape_of-buffer c = ap length (wrote2 c.before.before.before).bytes ∙ length-put _ _ _ (room2 (start2 c.before.before.before))
+put_be-requires c = omega (arith, lengths c.args.identity)
 
 pub returns : goal.returns
 unfolding identity slot_id incarnation via dep check
-returns c = wrote2 c.before.before.before
+returns c = then _ c.put_be-at.ensures c.requires c.put_be.ensures

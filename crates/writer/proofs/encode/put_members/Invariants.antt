@@ -1,7 +1,5 @@
 -- `writer::encode::put_members` meets its contract: what is written so far are the places passed. Written by scripts/writers.py. Assumes nothing.
-use Prim.Native.Nat.{◌-◌, ◌≤◌}
-use mathlib.Core.Path.{◌≡◌}
-use lib.ListN.{length}
+use Rattle.std.specs.Prelude.{◌-◌, ◌≤◌, ◌≡◌, length}
 use Rattle.format.specs.Put.{Put}
 use Rattle.records.specs.Blank.{blank_voter_slot_member}
 use Rattle.layout.specs.Layout.{member}

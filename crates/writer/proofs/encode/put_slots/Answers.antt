@@ -1,72 +1,36 @@
 -- `writer::encode::put_slots` meets its contract: what is written so far are the places passed. Written by scripts/writers.py. Assumes nothing.
-use Prim.Native.Nat.{◌+◌, ◌-◌, ◌≤◌}
-use native.Mathlib.Omega.{arith}
-use mathlib.Core.Path.{◌≡◌, refl, sym, ap, ◌∙◌}
-use mathlib.Core.List.{◌++◌}
-use borrow.Author.Rules.{rules}
-use lib.ListN.{length, get_or}
+use Rattle.std.specs.Prelude.{ℕ, ◌+◌, ◌≤◌, ◌<◌, ◌≡◌, refl, List, ◌++◌, length, get_or}
+use Rattle.std.proofs.Common.{arith, sym, ap, ◌∙◌}
 use Rattle.format.specs.Put.{then, room, length-put, put-nothing}
 use Rattle.records.specs.Blank.{blank_voter_slot_record}
 use Rattle.records.specs.Records.{no_slot_record}
-use Rattle.layout.specs.Layout.{slot}
+use Rattle.layout.specs.Layout.{slot, slots}
 use Rattle.writer.specs.SizeLaws.{get_d_any}
 use Rattle.writer.specs.PutLaws.{put_is, firsts, firsts-none, firsts_more, firsts-within, slots-firsts}
+use Rattle.records.specs.declared.records.VoterSlotRecord.{VoterSlotRecord}
 use Rattle.writer.proofs.encode.put_slots.Goals as goal
-use Rattle.writer.proofs.encode.put_slots.Goals.{In-loop-i, Start}
 
--- where the function began, from within the loop
-abbrev start : In-loop-i → Start
-start c = c.before.before.before
-
--- a place as the code takes it
-taken_is : (c : In-loop-i) → get_or (start c).args.places c.loop-i.i blank_voter_slot_record ≡ get_or (start c).args.places c.loop-i.i no_slot_record
-taken_is c =
-    let l : length (start c).args.places ≡ 9 = search rules in
-    get_d_any (start c).args.places c.loop-i.i blank_voter_slot_record no_slot_record (omega (arith, l, (start c).requires.1))
-
--- what is written with one more
-one_more : (c : In-loop-i) → firsts slot blank_voter_slot_record (c.loop-i.i + 1) (start c).args.places
-    ≡ firsts slot blank_voter_slot_record c.loop-i.i (start c).args.places ++ slot.enc (get_or (start c).args.places c.loop-i.i no_slot_record)
-one_more c =
-    firsts_more slot blank_voter_slot_record c.loop-i.i (start c).args.places
-    ∙ ap (λ m. firsts slot blank_voter_slot_record c.loop-i.i (start c).args.places ++ slot.enc m) (taken_is c)
+-- what is written with one more, a place as the code takes it
+one_more : (i : ℕ) (l : List VoterSlotRecord) → i < length l → firsts slot blank_voter_slot_record (i + 1) l ≡ firsts slot blank_voter_slot_record i l ++ slot.enc (get_or l i no_slot_record)
+one_more i l h = firsts_more slot blank_voter_slot_record i l ∙ ap (λ m. firsts slot blank_voter_slot_record i l ++ slot.enc m) (get_d_any l i blank_voter_slot_record no_slot_record h)
 
 -- there is room for it
-more : (c : In-loop-i) → (start c).args.at + length (firsts slot blank_voter_slot_record c.loop-i.i (start c).args.places ++ slot.enc (get_or (start c).args.places c.loop-i.i no_slot_record)) ≤ length (start c).args.buffer.now
-more c =
-    let a = (start c).args in
-    let i = c.loop-i.i in
-    omega (
-      arith,
-      firsts-within slot blank_voter_slot_record (i + 1) a.count a.places (omega arith),
-      ap length (one_more c),
-      ap length (slots-firsts a.count a.places),
-      (start c).requires.0,
-    )
+more : (i n at size : ℕ) (l : List VoterSlotRecord) → i < n → i < length l → at + length ((slots n).enc l) ≤ size
+    → at + length (firsts slot blank_voter_slot_record i l ++ slot.enc (get_or l i no_slot_record)) ≤ size
+more i n at size l h k r = omega (arith, firsts-within slot blank_voter_slot_record (i + 1) n l (omega arith), ap length (one_more i l k), ap length (slots-firsts n l), r)
 
 pub loop-i-init : goal.loop-i-init
 loop-i-init c = (omega arith, put_is (sym (firsts-none slot blank_voter_slot_record c.args.places)) (put-nothing _ _), refl)
 
-pub offset_bounds-places-i : goal.offset_bounds-places-i
-offset_bounds-places-i c = omega (arith, (start c).requires.1)
-
-pub bounds-places-i : goal.bounds-places-i
-bounds-places-i c = omega (arith, (start c).requires.1)
-
 pub put_slot-to-requires : goal.put_slot-to-requires
-put_slot-to-requires c = room _ c.loop-i.invariant.1 (more c.before.before)
-
-pub overflow_add-i : goal.overflow_add-i
-overflow_add-i c = omega (arith, c.requires.1)
+put_slot-to-requires c = room _ c.loop-i.invariant.1 (more _ _ _ _ _ (omega arith) (omega arith) c.requires.0)
 
 pub loop-i-preserved : goal.loop-i-preserved
 loop-i-preserved c =
-    let l = c.loop-i in
-    let p = c.put_slot-to in
-    let w = then _ l.invariant.1 (more c.before.before.before.before.before.before) p.ensures in (
+    let w = then _ c.loop-i.invariant.1 (more _ _ _ _ _ (omega arith) (omega arith) c.requires.0) c.put_slot-to.ensures in (
       omega arith,
-      put_is (sym (one_more c.before.before.before.before.before.before)) w,
-      ap length w.bytes ∙ length-put _ _ _ (more c.before.before.before.before.before.before),
+      put_is (sym (one_more c.loop-i.i c.args.places (omega arith))) w,
+      ap length w.bytes ∙ length-put _ _ _ (more _ _ _ _ _ (omega arith) (omega arith) c.requires.0),
     )
 
 pub shape_of-buffer : goal.shape_of-buffer
@@ -74,7 +38,5 @@ shape_of-buffer c = c.loop-i.invariant.2
 
 pub returns : goal.returns
 returns c =
-    let a = c.args in
-    let l = c.loop-i in
-    let e : l.i ≡ a.count = omega arith in
-    put_is (ap (λ n. firsts slot blank_voter_slot_record n a.places) e ∙ sym (slots-firsts a.count a.places)) l.invariant.1
+    let e : c.loop-i.i ≡ c.args.count = omega arith in
+    put_is (ap (λ n. firsts slot blank_voter_slot_record n c.args.places) e ∙ sym (slots-firsts c.args.count c.args.places)) c.loop-i.invariant.1

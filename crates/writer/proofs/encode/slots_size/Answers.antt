@@ -1,13 +1,11 @@
 -- `writer::encode::slots_size` meets its contract: the size so far is that of the slots passed. Assumes nothing.
-use Prim.Native.Nat.{◌+◌, ◌-◌}
-use mathlib.Core.Path.{◌≡◌, refl, sym, ap, ap₂, ◌∙◌, subst}
+use Prim.Native.Nat.{◌+◌}
+use mathlib.Core.Path.{◌≡◌, refl, sym, ap, ap₂, ◌∙◌}
 use mathlib.Core.Bool.{cond}
-use mathlib.Core.List.{List, map-id}
-use mathlib.Core.Logic.{⊎_elim}
+use mathlib.Core.List.{List}
 use native.Mathlib.Omega.{arith}
 use lib.ListN.{get_or}
 use mir.Val.{Val}
-use base.Fml.{Fml}
 use denote.Array.{in_array}
 use denote.Shadow.{shadow}
 use Rattle.records.specs.Held.{HeldArray, HeldVoterSlotRecord}

@@ -1,7 +1,6 @@
 -- `writer::encode::slots_size` meets its contract: the size so far is that of the slots passed. Assumes nothing.
 use Prim.Native.Nat.{◌-◌, ◌≤◌}
 use mathlib.Core.Path.{◌≡◌}
-use Rattle.records.specs.contracts.records.VoterSlotRecord as TheVoterSlotRecord
 use Rattle.writer.specs.Size.{slots_size}
 use Rattle.writer.proofs.encode.slots_size.Given as goal
 

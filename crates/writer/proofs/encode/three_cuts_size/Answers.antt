@@ -2,7 +2,6 @@
 use Prim.Native.Nat.{◌+◌}
 use mathlib.Core.Path.{◌≡◌, sym, ap, ap₂, ◌∙◌}
 use mathlib.Core.Bool.{cond}
-use mathlib.Core.Logic.{⊎_elim}
 use native.Mathlib.Omega.{arith}
 use Rattle.writer.specs.Size.{cut_size}
 use Rattle.writer.specs.SizeLaws.{three_cuts-long, cut_most}

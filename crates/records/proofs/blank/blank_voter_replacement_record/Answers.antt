@@ -1,7 +1,0 @@
--- `records::blank::blank_voter_replacement_record` meets its contract: field by field. Written by scripts/records.py. Assumes nothing.
-use Rattle.records.specs.Blank.{blank_voter_replacement_record}
-use Rattle.records.proofs.blank.blank_voter_replacement_record.Goals as goal
-
-pub returns : goal.returns
-unfolding blank_voter_replacement_record
-returns c = cc

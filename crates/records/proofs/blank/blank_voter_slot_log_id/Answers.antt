@@ -1,8 +1,0 @@
--- `records::blank::blank_voter_slot_log_id` meets its contract: field by field. Written by scripts/records.py. Assumes nothing.
-use mathlib.Core.Path.{refl}
-use Rattle.records.specs.Blank.{blank_voter_slot_log_id}
-use Rattle.records.proofs.blank.blank_voter_slot_log_id.Goals as goal
-
-pub returns : goal.returns
-unfolding blank_voter_slot_log_id
-returns c = refl

@@ -1,9 +1,0 @@
--- `records::zero::is_blank_voter_slot_identity` meets its contract: field by field. Written by scripts/records.py. Assumes nothing.
-use mathlib.Core.Path.{refl}
-use Rattle.records.specs.Blank.{blank_voter_slot_identity}
-use Rattle.records.specs.Equality.{all_true, same_voter_slot_identity}
-use Rattle.records.proofs.zero.is_blank_voter_slot_identity.Goals as goal
-
-pub returns : goal.returns
-unfolding all_true same_voter_slot_identity blank_voter_slot_identity
-returns c = refl
