@@ -115,12 +115,7 @@ fn put(bytes: &[u8], rt: &(impl Print + Eprint)) -> bool {
 
 // Moves what is left to the front, and reads once. A read that is interrupted brings nothing, and
 // is tried again after a turn in which nothing is ready.
-fn refill(
-    input: &mut [u8; INPUT_SIZE],
-    at: Input,
-    from: &mut impl Read,
-    rt: &impl Eprint,
-) -> Input
+fn refill(input: &mut [u8; INPUT_SIZE], at: Input, from: &mut impl Read, rt: &impl Eprint) -> Input
     requires { (at.start ≤ at.held) × (at.held ≤ 131072) }
     ensures { ((result.start ≡ 0) × (result.held ≤ 131072)) × ((at.held - at.start ≤ result.held) × (take (at.held - at.start) input.new ≡ take (at.held - at.start) (drop at.start input.old))) }
 {

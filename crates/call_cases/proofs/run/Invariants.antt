@@ -3,7 +3,7 @@ use Prim.Native.Nat.{◌-◌}
 use Rattle.call_cases.proofs.run.Given as goal
 
 abbrev pub invariant-loop-more : goal.invariant-loop-more
-invariant-loop-more l = Unit {0}
+invariant-loop-more g l = Unit {0}
 
 abbrev pub decreases-loop-more : goal.decreases-loop-more
-decreases-loop-more l = 18446744073709551615 - l.number
+decreases-loop-more g l = 18446744073709551615 - l.number

@@ -13,10 +13,10 @@ pub returns : goal.returns
 returns c =
     let a = c.args in
     let r = c.play.result in
-    let f = play-fits a.journal _ a.at.last a.output.now _ r.answer r.read r.written r.journal c.play.ensures.0 (shape_of-output c) in
+    let f = play-fits a.journal _ a.at.last a.output.now _ r.answer r.read r.written r.journal c.play.ensures.played (shape_of-output c) in
     let t = length-take (a.at.held - a.at.start) (drop a.at.start a.input.now) in
     let d = length-drop a.at.start a.input.now in
     let x = f.0 in
     let y = f.1 in
     let s = shape_of-output c in
-    (c.play.ensures.0, (omega arith, omega arith))
+    (c.play.ensures.played, (omega arith, omega arith))

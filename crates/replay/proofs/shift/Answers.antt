@@ -36,15 +36,6 @@ module _ (old now : List ℕ) (start to : ℕ) (within : start + to < length now
       drop-set-lt (start + to + 1) now to byte (omega arith)
       ∙ sym (drop-drop 1 (start + to) now) ∙ ap (drop 1) left ∙ drop-drop 1 (start + to) old
 
-pub loop-from-init : goal.loop-from-init
-loop-from-init c = (omega arith, c.requires.0, refl, refl, refl)
-
-pub bounds-input-from : goal.bounds-input-from
-bounds-input-from c = omega (arith, c.loop-from.invariant.4)
-
-pub bounds-input-to : goal.bounds-input-to
-bounds-input-to c = omega (arith, c.loop-from.invariant.4)
-
 pub loop-from-preserved : goal.loop-from-preserved
 loop-from-preserved c =
     let a = c.args in
@@ -60,9 +51,3 @@ loop-from-preserved c =
           (unread a.input.now l.input a.start l.to within l.invariant.4 left),
       length-set l.input l.to (get_or l.input l.from 0) ∙ l.invariant.4,
     )
-
-pub shape_of-input : goal.shape_of-input
-shape_of-input c = c.loop-from.invariant.4
-
-pub returns : goal.returns
-returns c = (omega arith, c.loop-from.invariant.2)

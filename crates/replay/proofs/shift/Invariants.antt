@@ -6,7 +6,7 @@ use Rattle.replay.proofs.shift.Given as goal
 
 abbrev pub invariant-loop-from : goal.invariant-loop-from
 invariant-loop-from l =
-    (l.from ≡ l.end + l.to) × (l.from ≤ l.initial.input) × (take l.to l.input ≡ take l.to (drop l.end l.start)) × (drop l.from l.input ≡ drop l.from l.start) × (length l.input ≡ length l.start)
+    (l.from ≡ l.start + l.to) × (l.from ≤ l.end) × (take l.to l.input ≡ take l.to (drop l.start l.initial.input)) × (drop l.from l.input ≡ drop l.from l.initial.input) × (length l.input ≡ length l.initial.input)
 
 abbrev pub decreases-loop-from : goal.decreases-loop-from
-decreases-loop-from l = l.initial.input - l.from
+decreases-loop-from l = l.end - l.from

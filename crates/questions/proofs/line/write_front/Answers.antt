@@ -1,7 +1,0 @@
--- `questions::line::write_front` is safe. Assumes nothing.
-use native.Mathlib.Omega.{arith}
-use lib.ListN.{length-take}
-use Rattle.questions.proofs.line.write_front.Goals as goal
-
-pub slice_bounds-write_all-end : goal.slice_bounds-write_all-end
-slice_bounds-write_all-end c = simp length-take (omega arith)
