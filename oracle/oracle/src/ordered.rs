@@ -22,18 +22,16 @@ pub fn text() -> String {
     format!(
         "-- A table with an open request and its attestation, as the original Rust writes them. Written by `oracle ordered`; Order.antt has the records.\n\
          -- Assumes nothing.\n\
-         use Prim.Native.Nat.{{ℕ}}\n\
-         use mathlib.Core.List.{{List, [], _∷_, _++_}}\n\
-         use lib.ListN.{{replicate}}\n\
+         use Rattle.std.specs.Prelude.{{ℕ, List, [], ◌∷◌, ◌++◌, replicate}}\n\
          \n\
          abbrev pub filled : ℕ → ℕ → List ℕ\n\
          filled count byte = replicate count byte\n\
          \n\
-         abbrev pub orderedTableBytes : List ℕ\n\
-         orderedTableBytes =\n{}\
+         abbrev pub ordered_table_bytes : List ℕ\n\
+         ordered_table_bytes =\n{}\
          \n\
-         abbrev pub orderedAttestationBytes : List ℕ\n\
-         orderedAttestationBytes =\n{}",
+         abbrev pub ordered_attestation_bytes : List ℕ\n\
+         ordered_attestation_bytes =\n{}",
         list(&table),
         list(&claims)
     )
