@@ -32,7 +32,7 @@ only : (c : After-command_of-asks) → c.command_of-asks.result ≡ Ob → ⊥
 only c e = command-only c.args.mark (length c.args.body.now) (sym c.command_of-asks.ensures ∙ e)
 
 pub is_formed-requires : goal.is_formed-requires
-is_formed-requires c = only (record { before = c.before.before.before.before; type_inv = record { out = c.type_inv.out; body = c.type_inv.body; table = c.type_inv.table } })
+is_formed-requires c = only (record { before = c.before.before.before.before; type_inv = record { out = ?; body = ?; table = ? } })
 
 pub returns-then-not-accepted : goal.returns-then-not-accepted
 returns-then-not-accepted c =
@@ -45,7 +45,7 @@ returns-then-not-accepted c =
     (is-refused s.table.now d.result.answer d.result.table d.ensures (failed c.accepted.ensures c.if-not-accepted.true-raw))
 
 pub judge_body-requires : goal.judge_body-requires
-judge_body-requires c = (read-accepted c.args.table.now c.decode_voter_slot_table-decoded.result.table (bytes (record { before = c.before.before.before.before.before.before.before.before; type_inv = record { table = c.type_inv.table } })) (read (record { before = c.before.before; type_inv = record { out = c.type_inv.out; body = c.type_inv.body; table = c.type_inv.table } })), only (record { before = c.before.before.before.before.before; type_inv = record { out = c.type_inv.out; body = c.type_inv.body; table = c.type_inv.table } }))
+judge_body-requires c = (read-accepted c.args.table.now c.decode_voter_slot_table-decoded.result.table (bytes (record { before = c.before.before.before.before.before.before.before.before; type_inv = record { table = ? } })) (read (record { before = c.before.before; type_inv = record { out = ?; body = ?; table = ? } })), only (record { before = c.before.before.before.before.before; type_inv = record { out = ?; body = ?; table = ? } }))
 
 pub finish-requires : goal.finish-requires
 finish-requires c =
@@ -53,8 +53,8 @@ finish-requires c =
     let t = c.decode_voter_slot_table-decoded.result.table in
     let m = c.command_of-asks.result in
     let j = c.judge_body in
-    let e = read (record { before = c.before.before.before.before; type_inv = record { out = ?; body = c.type_inv.body; table = c.type_inv.table } }) in
-    (e, (makes t m s.body.now j.result j.ensures, made-valid t (read-accepted s.table.now t (bytes (record { before = c.before.before.before.before.before.before.before.before.before.before; type_inv = record { table = c.type_inv.table } })) e) m s.body.now j.result j.ensures))
+    let e = read (record { before = c.before.before.before.before; type_inv = record { out = ?; body = ?; table = ? } }) in
+    (e, (makes t m s.body.now j.result j.ensures, made-valid t (read-accepted s.table.now t (bytes (record { before = c.before.before.before.before.before.before.before.before.before.before; type_inv = record { table = ? } })) e) m s.body.now j.result j.ensures))
 
 pub returns : goal.returns
 returns c =
@@ -63,5 +63,5 @@ returns c =
     let m = c.command_of-asks in
     let j = c.judge_body in
     c.finish.ensures
-    ∙ asked-ok s.table.now t m.result s.body.now s.out.now j.result (bytes (record { before = c.before.before.before.before.before.before.before.before.before.before.before.before.before; type_inv = record { table = c.type_inv.table } })) (read (record { before = c.before.before.before.before.before.before.before; type_inv = record { out = c.type_inv.out; body = c.type_inv.body; table = c.type_inv.table } })) j.ensures
+    ∙ asked-ok s.table.now t m.result s.body.now s.out.now j.result (bytes (record { before = c.before.before.before.before.before.before.before.before.before.before.before.before.before; type_inv = record { table = ? } })) (read (record { before = c.before.before.before.before.before.before.before; type_inv = record { out = ?; body = ?; table = ? } })) j.ensures
     ∙ ap (λ (k : Mark). asked_of (asking k s.body.now) s.table.now s.out.now) m.ensures

@@ -16,10 +16,10 @@ abbrev start : Else-body-gt-MOST_BODY → Start
 start c = c.before.before.before.before.before
 
 abbrev usual : After-observe_bytes → Else-body-gt-MOST_BODY
-usual c = (record { before = c.before.before.before.before.before.before.before.before; type_inv = record { out = ?; body = c.type_inv.body; table = c.type_inv.table } })
+usual c = (record { before = c.before.before.before.before.before.before.before.before; type_inv = record { out = ?; body = ?; table = ? } })
 
 abbrev most : After-observe_bytes-2 → Else-body-gt-MOST_BODY
-most c = (record { before = c.before.before.before.before.before.before.before.before; type_inv = record { out = ?; body = c.type_inv.body; table = c.type_inv.table } })
+most c = (record { before = c.before.before.before.before.before.before.before.before; type_inv = record { out = ?; body = ?; table = ? } })
 
 -- the body is one of a record
 fits : (c : Else-body-gt-MOST_BODY)
@@ -35,10 +35,10 @@ returns-then-body-gt-MOST_BODY c =
 
 pub returns-then-body-le-USUAL_BODY : goal.returns-then-body-le-USUAL_BODY
 returns-then-body-le-USUAL_BODY c =
-    let o : After-observe_bytes = record { before = c.before.before.before.before.before; type_inv = record { body = c.type_inv.body; table = c.type_inv.table } } in
+    let o : After-observe_bytes = record { before = c.before.before.before.before.before; type_inv = record { body = ?; table = ? } } in
     o.observe_bytes.ensures ∙ fits (usual o)
 
 pub returns : goal.returns
 returns c =
-    let o : After-observe_bytes-2 = record { before = c.before.before.before.before.before; type_inv = record { body = c.type_inv.body; table = c.type_inv.table } } in
+    let o : After-observe_bytes-2 = record { before = c.before.before.before.before.before; type_inv = record { body = ?; table = ? } } in
     o.observe_bytes-2.ensures ∙ fits (most o)

@@ -22,7 +22,7 @@ returns-then-not-accepted c =
     ∙ read_no c.args.table.now (is-refused c.args.table.now c.decode_voter_slot_table-decoded.result.answer c.decode_voter_slot_table-decoded.result.table c.decode_voter_slot_table-decoded.ensures (failed c.accepted.ensures c.if-not-accepted.true-raw))
 
 pub numbers_of-requires : goal.numbers_of-requires
-numbers_of-requires c = (read_fits _ _ (bytes (record { before = c.before.before.before.before.before; type_inv = record { table = c.type_inv.table } })) (read (record { before = c.before.before; type_inv = record { table = c.type_inv.table } }))).count
+numbers_of-requires c = (read_fits _ _ (bytes (record { before = c.before.before.before.before.before; type_inv = record { table = ? } })) (read (record { before = c.before.before; type_inv = record { table = ? } }))).count
 
 pub returns : goal.returns
-returns c = c.numbers_of.ensures ∙ read_ok _ _ (read (record { before = c.before.before.before; type_inv = record { table = c.type_inv.table } }))
+returns c = c.numbers_of.ensures ∙ read_ok _ _ (read (record { before = c.before.before.before; type_inv = record { table = ? } }))

@@ -22,7 +22,7 @@ returns-then-not-accepted c =
     ∙ retired-no c.args.table.now c.args.node (is-refused c.args.table.now c.decode_voter_slot_table-decoded.result.answer c.decode_voter_slot_table-decoded.result.table c.decode_voter_slot_table-decoded.ensures (failed c.accepted.ensures c.if-not-accepted.true-raw))
 
 pub returns-then-is_retired_in : goal.returns-then-is_retired_in
-returns-then-is_retired_in c = says-yes _ _ c.args.node (bytes (record { before = c.before.before.before.before.before.before.before; type_inv = record { table = c.type_inv.table } })) (read (record { before = c.before.before.before.before; type_inv = record { table = c.type_inv.table } })) (sym c.is_retired_in.ensures ∙ c.if-is_retired_in.true)
+returns-then-is_retired_in c = says-yes _ _ c.args.node (bytes (record { before = c.before.before.before.before.before.before.before; type_inv = record { table = ? } })) (read (record { before = c.before.before.before.before; type_inv = record { table = ? } })) (sym c.is_retired_in.ensures ∙ c.if-is_retired_in.true)
 
 pub returns : goal.returns
-returns c = says-no _ _ c.args.node (bytes (record { before = c.before.before.before.before.before.before.before; type_inv = record { table = c.type_inv.table } })) (read (record { before = c.before.before.before.before; type_inv = record { table = c.type_inv.table } })) (sym c.is_retired_in.ensures ∙ c.if-is_retired_in.false)
+returns c = says-no _ _ c.args.node (bytes (record { before = c.before.before.before.before.before.before.before; type_inv = record { table = ? } })) (read (record { before = c.before.before.before.before; type_inv = record { table = ? } })) (sym c.is_retired_in.ensures ∙ c.if-is_retired_in.false)

@@ -17,7 +17,7 @@ returns-then-not-accepted c =
     ∙ write-no c.args.table.now c.args.out.now (is-refused c.args.table.now c.decode_voter_slot_table-decoded.result.answer c.decode_voter_slot_table-decoded.result.table c.decode_voter_slot_table-decoded.ensures (failed c.accepted.ensures c.if-not-accepted.true-raw))
 
 pub write_again-requires : goal.write_again-requires
-write_again-requires c = read (record { before = c.before.before.before; type_inv = record { out = ?; table = c.type_inv.table } })
+write_again-requires c = read (record { before = c.before.before.before; type_inv = record { out = ?; table = ? } })
 
 pub returns : goal.returns
-returns c = c.write_again.ensures ∙ write-ok _ _ c.args.out.now (read (record { before = c.before.before.before.before.before.before; type_inv = record { out = c.type_inv.out; table = c.type_inv.table } }))
+returns c = c.write_again.ensures ∙ write-ok _ _ c.args.out.now (read (record { before = c.before.before.before.before.before.before; type_inv = record { out = ?; table = ? } }))

@@ -20,25 +20,25 @@ use Rattle.voter_slots.proofs.call.observe_bytes.Goals.{After-decode_voter_slot_
 -- the places, each by one step to the place before: what is known of the table's bytes, the body's
 -- reading, that of the table, and the verdict
 abbrev known : After-read_observation-read → After-shared_slice_known-1
-known c = (record { before = c.before.before.before.before.before.before.before.before; type_inv = record { table = c.type_inv.table } })
+known c = (record { before = c.before.before.before.before.before.before.before.before; type_inv = record { table = ? } })
 
 abbrev start : After-read_observation-read → Start
 start c = (known c).before.before
 
 abbrev unformed : Then-not-read → After-read_observation-read
-unformed c = (record { before = c.before.before.before.before.before.before.before; type_inv = record { out = c.type_inv.out; body = c.type_inv.body; table = c.type_inv.table } })
+unformed c = (record { before = c.before.before.before.before.before.before.before; type_inv = record { out = ?; body = ?; table = ? } })
 
 abbrev formed : Else-not-read → After-read_observation-read
-formed c = (record { before = c.before.before.before.before.before.before.before; type_inv = record { out = c.type_inv.out; body = c.type_inv.body; table = c.type_inv.table } })
+formed c = (record { before = c.before.before.before.before.before.before.before; type_inv = record { out = ?; body = ?; table = ? } })
 
 abbrev body-read : After-decode_voter_slot_table-decoded → After-read_observation-read
-body-read c = formed (record { before = c.before.before; type_inv = record { counts = c.type_inv.counts; ids = c.type_inv.ids; out = c.type_inv.out; body = c.type_inv.body; table = c.type_inv.table } })
+body-read c = formed (record { before = c.before.before; type_inv = record { counts = ?; ids = ?; out = ?; body = ?; table = ? } })
 
 abbrev table-read : Else-not-accepted → After-decode_voter_slot_table-decoded
-table-read c = (record { before = c.before.before.before; type_inv = record { counts = c.type_inv.counts; ids = c.type_inv.ids; out = c.type_inv.out; body = c.type_inv.body; table = c.type_inv.table } })
+table-read c = (record { before = c.before.before.before; type_inv = record { counts = ?; ids = ?; out = ?; body = ?; table = ? } })
 
 abbrev weighed : After-weigh_read-observed → Else-not-accepted
-weighed c = (record { before = c.before.before.before.before.before; type_inv = record { counts = ?; ids = ?; out = c.type_inv.out; body = c.type_inv.body; table = c.type_inv.table } })
+weighed c = (record { before = c.before.before.before; type_inv = record { counts = ?; ids = ?; out = ?; body = ?; table = ? } })
 
 bytes : (c : After-shared_slice_known-1) → Bytes c.args.table.now
 unfolding Bytes
@@ -60,14 +60,14 @@ judged c =
 
 pub returns-then-not-read : goal.returns-then-not-read
 returns-then-not-read c =
-    let o = unformed (record { before = c.before.before; type_inv = record { counts = c.type_inv.counts; ids = c.type_inv.ids; out = c.type_inv.out; body = c.type_inv.body; table = c.type_inv.table } }) in
+    let o = unformed (record { before = c.before.before; type_inv = record { counts = ?; ids = ?; out = ?; body = ?; table = ? } }) in
     let s = (start o).args in
     ap (λ (r : VoterSlotsResult). (r, s.out.now)) c.refused.ensures
     ∙ unformed-is o.read-observation.result _ _ s.body.now o.read-observation.ensures.0 s.table.now s.out.now (not-true _ c.if-not-read.true)
 
 pub returns-then-not-accepted : goal.returns-then-not-accepted
 returns-then-not-accepted c =
-    let p : After-decode_voter_slot_table-decoded = record { before = c.before.before.before.before; type_inv = record { counts = c.type_inv.counts; ids = c.type_inv.ids; out = c.type_inv.out; body = c.type_inv.body; table = c.type_inv.table } } in
+    let p : After-decode_voter_slot_table-decoded = record { before = c.before.before.before.before; type_inv = record { counts = ?; ids = ?; out = ?; body = ?; table = ? } } in
     let o = body-read p in
     let s = (start o).args in
     let d = p.decode_voter_slot_table-decoded in
@@ -77,13 +77,13 @@ returns-then-not-accepted c =
 
 pub weigh_read-observed-requires : goal.weigh_read-observed-requires
 weigh_read-observed-requires c =
-    let o = body-read (table-read (record { before = c.before.before.before.before; type_inv = record { counts = ?; ids = ?; out = c.type_inv.out; body = c.type_inv.body; table = c.type_inv.table } })) in
-    let r = (start o).pre in
+    let o = body-read (table-read (record { before = c.before.before; type_inv = record { counts = ?; ids = ?; out = ?; body = ?; table = ? } })) in
+    let r = (start o).requires in
     omega (arith, o.read-observation.ensures.1.0, o.read-observation.ensures.1.1, r.1.0, r.1.1)
 
 pub finish-requires : goal.finish-requires
 finish-requires c =
-    let w : After-weigh_read-observed = record { before = c.before.before; type_inv = record { out = ?; body = c.type_inv.body; table = c.type_inv.table } } in
+    let w : After-weigh_read-observed = record { before = c.before.before; type_inv = record { out = ?; body = ?; table = ? } } in
     let e = weighed w in
     let o = body-read (table-read e) in
     let s = (start o).args in
@@ -94,7 +94,7 @@ finish-requires c =
 
 pub returns : goal.returns
 returns c =
-    let w : After-weigh_read-observed = record { before = c.before.before.before.before.before; type_inv = record { out = c.type_inv.out; body = c.type_inv.body; table = c.type_inv.table } } in
+    let w : After-weigh_read-observed = record { before = c.before.before.before.before.before; type_inv = record { out = ?; body = ?; table = ? } } in
     let e = weighed w in
     let o = body-read (table-read e) in
     let s = (start o).args in

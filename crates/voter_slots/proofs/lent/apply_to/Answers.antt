@@ -26,7 +26,7 @@ valid : (c : Else-not-accepted) → validate c.args.table ≡ Accepted
 valid c = is-accepted (validate c.args.table) (ap is_accepted (sym c.validate_table.ensures) ∙ held c.accepted.ensures c.if-not-accepted.false-raw)
 
 pub refuse_command-requires : goal.refuse_command-requires
-refuse_command-requires c = only (record { before = c.before.before.before.before.before; type_inv = record { body = c.type_inv.body } })
+refuse_command-requires c = only (record { before = c.before.before.before.before.before; type_inv = record { body = ? } })
 
 pub returns-then-not-accepted : goal.returns-then-not-accepted
 returns-then-not-accepted c =
@@ -34,18 +34,18 @@ returns-then-not-accepted c =
     let m = c.command_of-asks in
     c.stay.ensures
     ∙ (ap (λ (k : ℕ). stays k s.table) (c.refuse_command.ensures ∙ ap (λ (b : Bool). refusal_at b (asking m.result s.body.now)) c.is_representable.ensures)
-    ∙ (refusal_is s.table (ap is_accepted (sym c.validate_table.ensures) ∙ failed c.accepted.ensures c.if-not-accepted.true-raw) m.result s.body.now (only (record { before = c.before.before.before.before.before.before.before; type_inv = record { body = c.type_inv.body } }))
+    ∙ (refusal_is s.table (ap is_accepted (sym c.validate_table.ensures) ∙ failed c.accepted.ensures c.if-not-accepted.true-raw) m.result s.body.now (only (record { before = c.before.before.before.before.before.before.before; type_inv = record { body = ? } }))
     ∙ ap (λ (k : Mark). asked_at (asking k s.body.now) s.table) m.ensures))
 
 pub judge_body-called-requires : goal.judge_body-called-requires
-judge_body-called-requires c = (valid c, only (record { before = c.before.before.before.before; type_inv = record { body = c.type_inv.body } }))
+judge_body-called-requires c = (valid c, only (record { before = c.before.before.before.before; type_inv = record { body = ? } }))
 
 pub carry_out_at-requires : goal.carry_out_at-requires
 carry_out_at-requires c =
     let s = c.args in
     let m = c.command_of-asks.result in
     let j = c.judge_body-called in
-    (makes s.table m s.body.now j.result j.ensures, (valid (record { before = c.before.before; type_inv = record { body = c.type_inv.body } }), made-valid s.table (valid (record { before = c.before.before; type_inv = record { body = c.type_inv.body } })) m s.body.now j.result j.ensures))
+    (makes s.table m s.body.now j.result j.ensures, (valid (record { before = c.before.before; type_inv = record { body = ? } }), made-valid s.table (valid (record { before = c.before.before; type_inv = record { body = ? } })) m s.body.now j.result j.ensures))
 
 pub returns : goal.returns
 returns c =
@@ -53,4 +53,4 @@ returns c =
     let m = c.command_of-asks in
     let j = c.judge_body-called in
     c.carry_out_at.ensures
-    ∙ (carried s.table m.result s.body.now j.result (valid (record { before = c.before.before.before; type_inv = record { body = c.type_inv.body } })) j.ensures ∙ ap (λ (k : Mark). asked_at (asking k s.body.now) s.table) m.ensures)
+    ∙ (carried s.table m.result s.body.now j.result (valid (record { before = c.before.before.before; type_inv = record { body = ? } })) j.ensures ∙ ap (λ (k : Mark). asked_at (asking k s.body.now) s.table) m.ensures)

@@ -16,10 +16,10 @@ abbrev start : Else-body-gt-MOST_BODY → Start
 start c = c.before.before.before
 
 abbrev usual : After-observe_body → Else-body-gt-MOST_BODY
-usual c = (record { before = c.before.before.before.before.before.before.before; type_inv = record { body = c.type_inv.body } })
+usual c = (record { before = c.before.before.before.before.before.before.before; type_inv = record { body = ? } })
 
 abbrev most : After-observe_body-2 → Else-body-gt-MOST_BODY
-most c = (record { before = c.before.before.before.before.before.before.before; type_inv = record { body = c.type_inv.body } })
+most c = (record { before = c.before.before.before.before.before.before.before; type_inv = record { body = ? } })
 
 -- the body is one of a record
 fits : (c : Else-body-gt-MOST_BODY) → asked_at (asking Ob (start c).args.body.now) (start c).args.table ≡ table_observe_of (start c).args.table (start c).args.body.now
@@ -34,10 +34,10 @@ returns-then-body-gt-MOST_BODY c =
 
 pub returns-then-body-le-USUAL_BODY : goal.returns-then-body-le-USUAL_BODY
 returns-then-body-le-USUAL_BODY c =
-    let o : After-observe_body = record { before = c.before.before.before; type_inv = record { body = c.type_inv.body } } in
+    let o : After-observe_body = record { before = c.before.before.before; type_inv = record { body = ? } } in
     o.observe_body.ensures ∙ fits (usual o)
 
 pub returns : goal.returns
 returns c =
-    let o : After-observe_body-2 = record { before = c.before.before.before; type_inv = record { body = c.type_inv.body } } in
+    let o : After-observe_body-2 = record { before = c.before.before.before; type_inv = record { body = ? } } in
     o.observe_body-2.ensures ∙ fits (most o)

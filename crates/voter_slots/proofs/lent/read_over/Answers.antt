@@ -28,9 +28,9 @@ returns-then-not-accepted c =
     ∙ over_no s.table s.bytes.now (is-refused s.bytes.now d.result.answer d.result.table d.ensures (failed c.accepted.ensures c.if-not-accepted.true-raw))
 
 pub numbers_of-requires : goal.numbers_of-requires
-numbers_of-requires c = (read_fits _ _ (bytes (record { before = c.before.before.before.before.before; type_inv = record { bytes = c.type_inv.bytes } })) (read (record { before = c.before.before; type_inv = record { bytes = c.type_inv.bytes } }))).count
+numbers_of-requires c = (read_fits _ _ (bytes (record { before = c.before.before.before.before.before; type_inv = record { bytes = ? } })) (read (record { before = c.before.before; type_inv = record { bytes = ? } }))).count
 
 pub returns : goal.returns
 returns c =
     let t = c.decode_voter_slot_table-decoded.result.table in
-    ap (λ (r : VoterSlotsResult). (r, t)) c.numbers_of.ensures ∙ over-ok c.args.table _ t (read (record { before = c.before.before.before; type_inv = record { bytes = c.type_inv.bytes } }))
+    ap (λ (r : VoterSlotsResult). (r, t)) c.numbers_of.ensures ∙ over-ok c.args.table _ t (read (record { before = c.before.before.before; type_inv = record { bytes = ? } }))

@@ -14,11 +14,11 @@ bytes c i = omega (arith, c.shared_slice_known-1.given i)
 pub returns-then-out-bytes : goal.returns-then-out-bytes
 returns-then-out-bytes c =
     ap (λ (r : VoterSlotsResult). (r, c.args.out.now)) c.refused.ensures
-    ∙ again-short c.args.bytes.now c.args.table c.args.out.now (bytes (record { before = c.before.before.before.before; type_inv = record { bytes = c.type_inv.bytes } })) c.requires (omega arith)
+    ∙ again-short c.args.bytes.now c.args.table c.args.out.now (bytes (record { before = c.before.before.before.before; type_inv = record { bytes = ? } })) c.requires (omega arith)
 
 pub numbers_of-requires : goal.numbers_of-requires
-numbers_of-requires c = (read_fits c.args.bytes.now c.args.table (bytes (record { before = c.before.before.before.before.before.before.before; type_inv = record { bytes = c.type_inv.bytes } })) c.requires).count
+numbers_of-requires c = (read_fits c.args.bytes.now c.args.table (bytes (record { before = c.before.before.before.before.before.before.before; type_inv = record { bytes = ? } })) c.requires).count
 
 pub returns : goal.returns
 returns c =
-    again-ok c.args.bytes.now c.args.table c.args.out.now (bytes (record { before = c.before.before.before.before.before.before.before.before; type_inv = record { bytes = c.type_inv.bytes } })) c.requires (omega arith) c.put_bytes-count.ensures c.numbers_of.ensures
+    again-ok c.args.bytes.now c.args.table c.args.out.now (bytes (record { before = c.before.before.before.before.before.before.before.before; type_inv = record { bytes = ? } })) c.requires (omega arith) c.put_bytes-count.ensures c.numbers_of.ensures
