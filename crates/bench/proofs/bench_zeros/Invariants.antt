@@ -1,12 +1,6 @@
 -- `bench::bench_zeros` is safe and ends. Assumes nothing.
-use Prim.Native.Nat.{◌<◌, ◌-◌, ◌^◌}
-use Rattle.bench.proofs.bench_zeros.Reads as reads
-use Rattle.bench.proofs.bench_zeros.Lts as lts
-use Rattle.records.proofs.zero.zeros.Reads as zeros-reads
+use Rattle.std.proofs.Common.{◌-◌}
 use Rattle.bench.proofs.bench_zeros.Given as goal
-
-abbrev pub invariant-loop-i : goal.invariant-loop-i
-invariant-loop-i l = l.turns < 2 ^ 64
 
 abbrev pub decreases-loop-i : goal.decreases-loop-i
 decreases-loop-i l = l.turns - l.i

@@ -1,9 +1,6 @@
 -- `bench_reading::bench_returned` is safe and ends. Assumes nothing.
-use Prim.Native.Nat.{◌<◌, ◌-◌, ◌^◌}
+use Rattle.std.proofs.Common.{◌-◌}
 use Rattle.bench_reading.proofs.bench_returned.Given as goal
-
-abbrev pub invariant-loop-i : goal.invariant-loop-i
-invariant-loop-i l = l.turns < 2 ^ 64
 
 abbrev pub decreases-loop-i : goal.decreases-loop-i
 decreases-loop-i l = l.turns - l.i

@@ -1,23 +1,24 @@
 -- `voter_slots::voter_slots_write` meets its contract. Assumes nothing.
-use mathlib.Core.Path.{ap, ◌∙◌}
-use Rattle.records.specs.ValidationLaws.{failed, held}
+use Rattle.std.proofs.Common.{ap, sym, ◌∙◌}
 use Rattle.voter_slots.specs.declared.result.VoterSlotsResult.{VoterSlotsResult}
-use Rattle.voter_slots.specs.Export.{ReadAs}
 use Rattle.voter_slots.specs.ExportLaws.{is_read, is-refused, write-no, write-ok}
 use Rattle.voter_slots.proofs.voter_slots_write.Goals as goal
-use Rattle.voter_slots.proofs.voter_slots_write.Goals.{Else-not-accepted}
-
--- the reader accepted
-read : (c : Else-not-accepted) → ReadAs c.args.table.now c.decode_voter_slot_table-decoded.result.table
-read c = is_read c.args.table.now c.decode_voter_slot_table-decoded.result.answer c.decode_voter_slot_table-decoded.result.table c.decode_voter_slot_table-decoded.ensures (held c.accepted.ensures c.if-not-accepted.false-raw)
 
 pub returns-then-not-accepted : goal.returns-then-not-accepted
 returns-then-not-accepted c =
-    ap (λ (r : VoterSlotsResult). (r, c.args.out.now)) c.refused.ensures
-    ∙ write-no c.args.table.now c.args.out.now (is-refused c.args.table.now c.decode_voter_slot_table-decoded.result.answer c.decode_voter_slot_table-decoded.result.table c.decode_voter_slot_table-decoded.ensures (failed c.accepted.ensures c.if-not-accepted.true-raw))
+    let s = c.args in
+    let d = c.decode_voter_slot_table-decoded in
+    ap (λ (r : VoterSlotsResult). (r, s.out.now)) c.refused.ensures
+    ∙ write-no s.table.now s.out.now (is-refused s.table.now d.result.answer d.result.table d.ensures (sym c.accepted.ensures ∙ c.if-not-accepted.true))
 
 pub write_again-requires : goal.write_again-requires
-write_again-requires c = read (record { before = c.before.before.before; type_inv = record { out = ?; table = c.type_inv.table } })
+write_again-requires c =
+    let d = c.decode_voter_slot_table-decoded in
+    is_read c.args.table.now d.result.answer d.result.table d.ensures (sym c.accepted.ensures ∙ c.if-not-accepted.false)
 
 pub returns : goal.returns
-returns c = c.write_again.ensures ∙ write-ok _ _ c.args.out.now (read (record { before = c.before.before.before.before.before.before; type_inv = record { out = c.type_inv.out; table = c.type_inv.table } }))
+returns c =
+    let s = c.args in
+    let d = c.decode_voter_slot_table-decoded in
+    c.write_again.ensures
+    ∙ write-ok s.table.now d.result.table s.out.now (is_read s.table.now d.result.answer d.result.table d.ensures (sym c.accepted.ensures ∙ c.if-not-accepted.false))

@@ -2,7 +2,6 @@
 use mathlib.Core.Path.{sym, ap, ◌∙◌}
 use Rattle.identity.specs.Answer.{is_accepted, number_of}
 use Rattle.records.specs.Validation.{validate}
-use Rattle.records.specs.ValidationLaws.{failed, held}
 use Rattle.records.specs.declared.records.VoterSlotTable.{VoterSlotTable}
 use Rattle.journal.specs.Step.{answer_of_called, made_by}
 use Rattle.journal.specs.StepLaws.{unchanged}
@@ -28,7 +27,7 @@ returns-then-not-accepted c =
     let a = c.answer_of_called-answer.ensures in
     ap (λ (r : VoterSlotsResult). (r, s.out.now)) (c.refused.ensures ∙ ap refused_result (ap number_of a))
     ∙ settles-not (answer_of_called s.called) (made_by s.table s.body.now s.called) s.out.now
-    (ap is_accepted (sym a) ∙ failed c.accepted.ensures c.if-not-accepted.true-raw)
+    (ap is_accepted (sym a) ∙ sym c.accepted.ensures ∙ c.if-not-accepted.true)
 
 pub returns : goal.returns
 returns c =
@@ -37,4 +36,4 @@ returns c =
     c.write_again.ensures
     ∙ ap (λ (u : VoterSlotTable). written u s.out.now) (unchanged s.table s.body.now s.called (sym c.is_change.ensures ∙ c.if-is_change.false))
     ∙ settles (answer_of_called s.called) (made_by s.table s.body.now s.called) s.out.now
-    (ap is_accepted (sym a) ∙ held c.accepted.ensures c.if-not-accepted.false-raw)
+    (ap is_accepted (sym a) ∙ sym c.accepted.ensures ∙ c.if-not-accepted.false)

@@ -3,7 +3,6 @@ use mathlib.Core.Path.{sym, ap, ◌∙◌}
 use Rattle.journal.specs.declared.bodies.Asks.{Asks}
 use Rattle.journal.specs.Bodies.{begin_asking_by}
 use Rattle.voter_slots.specs.Calls.{is_formed}
-use borrow.Author.Rules.{rules}
 use Rattle.voter_slots.proofs.call.is_begin.Goals as goal
 
 pub returns-in-Bad : goal.returns-in-Bad
@@ -23,6 +22,3 @@ unfolding begin_asking_by
 returns-in-Begin c =
     let r = c.read_begin-read in
     ap is_formed (ap (λ (y : Asks). begin_asking_by y r.result.value) (sym c.in-Begin.is) ∙ r.ensures)
-
-pub enum_told-1 : goal.enum_told-1
-enum_told-1 c = search rules

@@ -5,7 +5,6 @@ use Rattle.journal.specs.Replay.{asking}
 use Rattle.voter_slots.specs.Calls.{is_formed}
 use Rattle.voter_slots.specs.CallLaws.{formed-is}
 use Rattle.voter_slots.proofs.Marks.{other}
-use borrow.Author.Rules.{rules}
 use Rattle.voter_slots.proofs.call.is_formed.Goals as goal
 
 pub returns-in-Mk : goal.returns-in-Mk
@@ -22,7 +21,4 @@ pub returns-in-Bg : goal.returns-in-Bg
 returns-in-Bg c = c.is_begin.ensures ∙ ap (λ (m : Mark). is_formed (asking m c.args.body.now)) (sym c.in-Bg.is)
 
 pub returns-in_default : goal.returns-in_default
-returns-in_default c = ap is_formed (sym (other c.args.asks c.args.body.now c.in_default.keys4 c.requires))
-
-pub enum_told-1 : goal.enum_told-1
-enum_told-1 c = search rules
+returns-in_default c = ap is_formed (sym (other c.args.asks c.args.body.now c.in_default.not-Mk c.in_default.not-Ad c.in_default.not-Bg c.requires))

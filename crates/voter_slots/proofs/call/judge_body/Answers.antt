@@ -4,7 +4,6 @@ use Rattle.journal.specs.declared.replay.Mark.{Mark}
 use Rattle.journal.specs.Replay.{asking}
 use Rattle.journal.specs.Step.{command_verdict}
 use Rattle.voter_slots.proofs.Marks.{other}
-use borrow.Author.Rules.{rules}
 use Rattle.voter_slots.proofs.call.judge_body.Goals as goal
 
 pub returns-in-Mk : goal.returns-in-Mk
@@ -22,7 +21,4 @@ returns-in-Bg c =
 pub returns-in_default : goal.returns-in_default
 unfolding command_verdict
 returns-in_default c =
-    (c.requires.1, ap (command_verdict c.args.table) (sym (other c.args.asks c.args.body.now c.in_default.keys4 c.requires.1)))
-
-pub enum_told-1 : goal.enum_told-1
-enum_told-1 c = search rules
+    (c.requires.1, ap (command_verdict c.args.table) (sym (other c.args.asks c.args.body.now c.in_default.not-Mk c.in_default.not-Ad c.in_default.not-Bg c.requires.1)))

@@ -1,7 +1,6 @@
 -- `voter_slots::lent::carry_out_at` meets its contract. Assumes nothing.
 use Prim.Native.Nat.{◌≤◌}
 use mathlib.Core.Path.{sym, ap, subst, ◌∙◌}
-use Rattle.records.specs.ValidationLaws.{failed, held}
 use Rattle.records.specs.declared.records.VoterSlotTable.{VoterSlotTable}
 use Rattle.journal.specs.Step.{answer_of_called, made_by}
 use Rattle.journal.specs.StepLaws.{unchanged}
@@ -27,7 +26,7 @@ returns-then-not-accepted c =
     let s = c.args in
     let a = c.answer_of_called-answer.ensures in
     let u = unchanged s.table s.body.now s.called (sym c.is_change.ensures ∙ c.if-is_change.false) in
-    c.stay.ensures ∙ tells-not c.answer_of_called-answer.result s.table (failed c.accepted.ensures c.if-not-accepted.true-raw) ∙ (λ i. told (a i, u i))
+    c.stay.ensures ∙ tells-not c.answer_of_called-answer.result s.table (sym c.accepted.ensures ∙ c.if-not-accepted.true) ∙ (λ i. told (a i, u i))
 
 pub numbers_of-requires-2 : goal.numbers_of-requires-2
 numbers_of-requires-2 c = valid-count _ c.requires.1.0
@@ -37,4 +36,4 @@ returns c =
     let s = c.args in
     let a = c.answer_of_called-answer.ensures in
     let u = unchanged s.table s.body.now s.called (sym c.is_change.ensures ∙ c.if-is_change.false) in
-    ap (λ (r : VoterSlotsResult). (r, s.table)) c.numbers_of-2.ensures ∙ tells c.answer_of_called-answer.result s.table (held c.accepted.ensures c.if-not-accepted.false-raw) ∙ (λ i. told (a i, u i))
+    ap (λ (r : VoterSlotsResult). (r, s.table)) c.numbers_of-2.ensures ∙ tells c.answer_of_called-answer.result s.table (sym c.accepted.ensures ∙ c.if-not-accepted.false) ∙ (λ i. told (a i, u i))

@@ -4,7 +4,6 @@ use mathlib.Core.Bool.{Bool, cond, ◌&&◌}
 use Rattle.identity.specs.Answer.{number_of}
 use Rattle.identity.specs.declared.answer.Answer.TheVariants.{InvalidTransition, Unrepresentable}
 use Rattle.voter_slots.specs.LentLaws.{begin-bad, begin-refused, begin-refusal}
-use borrow.Author.Rules.{rules}
 use Rattle.voter_slots.proofs.lent.refuse_begin.Goals as goal
 
 pub returns-in-Bad : goal.returns-in-Bad
@@ -25,6 +24,3 @@ returns-in-Begin c =
     let r = c.read_begin-read in
     ap number_of (c.invalid.ensures ∙ ap (λ (b : Bool). cond (s.fits && b) InvalidTransition Unrepresentable) c.is_representable_request.ensures)
     ∙ begin-refusal s.fits s.body.now r.result r.ensures c.in-Begin.is
-
-pub enum_told-1 : goal.enum_told-1
-enum_told-1 c = search rules

@@ -9,7 +9,6 @@ use Rattle.journal.specs.Replay.{asking}
 use Rattle.voter_slots.specs.Lent.{refusal_at}
 use Rattle.voter_slots.specs.LentLaws.{marker-refusal}
 use Rattle.voter_slots.proofs.Marks.{other}
-use borrow.Author.Rules.{rules}
 use Rattle.voter_slots.proofs.lent.refuse_command.Goals as goal
 
 pub returns-in-Mk : goal.returns-in-Mk
@@ -31,7 +30,4 @@ returns-in-Bg c =
 
 pub returns-in_default : goal.returns-in_default
 unfolding refusal_at
-returns-in_default c = ap (refusal_at c.args.fits) (sym (other c.args.asks c.args.body.now c.in_default.keys4 c.requires))
-
-pub enum_told-1 : goal.enum_told-1
-enum_told-1 c = search rules
+returns-in_default c = ap (refusal_at c.args.fits) (sym (other c.args.asks c.args.body.now c.in_default.not-Mk c.in_default.not-Ad c.in_default.not-Bg c.requires))

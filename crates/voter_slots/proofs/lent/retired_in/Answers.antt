@@ -1,7 +1,6 @@
 -- `voter_slots::lent::retired_in` meets its contract. Assumes nothing.
 use mathlib.Core.Path.{sym, ap, ◌∙◌}
 use Rattle.control.specs.Retired.{retired_number}
-use borrow.Author.Rules.{rules}
 use Rattle.voter_slots.proofs.lent.retired_in.Goals as goal
 
 pub returns-in-NotRetired : goal.returns-in-NotRetired
@@ -12,6 +11,3 @@ returns-in-Retired c = ap retired_number (sym c.in-Retired.is ∙ c.is_retired.e
 
 pub returns-in-Refused : goal.returns-in-Refused
 returns-in-Refused c = c.number.ensures ∙ ap retired_number (sym c.in-Refused.is ∙ c.is_retired.ensures)
-
-pub enum_told-1 : goal.enum_told-1
-enum_told-1 c = search rules
