@@ -2,7 +2,7 @@
 -- becomes rows; and each table that stands on such a line, written out field by field, so that a
 -- row compares a whole table with what document 01 says of it and not with what a definition makes.
 -- Assumes nothing.
-use Rattle.std.specs.Prelude.{ℕ, ◌+◌, ◌-◌, ◌^◌, true, false, List, [], ◌∷◌, ◌++◌, replicate}
+use Rattle.std.specs.Prelude.{ℕ, ◌+◌, ◌^◌, true, false, List, [], ◌∷◌, ◌++◌, replicate}
 use Rattle.identity.specs.Identity.{identity_of}
 use Rattle.identity.specs.Text.{scheme}
 use Rattle.identity.specs.declared.answer.Answer.{Answer}

@@ -2,13 +2,12 @@
 -- wrong, and they shut out the near programs of document 01, "The contracts", that cannot keep the
 -- code's shape. Cases has them in its one table, and its theorem covers them.
 -- Assumes nothing.
-use Rattle.std.specs.Prelude.{ℕ, ◌+◌, ◌-◌, ◌^◌, true, false, List, [], ◌∷◌, ◌++◌, replicate}
+use Rattle.std.specs.Prelude.{ℕ, ◌+◌, ◌-◌, ◌^◌, true, List, [], ◌∷◌, ◌++◌, replicate}
 use Rattle.identity.specs.Answer.{number_of}
-use Rattle.identity.specs.Identity.{identity_of}
-use Rattle.records.specs.Blank.{blank_optional_log_id, blank_voter_replacement_result, blank_voter_slot_record, blank_voter_snapshot_evidence}
+use Rattle.records.specs.Blank.{blank_optional_log_id, blank_voter_slot_record, blank_voter_snapshot_evidence}
 use Rattle.records.specs.Records.{pending, voting, snapshot_installed}
 use Rattle.records.specs.Validation.{validate}
-use Rattle.records.specs.With.{slot_with, evidence_with, present}
+use Rattle.records.specs.With.{evidence_with, present}
 use Rattle.records.specs.declared.records.VoterSlotTable.{VoterSlotTable}
 use Rattle.control.specs.declared.control.VoterReplacementRequest.{VoterReplacementRequest}
 use Rattle.control.specs.Blank.{blank_voter_replacement_step}
@@ -18,7 +17,7 @@ use Rattle.control.specs.Retired.{retired_test, retired_number}
 use Rattle.proved_cases.specs.Row.{Row}
 use Rattle.proved_cases.specs.Row.Row.{is_number, is-yes, is-no}
 use Rattle.proved_cases.specs.Tables.{cut, member_with, fresh_slot, places_of, idle_with, fresh_table}
-use Rattle.proved_cases.specs.Calls.{attest_of, request_of, candidate_of, request, unchecked, Act, begins, names, mixed, marks, bare, step_by, snapshot_at, snapshots, catches, continues, fences, finalizes, rows_of, start, first, old, new, both, around, open_second, is_prepared, is_installed, has_learner_at, has_learner, is_caught_up, is_continued, is_fenced, is_joint_table, is_uniform, is_finalized_at, is_finalized, next, is_next, is_replaced_again, is_fenced_alone, second, other_slot, third, both_next, is_superseded, is_second_installed, has_second_learner, is_superseded_again, prepared_with, candidate_in, pending_of, attested_last, epoch_full}
+use Rattle.proved_cases.specs.Calls.{attest_of, request_of, candidate_of, request, unchecked, begins, names, mixed, marks, bare, step_by, snapshot_at, snapshots, catches, continues, fences, finalizes, rows_of, start, first, old, new, both, around, open_second, is_prepared, is_installed, has_learner_at, has_learner, is_caught_up, is_continued, is_fenced, is_joint_table, is_uniform, is_finalized_at, is_finalized, next, is_next, is_replaced_again, is_fenced_alone, second, other_slot, third, both_next, is_superseded, is_second_installed, has_second_learner, is_superseded_again, prepared_with, candidate_in, pending_of, attested_last, epoch_full}
 use Rattle.proved_cases.specs.Calls.Act.{observes}
 use Rattle.proved_cases.specs.Calls.Response.{gives, makes}
 

@@ -4,19 +4,16 @@
 -- Document 01, "Ported": the records of records.rs in the bytes of codec.rs. The values are those
 -- of `oracle/oracle/src/ordered.rs`.
 -- Assumes nothing.
-use Rattle.std.specs.Prelude.{ℕ, true, false, List, [], ◌∷◌, ◌++◌, replicate}
+use Rattle.std.specs.Prelude.{ℕ, true, [], ◌∷◌, ◌++◌, replicate}
 use Rattle.identity.specs.Identity.{identity_of}
 use Rattle.identity.specs.Text.{scheme}
 use Rattle.records.specs.Blank.{blank_voter_slot_member, blank_voter_slot_record}
 use Rattle.records.specs.Records.{voting, uniform, completed, superseded, time_bound_loss}
 use Rattle.records.specs.declared.records.SpiffeId.{SpiffeId}
 use Rattle.records.specs.declared.records.SnapshotId.{SnapshotId}
-use Rattle.records.specs.declared.records.VoterSlotLogId.{VoterSlotLogId}
 use Rattle.records.specs.declared.records.OptionalLogId.{OptionalLogId}
 use Rattle.records.specs.declared.records.VoterSlotMember.{VoterSlotMember}
-use Rattle.records.specs.declared.records.VoterReplacementResult.{VoterReplacementResult}
 use Rattle.records.specs.declared.records.VoterSlotRecord.{VoterSlotRecord}
-use Rattle.records.specs.declared.records.VoterSnapshotEvidence.{VoterSnapshotEvidence}
 use Rattle.records.specs.declared.records.VoterConfiguration.{VoterConfiguration}
 use Rattle.records.specs.declared.records.LostVoterAttestationV1.{LostVoterAttestationV1}
 use Rattle.records.specs.declared.records.VoterReplacementEvidence.{VoterReplacementEvidence}

@@ -2,7 +2,7 @@
 use Rattle.std.proofs.Common.{◌≡◌, refl, ℕ, List}
 use Rattle.journal.specs.declared.replay.Mark.{Mark}
 use Rattle.journal.specs.declared.replay.Mark.TheVariants.{Tb, Mk, Ad, Bg, Ob, Unknown}
-use Rattle.journal.specs.Replay.{Asking, asking}
+use Rattle.journal.specs.Replay.{asking}
 use Rattle.journal.specs.Replay.Asking.{bad}
 
 pub other : (m : Mark) (body : List ℕ) → (m ≡ Mk → ⊥) → (m ≡ Ad → ⊥) → (m ≡ Bg → ⊥) → (m ≡ Ob → ⊥) → asking m body ≡ bad

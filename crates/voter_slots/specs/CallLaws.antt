@@ -32,7 +32,6 @@ use Rattle.journal.specs.RefusalLaws.{attestation-refused}
 use Rattle.journal.specs.Replay.{Asked, Asking, Standing, advance_asked, answered, asking, attested, bad_record, begin_asked, called, formed, marker_asked, observation_asked, step}
 use Rattle.journal.specs.Replay.Asked.{observation}
 use Rattle.journal.specs.Replay.Asking.{bad, refused, asks}
-use Rattle.journal.specs.Replay.Entry.{framed}
 use Rattle.journal.specs.Replay.Standing.{absent, stands}
 use Rattle.journal.specs.Step.{Judges, answer_of_called, is_changing, is_made, made_by}
 use Rattle.journal.specs.StepLaws.{step-called}

@@ -37,7 +37,7 @@ use Rattle.journal.specs.declared.replay.Mark.{Mark}
 use Rattle.journal.specs.declared.replay.Mark.TheVariants.{Ad, Bg, Mk, Ob}
 use Rattle.journal.specs.declared.step.Called.{Called}
 use Rattle.journal.specs.Bodies.{advance_asking, begin_asking, begin_asking_by, marker_asking, observation_asking}
-use Rattle.journal.specs.Replay.{Asking, Standing, advance_control, answered, asking, bad_record, begin_control, called, marker_asked, marker_control, step}
+use Rattle.journal.specs.Replay.{Asking, Standing, advance_control, answered, asking, bad_record, called, marker_asked, marker_control, step}
 use Rattle.journal.specs.Replay.Asked.{command, observation}
 use Rattle.journal.specs.Replay.Asking.{bad, refused, asks}
 use Rattle.journal.specs.Replay.Standing.{stands}

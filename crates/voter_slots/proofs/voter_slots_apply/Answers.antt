@@ -1,5 +1,5 @@
 -- `voter_slots::voter_slots_apply` meets its contract. Assumes nothing.
-use Rattle.std.proofs.Common.{◌≡◌, sym, ap, ◌∙◌, Bool, cond, length}
+use Rattle.std.proofs.Common.{sym, ap, ◌∙◌, Bool, cond, length}
 use Rattle.identity.specs.Answer.{number_of}
 use Rattle.identity.specs.declared.answer.Answer.TheVariants.{BadRecord}
 use Rattle.journal.specs.declared.replay.Mark.{Mark}
