@@ -1,1 +1,4 @@
 pub mod Attested
+pub mod StepLaws
+pub mod MakerLaws
+pub mod PlayLaws

@@ -13,7 +13,4 @@ pub mod SetBodyLaws
 pub mod TextLaws
 pub mod RunHistoryLaws
 pub mod BodyLaws
-pub mod StepLaws
-pub mod MakerLaws
-pub mod PlayLaws
 pub mod PieceLaws

@@ -34,7 +34,7 @@ use Rattle.journal.specs.Replay.Asked.{observation}
 use Rattle.journal.specs.Replay.Asking.{bad, refused, asks}
 use Rattle.journal.specs.Replay.Standing.{absent, stands}
 use Rattle.journal.specs.Step.{Judges, answer_of_called, is_changing, is_made, made_by}
-use Rattle.journal.specs.StepLaws.{step-called}
+use Rattle.journal.proofs.StepLaws.{step-called}
 use Rattle.voter_slots.specs.Calls.{asked_of, command_of, is_formed, marked_command, most_body, observation_of, settled}
 use Rattle.voter_slots.specs.Export.{ReadAs, leaves, with_table, written}
 use Rattle.voter_slots.specs.ExportLaws.{read-accepted, read_as}

@@ -42,7 +42,7 @@ use Rattle.journal.specs.Replay.Asked.{command, observation}
 use Rattle.journal.specs.Replay.Asking.{bad, refused, asks}
 use Rattle.journal.specs.Replay.Standing.{stands}
 use Rattle.journal.specs.Step.{Judges, answer_of_called, made_by}
-use Rattle.journal.specs.StepLaws.{fits-advance, fits-begin, fits-marker, no-observation, observes, step-called}
+use Rattle.journal.proofs.StepLaws.{fits-advance, fits-begin, fits-marker, no-observation, observes, step-called}
 use Rattle.voter_slots.specs.declared.result.VoterSlotsResult.{VoterSlotsResult}
 use Rattle.voter_slots.specs.Calls.{most_body}
 use Rattle.voter_slots.specs.CallLaws.{asks_nothing, never-zero, observation-long, same-table}

@@ -3,7 +3,7 @@ use Prim.Native.Nat.{◌-◌}
 use native.Mathlib.Omega.{arith}
 use lib.ListN.{length-drop, length-take, drop}
 use borrow.Author.Rules.{rules}
-use Rattle.journal.specs.PlayLaws.{play-fits}
+use Rattle.journal.proofs.PlayLaws.{play-fits}
 use Rattle.replay.proofs.play_part.Goals as goal
 
 pub shape_of-output : goal.shape_of-output

@@ -4,7 +4,7 @@ use Rattle.identity.specs.Answer.{number_of}
 use Rattle.identity.specs.declared.answer.Answer.TheVariants.{BadRecord}
 use Rattle.journal.specs.declared.replay.Mark.{Mark}
 use Rattle.journal.specs.Replay.{asking}
-use Rattle.journal.specs.StepLaws.{made-valid, makes}
+use Rattle.journal.proofs.StepLaws.{made-valid, makes}
 use Rattle.voter_slots.specs.declared.result.VoterSlotsResult.{VoterSlotsResult}
 use Rattle.voter_slots.specs.Export.{ReadAs, refused_result}
 use Rattle.voter_slots.specs.Calls.{asked_of, command_of, is_formed}

@@ -11,7 +11,7 @@ use Rattle.journal.specs.Replay.Entry.{framed}
 use Rattle.journal.specs.declared.record.Record.{Record}
 use Rattle.journal.specs.Play.{Goes, Safe, brings, opened_at, standing, standing_in}
 use Rattle.journal.specs.Step.{ValidStanding}
-use Rattle.journal.specs.PlayLaws.{Brought, Here, body_in, brought, goes_none, goes_then, goes-turn, here, opens, put-less, safe-turn, turn-left, turn-none}
+use Rattle.journal.proofs.PlayLaws.{Brought, Here, body_in, brought, goes_none, goes_then, goes-turn, here, opens, put-less, safe-turn, turn-left, turn-none}
 use Rattle.journal.proofs.play.open_log.Goals as goal
 use Rattle.journal.proofs.play.open_log.Goals.{then-stands, else-stands}
 

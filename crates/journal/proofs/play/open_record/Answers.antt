@@ -4,7 +4,7 @@ use mathlib.Core.Path.{refl}
 use borrow.Author.Rules.{rules}
 use Rattle.format.specs.Combinators.{Bytes}
 use Rattle.journal.specs.declared.replay.Mark.TheVariants.{Mk, Ad, Bg, Ob, Unknown}
-use Rattle.journal.specs.PlayLaws.{opening-bad, opening-table}
+use Rattle.journal.proofs.PlayLaws.{opening-bad, opening-table}
 use Rattle.journal.proofs.play.open_record.Goals as goal
 use Rattle.journal.proofs.play.open_record.Goals.{After-shared_slice_known-1}
 

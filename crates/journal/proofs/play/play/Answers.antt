@@ -17,7 +17,7 @@ use Rattle.control.specs.Control.{full}
 use Rattle.records.specs.Held.{HeldVoterSlotTable}
 use Rattle.records.proofs.Held.{held-voter-slot-table}
 use Rattle.journal.specs.RunHistoryLaws.{ready-bytes, played as run-line}
-use Rattle.journal.specs.PlayLaws.{goes_none, goes_then, played, start-safe}
+use Rattle.journal.proofs.PlayLaws.{goes_none, goes_then, played, start-safe}
 use Rattle.journal.proofs.play.play.Goals as goal
 use Rattle.journal.proofs.play.play.Goals.{Joined-not-opened, Joined-opened, then-not-opened, else-not-opened, then-opened, else-opened}
 

@@ -18,9 +18,9 @@ use Rattle.journal.specs.declared.replay.Mark.TheVariants.{Tb, Mk, Ad, Bg, Unkno
 use Rattle.journal.specs.declared.step.Called.{Called}
 use Rattle.journal.specs.Play.{Goes, Safe, opened_at}
 use Rattle.journal.specs.Step.{Judges, Makes, made_by}
-use Rattle.journal.specs.StepLaws.{judges-bad, judges-command, judges-observation, makes, table-bad, unknown-bad}
-use Rattle.journal.specs.MakerLaws.{addition-makes, addition-room, begin-makes, begin-target, stays, step-makes, step_room, step-target}
-use Rattle.journal.specs.PlayLaws.{Here, body_in, goes_none, goes_then, goes-turn, here, play-turn, put-less, safe-turn, valid-at}
+use Rattle.journal.proofs.StepLaws.{judges-bad, judges-command, judges-observation, makes, table-bad, unknown-bad}
+use Rattle.journal.proofs.MakerLaws.{addition-makes, addition-room, begin-makes, begin-target, stays, step-makes, step_room, step-target}
+use Rattle.journal.proofs.PlayLaws.{Here, body_in, goes_none, goes_then, goes-turn, here, play-turn, put-less, safe-turn, valid-at}
 use Rattle.journal.proofs.play.play_on.Goals as goal
 use Rattle.journal.proofs.play.play_on.Goals.{After-record_at-found, After-route_of_called, After-shared_slice_known-1, At-loop-place, In-loop-place, Joined-asks, Joined-route_of_called, Start, in-Mk, in-Ad, in-Bg, in-Ob, in-Tb, in-Unknown, in-1, in-2, in-3, in-4, in-5, in-6, in-7, in-8, in-9, in_default}
 

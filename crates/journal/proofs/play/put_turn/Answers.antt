@@ -7,7 +7,7 @@ use Rattle.identity.specs.declared.answer.Answer.{Answer}
 use Rattle.journal.specs.declared.play.Place.{Place}
 use Rattle.journal.specs.declared.record.Record.{Record}
 use Rattle.journal.specs.Play.{PutTurn}
-use Rattle.journal.specs.PlayLaws.{put-long, put-none, put_some}
+use Rattle.journal.proofs.PlayLaws.{put-long, put-none, put_some}
 use Rattle.journal.proofs.play.put_turn.Goals as goal
 use Rattle.journal.proofs.play.put_turn.Goals.{After-put_line-written, After-turns_after-turns, Else-found-place, Start}
 

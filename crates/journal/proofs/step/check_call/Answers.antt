@@ -1,6 +1,6 @@
 -- `journal::step::check_call` meets its contract. Assumes nothing.
 use Rattle.control.specs.Verdicts.{verdict_of}
-use Rattle.journal.specs.StepLaws.{checked-as}
+use Rattle.journal.proofs.StepLaws.{checked-as}
 use Rattle.journal.proofs.step.check_call.Goals as goal
 
 pub returns : goal.returns

@@ -1,7 +1,7 @@
 -- `journal::step::is_change` meets its contract. Assumes nothing.
 use mathlib.Core.Path.{ap, ◌∙◌}
 use lib.Dec.{ltb}
-use Rattle.journal.specs.MakerLaws.{some-maker}
+use Rattle.journal.proofs.MakerLaws.{some-maker}
 use Rattle.journal.proofs.step.is_change.Goals as goal
 
 pub returns : goal.returns

@@ -5,7 +5,7 @@ use Rattle.identity.specs.declared.answer.Answer.TheVariants.{BadRecord}
 use Rattle.control.specs.Judgement.{Move, Verdict}
 use Rattle.control.specs.Judgement.Verdict.{refused}
 use Rattle.journal.specs.Step.{checked_call, numbered}
-use Rattle.journal.specs.StepLaws.{advance-verdict}
+use Rattle.journal.proofs.StepLaws.{advance-verdict}
 use Rattle.journal.proofs.step.judge_advance_body.Goals as goal
 
 pub returns : goal.returns

@@ -6,7 +6,7 @@ use Rattle.control.specs.Judgement.{Move, Verdict}
 use Rattle.journal.specs.Step.{checked_call, numbered}
 use Rattle.journal.specs.declared.bodies.Asks.{Asks}
 use Rattle.journal.specs.Step.{begin_verdict}
-use Rattle.journal.specs.StepLaws.{begin-verdict}
+use Rattle.journal.proofs.StepLaws.{begin-verdict}
 use Rattle.journal.proofs.step.judge_begin_body.Goals as goal
 
 pub enum_told-1 : goal.enum_told-1

@@ -1,5 +1,5 @@
 -- `journal::step::judge_observation_body` meets its contract. Assumes nothing.
-use Rattle.journal.specs.StepLaws.{observed-bad, observed-formed}
+use Rattle.journal.proofs.StepLaws.{observed-bad, observed-formed}
 use borrow.Author.Tests.{not-true, not-false}
 use Rattle.journal.proofs.step.judge_observation_body.Goals as goal
 use Rattle.journal.proofs.step.judge_observation_body.Goals.{After-read_observation-read, Start}

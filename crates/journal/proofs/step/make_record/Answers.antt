@@ -3,7 +3,7 @@ use mathlib.Core.Path.{refl, sym, ◌∙◌}
 use Rattle.control.specs.Verdicts.{step_made}
 use Rattle.control.specs.Judgement.Addition.{adds_learner, adds_joint, adds_uniform}
 use Rattle.control.specs.Judgement.Move.{records_snapshot, records_caught_up, continues, fences, finalizes}
-use Rattle.journal.specs.MakerLaws.{addition-makes, addition-room, begin-makes, begin-target, stays, step-makes, step_room, step-target}
+use Rattle.journal.proofs.MakerLaws.{addition-makes, addition-room, begin-makes, begin-target, stays, step-makes, step_room, step-target}
 use Rattle.journal.proofs.step.make_record.Goals as goal
 
 pub snapshot_table-requires : goal.snapshot_table-requires

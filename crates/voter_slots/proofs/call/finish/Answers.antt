@@ -4,7 +4,7 @@ use Rattle.identity.specs.Answer.{is_accepted, number_of}
 use Rattle.records.specs.Validation.{validate}
 use Rattle.records.specs.declared.records.VoterSlotTable.{VoterSlotTable}
 use Rattle.journal.specs.Step.{answer_of_called, made_by}
-use Rattle.journal.specs.StepLaws.{unchanged}
+use Rattle.journal.proofs.StepLaws.{unchanged}
 use Rattle.voter_slots.specs.declared.result.VoterSlotsResult.{VoterSlotsResult}
 use Rattle.voter_slots.specs.Export.{refused_result, written}
 use Rattle.voter_slots.specs.CallLaws.{change-accepted, settles, settles-not}

@@ -6,7 +6,7 @@ use Rattle.journal.specs.declared.replay.Mark.TheVariants.{Ob}
 use Rattle.journal.specs.declared.step.Called.TheVariants.{Observation}
 use Rattle.journal.specs.Replay.{asking}
 use Rattle.journal.specs.Step.{numbered, observation_verdict}
-use Rattle.journal.specs.StepLaws.{made-valid, makes, observed-formed}
+use Rattle.journal.proofs.StepLaws.{made-valid, makes, observed-formed}
 use Rattle.voter_slots.specs.declared.result.VoterSlotsResult.{VoterSlotsResult}
 use Rattle.voter_slots.specs.CallLaws.{asked-ok, formed-refused, unformed-is}
 use Rattle.voter_slots.specs.Export.{ReadAs}

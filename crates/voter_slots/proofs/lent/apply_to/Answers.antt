@@ -6,7 +6,7 @@ use Rattle.records.specs.ValidationLaws.{is-accepted}
 use Rattle.records.specs.Validation.{validate}
 use Rattle.journal.specs.declared.replay.Mark.{Mark}
 use Rattle.journal.specs.Replay.{asking}
-use Rattle.journal.specs.StepLaws.{made-valid, makes}
+use Rattle.journal.proofs.StepLaws.{made-valid, makes}
 use Rattle.voter_slots.specs.CallLaws.{command-only}
 use Rattle.voter_slots.specs.Lent.{asked_at, refusal_at, stays}
 use Rattle.voter_slots.specs.LentLaws.{carried, refusal_is}

@@ -3,7 +3,7 @@ use Prim.Native.Nat.{◌≤◌}
 use mathlib.Core.Path.{sym, ap, subst, ◌∙◌}
 use Rattle.records.specs.declared.records.VoterSlotTable.{VoterSlotTable}
 use Rattle.journal.specs.Step.{answer_of_called, made_by}
-use Rattle.journal.specs.StepLaws.{unchanged}
+use Rattle.journal.proofs.StepLaws.{unchanged}
 use Rattle.voter_slots.specs.declared.result.VoterSlotsResult.{VoterSlotsResult}
 use Rattle.voter_slots.specs.CallLaws.{change-accepted}
 use Rattle.voter_slots.specs.Export.{numbers_of}

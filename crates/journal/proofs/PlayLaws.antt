@@ -42,7 +42,7 @@ use Rattle.journal.specs.Replay.Entry.{framed, broken}
 use Rattle.journal.specs.Replay.Standing.{absent, stands}
 use Rattle.journal.specs.ReplayLaws.{decimal-long, ended-append, frame-cut, frame-got, frame-short, frame-sizeless, frame-takes, frame-unknown, head_mark, head_size, lines-append, mark-long, run-append, run_long}
 use Rattle.journal.specs.Step.{Judges, ValidStanding, answer_of_called, made_by}
-use Rattle.journal.specs.StepLaws.{made-valid, step-called}
+use Rattle.journal.proofs.StepLaws.{made-valid, step-called}
 use Rattle.journal.specs.declared.step.Called.{Called}
 use Rattle.journal.specs.Play.{Goes, PutTurn, Safe, brings, cut_short, ends_in, first_ready, first_taken, is_broken, is_standing, journal_after, journal_of, longest_line, opened_to, place_after, play_of, ready, record_at, record_by, standing, standing_in, start_answer, start_of, table_in, taken, text_of, turn_text, turns_after, turns_of}
 

@@ -24,7 +24,7 @@ use Rattle.journal.specs.declared.step.Called.TheVariants.{Command, Observation}
 use Rattle.journal.specs.Replay.{asking}
 use Rattle.journal.specs.Step.{HoldsAdvance, HoldsBegin, Makes, is_changing, command_in, command_verdict, cut_at, is_made, made_by, made_by_command, made_by_observation, mark_of_move, observation_verdict, route_of_called, route_of_observation}
 use Rattle.journal.specs.Step.Numbered.{moves_by}
-use Rattle.journal.specs.StepLaws.{AdvanceNeed, BeginNeed, advance-need, begin-need, cut-is, observation-room, unchanged}
+use Rattle.journal.proofs.StepLaws.{AdvanceNeed, BeginNeed, advance-need, begin-need, cut-is, observation-room, unchanged}
 
 -- ---- the numbers of commands and of observations
 
