@@ -9,7 +9,8 @@ less than a second.
   set apart by a semicolon. A file without a folder is in the folder of the file before it. Tables
   of two columns are not tested.
 - docs/PROMISES.md: each name in backquotes stands somewhere in the crates.
-- every page: each file that it names in backquotes is there.
+- every page but docs/PORT.md, which tells of files that went: each file that it names in backquotes
+  is there.
 - every page: a line of prose has at most 100 characters and a paragraph at most six lines. Tables,
   code and headings are free.
 """
@@ -19,6 +20,7 @@ import re
 import sys
 
 PAGES = ['README.md', 'fuzz/README.md'] + sorted(page for page in glob.glob('docs/*.md') + glob.glob('oracle/*.md') if page != 'docs/01-scope.md')
+HISTORY = 'docs/PORT.md'
 LINE, PARAGRAPH = 100, 6
 ENDINGS = ('.antt', '.rt', '.rs', '.py', '.md', '.txt', '.log', '.lines', '.h', '.c', '.edit', '.svg', '.toml')
 # Files of the original, which are named as document 01 names them, and some of the kit.
@@ -118,7 +120,8 @@ def main():
     review('docs/REVIEW.md')
     promises('docs/PROMISES.md')
     for page in PAGES:
-        files(page)
+        if page != HISTORY:
+            files(page)
         prose(page)
     if faults:
         print('\n'.join(faults), file=sys.stderr)
