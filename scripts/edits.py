@@ -6,6 +6,7 @@ An edit file has one line of text, which says what the edit shows, and then `fil
 """
 import glob
 import os
+import re
 
 # The edits of this folder change definitions of the crate on the right; bin/near-rows tries them.
 ROWS, ROWS_CRATE = 'rows', 'control'
@@ -61,7 +62,7 @@ class Edit:
             else:
                 # A contract that is repeated in the new text, with code after it, is an edit of the
                 # code.
-                kinds.add('contract' if 'ensures {' in old and not new.startswith(old) else 'code')
+                kinds.add('contract' if re.search(r'ensures( \w+)? \{', old) and not new.startswith(old) else 'code')
         if len(kinds) != 1:
             raise BadEdit(f'{self.path}: it changes {" and ".join(sorted(kinds)) or "nothing but imports"}, and not one kind of thing')
         return kinds.pop()

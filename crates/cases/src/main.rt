@@ -33,7 +33,7 @@ fn run(body: &mut [u8; LONGEST_BODY], input: &mut impl Read, output: &impl Print
     }
 }
 
-// One question: whether to go on. The program ends where its output takes no more.
+// One question: whether to go on. The program ends where nobody reads its output any more.
 fn turn(number: u64, body: &mut [u8], input: &mut impl Read, output: &impl Print) -> bool {
     let Next::Asked(mark, size) = next_question(number, body, input, output) else {
         return false;

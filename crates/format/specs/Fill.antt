@@ -1,8 +1,8 @@
 -- Bytes laid into a place of zeros from its start, and what a test that fails refuses: lemmas
 -- alone. For the writers and readers of `layout`, `reader` and `writer`.
 -- Assumes nothing.
-use Rattle.std.specs.Prelude.{ℕ, zero, suc, ◌+◌, ◌-◌, false, ◌≡◌, refl, List, ◌++◌, length, drop, replicate, eqb}
-use Rattle.std.proofs.Common.{arith, zero-add, sym, ap, ◌∙◌, append-nil}
+use Rattle.std.specs.Prelude.{ℕ, zero, suc, ◌-◌, false, ◌≡◌, refl, List, ◌++◌, length, drop, replicate, eqb}
+use Rattle.std.proofs.Common.{arith, zero-add, ap, ◌∙◌, append-nil}
 use Rattle.format.specs.Res.{and_then}
 use Rattle.format.specs.Res.Res.{ok, no}
 use Rattle.format.specs.Combinators.{Codec, check, dec_check, gate}

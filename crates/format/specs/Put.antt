@@ -2,7 +2,7 @@
 -- Document 01: "The writer fills the lent buffer from its start, gives the count, and the bytes
 -- behind keep their values."
 -- Assumes nothing.
-use Rattle.std.specs.Prelude.{ℕ, suc, ◌+◌, ◌-◌, ◌/◌, ◌%◌, ◌≤◌, ◌<◌, ◌≡◌, List, [], ◌∷◌, ◌++◌, length, take, drop, set}
+use Rattle.std.specs.Prelude.{ℕ, suc, ◌+◌, ◌/◌, ◌%◌, ◌≤◌, ◌<◌, ◌≡◌, List, [], ◌∷◌, ◌++◌, length, take, drop, set}
 use Rattle.std.proofs.Common.{arith, add_assoc, add-zero, add-suc, sym, ap, ap₂, ◌∙◌, append_assoc, length-append, length-drop, take-append-drop, length-set, drop-cons, get_or-set_same, drop-set-lt, length-take-le, take_at, drop_at, drop-drop}
 use Rattle.format.specs.Num.{be, length-be}
 use Rattle.std.proofs.Math.Seq.{take-length, paste}

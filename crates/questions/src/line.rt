@@ -1,5 +1,5 @@
 // The line that a program writes for a question.
-use std::io::Print;
+use std::io::{ErrorKind, Print};
 
 // More bytes than any line of the programs has.
 const LINE_SIZE: usize = 96;
@@ -53,16 +53,20 @@ impl Line {
         self.text(&digits[..k])
     }
 
-    // Whether it was written.
+    // Whether somebody may still read what is written.
     pub fn write(self, output: &impl Print) -> bool {
         write_front(&self.bytes, self.at, output)
     }
 }
 
+// Only a write that nobody reads says no: what fails for another reason is passed over.
 fn write_front(bytes: &[u8], n: usize, output: &impl Print) -> bool {
     if n <= bytes.len() {
-        output.write_all(&bytes[..n]).is_ok()
+        match output.write_all(&bytes[..n]) {
+            Ok(()) => true,
+            Err(error) => error.kind() != ErrorKind::BrokenPipe,
+        }
     } else {
-        false
+        true
     }
 }

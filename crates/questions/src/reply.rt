@@ -23,13 +23,12 @@ pub fn number(answer: Answer) -> u64 {
     identity::answer::number(answer) as u64
 }
 
-// The first line, before the line of any question: whether it was written.
+// The first line, before the line of any question: whether somebody may still read what is written.
 pub fn print_heading(output: &impl Print) -> bool {
-    output.write_all(b"cases 1\n").is_ok()
+    line::new().text(b"cases 1\n").write(output)
 }
 
-// The line of one question: whether it was written. An output that takes no more is no fault of the
-// program, and nothing is said of it.
+// The line of one question: whether somebody may still read what is written.
 pub fn report(number: u64, mark: Mark, reply: Reply, output: &impl Print) -> bool {
     let line = put_mark(line::new().number(number).byte(b' '), mark);
     put_reply(line.byte(b' '), reply).byte(b'\n').write(output)

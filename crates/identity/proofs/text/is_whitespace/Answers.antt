@@ -22,3 +22,6 @@ returns-then-code-gt12288 c =
     let code = c.args.code in
     let h : between 0x3000 (code + 1) code ≡ true = rw (lt-ltb 0x3000 code c.if-code-gt12288.true, lt-ltb code (code + 1) (omega arith)) in
     sym (none_between 0x3000 (code + 1) code white_space refl h)
+
+pub returns : goal.returns
+returns c = c.contains.ensures
