@@ -7,7 +7,7 @@ ghost use Rattle.std.specs.Prelude.{◌≡◌};
 ghost use Rattle.identity.specs.Text.{is_utf8, is_name, is_snapshot_id};
 
 use codec::codec::encode_voter_slot_table;
-use identity::answer::{Answer, number};
+use identity::answer::{Answer, Refusal, number};
 use layout::reading::Extent;
 use raw::offsets::TABLE_SIZE;
 use raw::table::table_of;
@@ -160,7 +160,7 @@ fn representable_of(table: VoterSlotTable) -> u64 {
     if is_representable(table) {
         return 0;
     }
-    number_of(Answer::Unrepresentable)
+    number_of(Err(Refusal::Unrepresentable))
 }
 
 fn successor_of(new: VoterSlotTable, old: VoterSlotTable) -> u64 {

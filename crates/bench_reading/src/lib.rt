@@ -3,7 +3,7 @@
 #![tactic(auto)]
 
 use codec::codec::{DecodedTable, decode_voter_slot_table};
-use identity::answer::{Answer, accepted, number};
+use identity::answer::{Answer, Refusal, accepted, number};
 use records::blank::blank_voter_slot_table;
 
 // Reading a table's bytes, so many times. The last table is asked for the phase of a slot, 0 to 2,
@@ -48,13 +48,13 @@ fn returned(revision: u64) -> DecodedTable {
     let mut table = blank_voter_slot_table();
     if revision == u64::MAX {
         return DecodedTable {
-            answer: Answer::InvalidRecord,
+            answer: Err(Refusal::InvalidRecord),
             table,
         };
     }
     table.revision = revision;
     DecodedTable {
-        answer: Answer::Accepted,
+        answer: Ok(()),
         table,
     }
 }

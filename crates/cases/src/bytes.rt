@@ -1,6 +1,6 @@
 // The replies about bytes: reading a table or an attestation, and writing a table.
 use codec::codec::*;
-use identity::answer::{Answer, accepted};
+use identity::answer::{Answer, Refusal, accepted};
 use layout::reading::{Extent, why};
 use questions::reply::{Reply, number};
 use raw::crc::crc32;
@@ -103,6 +103,6 @@ fn encode_to_front(buffer: &mut [u8], n: usize, table: VoterSlotTable) -> Extent
     if n <= buffer.len() {
         encode_voter_slot_table(&mut buffer[..n], table)
     } else {
-        Extent::Refused(Answer::BufferTooShort)
+        Extent::Refused(Err(Refusal::BufferTooShort))
     }
 }

@@ -89,25 +89,25 @@ fn reply_to_numbers(question: Question, body: &[u8]) -> Reply {
 
 fn node_id(slot: u16, incarnation: u64) -> Reply {
     match VoterSlotIdentity::new(slot, incarnation) {
-        VoterSlotIdentityResult::Ok(identity) => pair(identity.node_id()),
-        VoterSlotIdentityResult::Err(answer) => Reply::Pair(number(answer), 0),
+        Ok(identity) => pair(identity.node_id()),
+        Err(answer) => Reply::Pair(number(answer), 0),
     }
 }
 
 fn pair(res: NumberResult) -> Reply {
     match res {
-        NumberResult::Ok(value) => Reply::Pair(0, value),
-        NumberResult::Err(answer) => Reply::Pair(number(answer), 0),
+        Ok(value) => Reply::Pair(0, value),
+        Err(answer) => Reply::Pair(number(answer), 0),
     }
 }
 
 fn triple(res: VoterSlotIdentityResult) -> Reply {
     match res {
-        VoterSlotIdentityResult::Ok(identity) => Reply::Triple(
+        Ok(identity) => Reply::Triple(
             0,
             identity.slot as u64,
             identity.incarnation,
         ),
-        VoterSlotIdentityResult::Err(answer) => Reply::Triple(number(answer), 0, 0),
+        Err(answer) => Reply::Triple(number(answer), 0, 0),
     }
 }

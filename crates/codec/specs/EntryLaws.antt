@@ -5,7 +5,7 @@ use Rattle.std.proofs.Common.{arith, zero-add, sym, ap, ◌∙◌, length-append
 use Rattle.std.proofs.Math.Bool.{true, false}
 use Rattle.std.proofs.lemmas.Bool.{lt-leb}
 use Rattle.identity.specs.Answer.{number_of}
-use Rattle.identity.specs.declared.answer.Answer.TheVariants.{Accepted}
+use Rattle.identity.specs.Answer.{Accepted}
 use Rattle.format.specs.Combinators.{gate}
 use Rattle.format.specs.Fill.{gate-refused}
 use Rattle.format.specs.Num.{pick}

@@ -6,14 +6,14 @@
 // first.
 ghost use Rattle.std.specs.Prelude.{◌≤◌, ◌≡◌, length};
 ghost use Rattle.identity.specs.Answer.{number_of};
-ghost use Rattle.identity.specs.declared.answer.Answer.TheVariants.{Accepted};
+ghost use Rattle.identity.specs.Answer.{Accepted};
 ghost use Rattle.format.specs.Res.Res.{no};
 ghost use Rattle.records.specs.Blank.{blank_voter_slot_table, blank_lost_voter_attestation_v1};
 ghost use Rattle.records.specs.Validation.{validate};
 ghost use Rattle.layout.specs.Reading.{report, outcome};
 ghost use Rattle.codec.specs.Codec.{table_bytes, decoded, decode_voter_slot_table, decode_lost_voter_attestation, encode_voter_slot_table, restart_outcome};
 
-use identity::answer::{Answer, accepted};
+use identity::answer::{Answer, Refusal, accepted};
 use layout::parts::MAX_LOST_VOTER_ATTESTATION_BYTES;
 use layout::reading::{Extent, why};
 use reader::decode::{read_table, read_whole_attestation};
@@ -45,7 +45,7 @@ pub fn decode_voter_slot_table(bytes: &[u8]) -> DecodedTable
     ensures { (number_of result.answer, result.table) ≡ decoded blank_voter_slot_table (decode_voter_slot_table bytes.now) }
 {
     if MAX_VOTER_SLOT_TABLE_BYTES < bytes.len() {
-        return no_table(Answer::TooLarge);
+        return no_table(Err(Refusal::TooLarge));
     }
     let read = read_table(bytes);
     let to = read.answer;
@@ -53,7 +53,7 @@ pub fn decode_voter_slot_table(bytes: &[u8]) -> DecodedTable
         return no_table(why(to));
     };
     if n != bytes.len() {
-        return no_table(Answer::InvalidRecord);
+        return no_table(Err(Refusal::InvalidRecord));
     }
     let table = read.value;
     let answer = validate_representable(table);
@@ -78,7 +78,7 @@ pub fn decode_lost_voter_attestation(bytes: &[u8]) -> DecodedAttestation
     ensures { (number_of result.answer, result.attestation) ≡ decoded blank_lost_voter_attestation_v1 (decode_lost_voter_attestation bytes.now) }
 {
     if MAX_LOST_VOTER_ATTESTATION_BYTES < bytes.len() {
-        return no_attestation(Answer::TooLarge);
+        return no_attestation(Err(Refusal::TooLarge));
     }
     let read = read_whole_attestation(bytes);
     let to = read.answer;
@@ -87,7 +87,7 @@ pub fn decode_lost_voter_attestation(bytes: &[u8]) -> DecodedAttestation
     };
     let attestation = read.value;
     DecodedAttestation {
-        answer: Answer::Accepted,
+        answer: Ok(()),
         attestation,
     }
 }
@@ -112,7 +112,7 @@ pub fn encode_voter_slot_table(buffer: &mut [u8], table: VoterSlotTable) -> Exte
         return Extent::Refused(answer);
     }
     if buffer.len() < table_size(table) {
-        return Extent::Refused(Answer::BufferTooShort);
+        return Extent::Refused(Err(Refusal::BufferTooShort));
     }
     Extent::To(put_table(buffer, 0, table))
 }

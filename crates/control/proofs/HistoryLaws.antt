@@ -12,10 +12,10 @@ use borrow.Author.Tests.{eqb-true, eqb-false, leb-true, ltb-true, not-true, eq-e
 use Rattle.identity.specs.Answer.{is_accepted}
 use Rattle.identity.specs.Identity.{from_node_id}
 use Rattle.identity.specs.Utf8Laws.{and_left, and_right}
-use Rattle.identity.specs.declared.answer.Answer.{Answer}
-use Rattle.identity.specs.declared.answer.Answer.TheVariants.{Accepted}
+use Rattle.identity.specs.Answer.{Answer}
+use Rattle.identity.specs.Answer.{Accepted}
 use Rattle.identity.specs.declared.identity.VoterSlotIdentity.{VoterSlotIdentity}
-use Rattle.identity.specs.declared.identity.VoterSlotIdentityResult.{VoterSlotIdentityResult}
+use Rattle.identity.specs.Identity.{VoterSlotIdentityResult}
 use Rattle.records.specs.declared.records.OptionalLogId.{OptionalLogId}
 use Rattle.records.specs.declared.records.VoterSlotLogId.{VoterSlotLogId}
 use Rattle.records.specs.declared.records.VoterSlotRecord.{VoterSlotRecord}
@@ -434,8 +434,8 @@ floor-keeps identity new old k h =
 
 identity-keeps : (new old : VoterSlotTable) → Keeps new old → (x : VoterSlotIdentityResult) → is_retired_identity old x ≡ true → is_retired_identity new x ≡ true
 unfolding is_retired_identity
-identity-keeps new old k (VoterSlotIdentityResult.Err answer) h = h
-identity-keeps new old k (VoterSlotIdentityResult.Ok identity) h =
+identity-keeps new old k (Err answer) h = h
+identity-keeps new old k (Ok identity) h =
     any-keeps (λ i. is_below_floor identity (slot_at old i)) (λ i. is_below_floor identity (slot_at new i)) new.count
     (λ i l. floor-keeps identity (slot_at new i) (slot_at old i) (k.slots i l))
     (subst (λ (n : ℕ). not (all_below (λ i. not (is_below_floor identity (slot_at old i))) n) ≡ true) (sym k.count) h)

@@ -4,7 +4,7 @@
 -- say is proved in BeginJudgeLaws.
 -- Assumes nothing.
 use Rattle.std.specs.Prelude.{ℕ, Bool, cond, false, not, ◌&&◌, ◌||◌, List, eqb, ltb}
-use Rattle.identity.specs.declared.answer.Answer.{Answer}
+use Rattle.identity.specs.Answer.{Answer}
 use Rattle.records.specs.declared.records.VoterSlotLogId.{VoterSlotLogId}
 use Rattle.records.specs.declared.records.VoterReplacementEvidence.{VoterReplacementEvidence}
 use Rattle.records.specs.declared.records.VoterReplacementResult.{VoterReplacementResult}

@@ -9,8 +9,8 @@ use Rattle.std.proofs.Math.Bool.{cond, not}
 use borrow.Author.Tests.{eq-eqb, ne_eqb, lt-ltb}
 use Rattle.identity.specs.Answer.{is_accepted}
 use Rattle.identity.specs.Identity.{max_voter_incarnation}
-use Rattle.identity.specs.declared.answer.Answer.{Answer}
-use Rattle.identity.specs.declared.answer.Answer.TheVariants.{Accepted, InvalidTransition, IncarnationExhausted}
+use Rattle.identity.specs.Answer.{Answer}
+use Rattle.identity.specs.Answer.{Accepted, InvalidTransition, IncarnationExhausted}
 use Rattle.records.specs.declared.records.VoterSlotLogId.{VoterSlotLogId}
 use Rattle.records.specs.declared.records.VoterSlotRecord.{VoterSlotRecord}
 use Rattle.records.specs.declared.records.VoterSlotTable.{VoterSlotTable}

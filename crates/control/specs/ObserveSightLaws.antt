@@ -18,7 +18,7 @@ use Rattle.identity.specs.Identity.{max_consensus_node_id, from_node_id, node_id
 use Rattle.identity.proofs.IdentityLaws.{identity-sound}
 use Rattle.identity.specs.Text.{every}
 use Rattle.identity.specs.Utf8Laws.{and_left, and_right}
-use Rattle.identity.specs.declared.identity.NumberResult.{NumberResult}
+use Rattle.identity.specs.Identity.{NumberResult}
 use Rattle.records.specs.declared.records.VoterConfiguration.{VoterConfiguration}
 use Rattle.records.specs.declared.records.VoterReplacementRecord.{VoterReplacementRecord}
 use Rattle.records.specs.declared.records.VoterSlotMember.{VoterSlotMember}
@@ -44,7 +44,7 @@ unfolding node_id
 node-below m = by (is_accepted (validate_voter_slot_identity m.identity)) refl
   where
     by : (b : Bool) → is_accepted (validate_voter_slot_identity m.identity) ≡ b
-        → value_of_number (cond b (NumberResult.Ok ((m.identity.incarnation - 1) * node_id_span + m.identity.slot)) (NumberResult.Err (validate_voter_slot_identity m.identity))) < no_id
+        → value_of_number (cond b (Ok ((m.identity.incarnation - 1) * node_id_span + m.identity.slot)) (Err (validate_voter_slot_identity m.identity))) < no_id
     by true e = let s = identity-sound m.identity e in omega (arith, s.incarnation.below, s.slot.below)
     by false e = omega arith
 

@@ -12,11 +12,11 @@ use Rattle.identity.specs.Identity.{is_slot_id, is_voter_incarnation, validate_v
 use Rattle.identity.proofs.IdentityLaws.{read_made}
 use Rattle.identity.specs.Answer.{number_of}
 use Rattle.identity.specs.AnswerLaws.{number-injective}
-use Rattle.identity.specs.declared.answer.Answer.{Answer}
-use Rattle.identity.specs.declared.answer.Answer.TheVariants.{Accepted, InvalidSlot, InvalidIncarnation, IncarnationExhausted, FreshInstallationRequired, TooLarge, InvalidRecord, Regression, InvalidLossEvidence, StaleIncarnation, IdempotencyConflict, ReplacementInProgress, NoSurvivingQuorum, ReplacementPastFence, ConfigurationEpochExhausted, RevisionExhausted, InvalidTransition, Unrepresentable, NotRising, BufferTooShort, BadRecord}
-use Rattle.identity.specs.declared.identity.NumberResult.{NumberResult}
+use Rattle.identity.specs.Answer.{Answer}
+use Rattle.identity.specs.Answer.{Accepted, InvalidSlot, InvalidIncarnation, IncarnationExhausted, FreshInstallationRequired, TooLarge, InvalidRecord, Regression, InvalidLossEvidence, StaleIncarnation, IdempotencyConflict, ReplacementInProgress, NoSurvivingQuorum, ReplacementPastFence, ConfigurationEpochExhausted, RevisionExhausted, InvalidTransition, Unrepresentable, NotRising, BufferTooShort, BadRecord}
+use Rattle.identity.specs.Identity.{NumberResult}
 use Rattle.identity.specs.declared.identity.VoterSlotIdentity.{VoterSlotIdentity}
-use Rattle.identity.specs.declared.identity.VoterSlotIdentityResult.{VoterSlotIdentityResult}
+use Rattle.identity.specs.Identity.{VoterSlotIdentityResult}
 use Rattle.records.specs.declared.records.VoterSlotTable.{VoterSlotTable}
 use Rattle.records.specs.Records.{slot_at, member_at}
 use Rattle.records.specs.Validation.{claims_of, validate}
@@ -91,12 +91,12 @@ number-tells (Refused a) (Refused b) e = ap Refused (number-injective a b e)
 -- ---- a node id that is made is read again
 
 is_made : (identity : VoterSlotIdentity) → is_slot_id identity.slot ≡ true → is_voter_incarnation identity.incarnation ≡ true
-    → node_id identity ≡ NumberResult.Ok (value_of_number (node_id identity))
+    → node_id identity ≡ Ok (value_of_number (node_id identity))
 unfolding node_id validate_voter_slot_identity validate_voter_incarnation
 is_made identity s i = rw (s, i)
 
 pub node-read : (identity : VoterSlotIdentity) → is_slot_id identity.slot ≡ true → is_voter_incarnation identity.incarnation ≡ true
-    → from_node_id (value_of_number (node_id identity)) ≡ VoterSlotIdentityResult.Ok identity
+    → from_node_id (value_of_number (node_id identity)) ≡ Ok identity
 node-read identity s i = read_made identity (value_of_number (node_id identity)) (is_made identity s i)
 
 module _ (t : VoterSlotTable) (v : validate t ≡ Accepted) (is_open : t.has_replacement ≡ true) where

@@ -9,8 +9,8 @@ use Rattle.records.specs.Evidence.{valid_log_id}
 use Rattle.records.specs.Representable.{representable}
 use Rattle.records.specs.Validation.{validity}
 use Rattle.control.specs.declared.control.VoterSlotControl.{VoterSlotControl}
-use Rattle.identity.specs.declared.answer.Answer.{Answer}
-use Rattle.identity.specs.declared.answer.Answer.TheVariants.{Accepted, InvalidTransition, Unrepresentable}
+use Rattle.identity.specs.Answer.{Answer}
+use Rattle.identity.specs.Answer.{Accepted, InvalidTransition, Unrepresentable}
 use Rattle.records.specs.declared.records.VoterSlotLogId.{VoterSlotLogId}
 use Rattle.records.specs.declared.records.VoterSlotTable.{VoterSlotTable}
 use Rattle.control.specs.declared.begin.VoterBegin.{VoterBegin}

@@ -7,7 +7,7 @@
 // compared: that it would pass the successor check is proved (specs/SettleLaws.antt). A table goes
 // in by value and comes back with the answer, or it is lent, and a thin call changes it in place.
 ghost use Rattle.std.specs.Prelude.{◌≡◌};
-ghost use Rattle.identity.specs.declared.answer.Answer.TheVariants.{Accepted};
+ghost use Rattle.identity.specs.Answer.{Accepted};
 ghost use Rattle.records.specs.Validation.{validate};
 ghost use Rattle.control.specs.Control.{apply_control};
 ghost use Rattle.control.specs.Judgement.{judge_marker};
@@ -19,7 +19,7 @@ use crate::control::*;
 use crate::judge::*;
 use crate::make::*;
 use crate::representable::is_representable_control;
-use identity::answer::{Answer, accepted};
+use identity::answer::{Answer, Refusal, accepted};
 use records::evidence::is_valid_log_id;
 use records::records::{VoterSlotLogId, VoterSlotTable};
 use records::representable::is_representable;
@@ -55,14 +55,14 @@ fn checked(table: VoterSlotTable, control: VoterSlotControl, cut: VoterSlotLogId
     let fits = is_representable(table);
     let command = is_representable_control(control);
     if !(fits & command) {
-        return Answer::Unrepresentable;
+        return Err(Refusal::Unrepresentable);
     }
     let valid = accepted(validate_representable(table));
     let nonzero = is_valid_log_id(cut);
     if !(valid & nonzero) {
-        return Answer::InvalidTransition;
+        return Err(Refusal::InvalidTransition);
     }
-    Answer::Accepted
+    Ok(())
 }
 
 // `apply_control` on a table that is lent: any table, any command and any cut.
@@ -142,31 +142,31 @@ pub fn advance(table: VoterSlotTable, advance: VoterAdvance) -> Controlled
     match judged {
         Judged::Refuse(answer) => Controlled { answer, table },
         Judged::Keep => Controlled {
-            answer: Answer::Accepted,
+            answer: Ok(()),
             table,
         },
         Judged::Begin => Controlled {
-            answer: Answer::Accepted,
+            answer: Ok(()),
             table,
         },
         Judged::RecordSnapshot => Controlled {
-            answer: Answer::Accepted,
+            answer: Ok(()),
             table: snapshot_table(table, advance),
         },
         Judged::RecordCaughtUp => Controlled {
-            answer: Answer::Accepted,
+            answer: Ok(()),
             table: catch_up_table(table, advance),
         },
         Judged::Continue => Controlled {
-            answer: Answer::Accepted,
+            answer: Ok(()),
             table: continue_table(table, advance),
         },
         Judged::Fence => Controlled {
-            answer: Answer::Accepted,
+            answer: Ok(()),
             table: fence_table(table, advance),
         },
         Judged::Finalize => Controlled {
-            answer: Answer::Accepted,
+            answer: Ok(()),
             table: finalize_table(table, advance),
         },
     }

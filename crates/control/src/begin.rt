@@ -6,7 +6,7 @@
 // parts are judged before the first refusal is picked, as in judge.rt.
 ghost use Rattle.std.specs.Prelude.{◌<◌, ◌≤◌, ◌≡◌, cond, map};
 ghost use Rattle.identity.specs.Answer.{is_accepted};
-ghost use Rattle.identity.specs.declared.answer.Answer.TheVariants.{Accepted, IdempotencyConflict};
+ghost use Rattle.identity.specs.Answer.{Accepted, IdempotencyConflict};
 ghost use Rattle.records.specs.Equality.{eq_bytes};
 ghost use Rattle.records.specs.Successor.{first_refusal};
 ghost use Rattle.records.specs.Validation.{validate};
@@ -20,7 +20,7 @@ use crate::apply::Controlled;
 use crate::control::VoterReplacementRequest;
 use crate::judge::*;
 use crate::request::*;
-use identity::answer::{Answer, accepted};
+use identity::answer::{Answer, Refusal, accepted};
 use records::blank::{
     blank_optional_log_id, blank_voter_slot_member, blank_voter_snapshot_evidence,
 };
@@ -90,7 +90,7 @@ fn judge_known_request(
     let receipt = find_receipt(table, id, digest);
     let open = table.has_replacement & same_id;
     let same = (open & own) | (!open & receipt.same);
-    let repeated = either(same, again, Judged::Refuse(Answer::IdempotencyConflict));
+    let repeated = either(same, again, Judged::Refuse(Err(Refusal::IdempotencyConflict)));
     either(open | receipt.found, repeated, fresh)
 }
 
@@ -123,20 +123,20 @@ fn open_check(
     let prepare = table.replacement.evidence.prepare;
     let early = answer_by(
         cut.index <= prepare.index,
-        Answer::InvalidTransition,
-        Answer::Accepted,
+        Err(Refusal::InvalidTransition),
+        Ok(()),
     );
     let fenced = answer_by(
         FENCED <= table.replacement.phase,
-        Answer::ReplacementPastFence,
+        Err(Refusal::ReplacementPastFence),
         early,
     );
     let other = answer_by(
         !(table.replacement.attestation.slot == request.attestation.slot),
-        Answer::ReplacementInProgress,
+        Err(Refusal::ReplacementInProgress),
         fenced,
     );
-    answer_by(!table.has_replacement, Answer::Accepted, other)
+    answer_by(!table.has_replacement, Ok(()), other)
 }
 
 // A full epoch or revision: 23, 24.
@@ -145,13 +145,13 @@ fn full_check(table: VoterSlotTable) -> Answer
 {
     let revision = answer_by(
         table.revision == u64::MAX,
-        Answer::RevisionExhausted,
-        Answer::Accepted,
+        Err(Refusal::RevisionExhausted),
+        Ok(()),
     );
     let epoch = current_epoch(table);
     answer_by(
         epoch == u64::MAX,
-        Answer::ConfigurationEpochExhausted,
+        Err(Refusal::ConfigurationEpochExhausted),
         revision,
     )
 }

@@ -8,7 +8,7 @@
 // another question each, a judge makes all its tests before it picks the first refusal: a call
 // after many early returns counts as cold to the compiler, which then copies the table for it.
 ghost use Rattle.std.specs.Prelude.{◌≡◌, cond, false, not, ◌||◌};
-ghost use Rattle.identity.specs.declared.answer.Answer.TheVariants.{InvalidTransition};
+ghost use Rattle.identity.specs.Answer.{InvalidTransition};
 ghost use Rattle.records.specs.Equality.{eq_bytes};
 ghost use Rattle.records.specs.Evidence.{follows, in_order};
 ghost use Rattle.records.specs.With.{present};
@@ -18,7 +18,7 @@ ghost use Rattle.control.specs.Judgement.{judge_advance, judge_caught_up, judge_
 ghost use Rattle.control.specs.Verdicts.{answer_of, route_of, verdict_of};
 
 use crate::control::*;
-use identity::answer::Answer;
+use identity::answer::{Answer, Refusal};
 use identity::identity::ConsensusRequestId;
 use records::equality::*;
 use records::evidence::{is_in_order, is_valid_snapshot_id, log_id_follows};
@@ -44,7 +44,7 @@ pub fn change_if(test: bool, change: Judged) -> Judged
     if test {
         return change;
     }
-    Judged::Refuse(Answer::InvalidTransition)
+    Judged::Refuse(Err(Refusal::InvalidTransition))
 }
 
 // accepted and unchanged, or else what comes next;
@@ -83,13 +83,13 @@ pub fn answer_of(judged: Judged) -> Answer
 {
     match judged {
         Judged::Refuse(answer) => answer,
-        Judged::Keep => Answer::Accepted,
-        Judged::Begin => Answer::Accepted,
-        Judged::RecordSnapshot => Answer::Accepted,
-        Judged::RecordCaughtUp => Answer::Accepted,
-        Judged::Continue => Answer::Accepted,
-        Judged::Fence => Answer::Accepted,
-        Judged::Finalize => Answer::Accepted,
+        Judged::Keep => Ok(()),
+        Judged::Begin => Ok(()),
+        Judged::RecordSnapshot => Ok(()),
+        Judged::RecordCaughtUp => Ok(()),
+        Judged::Continue => Ok(()),
+        Judged::Fence => Ok(()),
+        Judged::Finalize => Ok(()),
     }
 }
 
@@ -140,7 +140,7 @@ pub fn judge_marker(
     let catching_up = (phase == LEARNER_ADDED) | (phase == CAUGHT_UP);
     keep_if(
         named & catching_up,
-        Judged::Refuse(Answer::InvalidTransition),
+        Judged::Refuse(Err(Refusal::InvalidTransition)),
     )
 }
 
@@ -170,7 +170,7 @@ pub fn judge_advance(table: VoterSlotTable, advance: VoterAdvance) -> Judged
     let step = advance.step;
     let cut = advance.cut;
     if table.revision == u64::MAX {
-        return Judged::Refuse(Answer::RevisionExhausted);
+        return Judged::Refuse(Err(Refusal::RevisionExhausted));
     }
     if table.has_replacement {
         return judge_open(table, request_id, request_digest, step, cut);
@@ -178,7 +178,7 @@ pub fn judge_advance(table: VoterSlotTable, advance: VoterAdvance) -> Judged
     let completed = is_completed(table, request_id, request_digest);
     keep_if(
         (step.kind == FINALIZE) & completed,
-        Judged::Refuse(Answer::StaleIncarnation),
+        Judged::Refuse(Err(Refusal::StaleIncarnation)),
     )
 }
 
@@ -224,9 +224,9 @@ fn judge_open(
     let prepare = table.replacement.evidence.prepare;
     let judged = judge_step(table, step, cut);
     let early = (cut.index <= prepare.index) | (cut.term < prepare.term);
-    let later = refuse_if(early, Answer::InvalidTransition, judged);
-    let same = refuse_if(!digest, Answer::IdempotencyConflict, later);
-    refuse_if(!id, Answer::StaleIncarnation, same)
+    let later = refuse_if(early, Err(Refusal::InvalidTransition), judged);
+    let same = refuse_if(!digest, Err(Refusal::IdempotencyConflict), later);
+    refuse_if(!id, Err(Refusal::StaleIncarnation), same)
 }
 
 // The arms of `advance`, by the kind of the step.
@@ -256,7 +256,7 @@ fn judge_snapshot(
     if table.replacement.evidence.has_snapshot {
         let held = table.replacement.evidence.snapshot;
         let same = same_voter_snapshot_evidence(held, snapshot);
-        return keep_if(same, Judged::Refuse(Answer::IdempotencyConflict));
+        return keep_if(same, Judged::Refuse(Err(Refusal::IdempotencyConflict)));
     }
     let id = snapshot.snapshot_id;
     let at = snapshot.cut;
@@ -332,7 +332,7 @@ fn judge_continuation(table: VoterSlotTable, cut: VoterSlotLogId) -> Judged
         fits_snapshot & (fits_learner & fits_caught_up),
         Judged::Continue,
     );
-    let unfenced = refuse_if(FENCED <= phase, Answer::InvalidTransition, change);
+    let unfenced = refuse_if(FENCED <= phase, Err(Refusal::InvalidTransition), change);
     keep_if(table.replacement.evidence.continuation.is_some, unfenced)
 }
 

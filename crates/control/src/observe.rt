@@ -6,8 +6,8 @@
 // Nothing is validated first: ids may repeat there, and stand in any order.
 ghost use Rattle.std.specs.Prelude.{◌+◌, ◌<◌, ◌≤◌, ◌≡◌, cond, false, true, eqb, length, set};
 ghost use Rattle.identity.specs.Answer.{is_accepted};
-ghost use Rattle.identity.specs.declared.answer.Answer.TheVariants.{Accepted, InvalidTransition, RevisionExhausted};
-ghost use Rattle.identity.specs.declared.identity.VoterSlotIdentityResult.TheVariants.{Ok};
+ghost use Rattle.identity.specs.Answer.{Accepted, InvalidTransition, RevisionExhausted};
+ghost use Rattle.std.specs.Prelude.{Ok};
 ghost use Rattle.records.specs.Records.{slot_at};
 ghost use Rattle.records.specs.Successor.{slot_index};
 ghost use Rattle.records.specs.Validation.{validate, validity};
@@ -22,7 +22,7 @@ ghost use Rattle.control.specs.ObserveSight.{Room, Supplied, answer_of_observed,
 use crate::apply::Controlled;
 use crate::judge::{ROUTE_NONE, fits_continuation};
 use crate::sets::*;
-use identity::answer::{Answer, accepted};
+use identity::answer::{Answer, Refusal, accepted};
 use identity::identity::*;
 use records::evidence::log_id_follows;
 use records::records::*;
@@ -203,8 +203,8 @@ fn may_linger(table: VoterSlotTable, node: ConsensusNodeId) -> bool
     }
     let read = VoterSlotIdentity::from_node_id(node);
     match read {
-        VoterSlotIdentityResult::Err(_) => false,
-        VoterSlotIdentityResult::Ok(identity) => is_obsolete(table, identity),
+        Err(_) => false,
+        Ok(identity) => is_obsolete(table, identity),
     }
 }
 
@@ -268,7 +268,7 @@ fn accept_if(test: bool, accepted: Observed) -> Observed
     if test {
         return accepted;
     }
-    Observed::Refuse(Answer::InvalidTransition)
+    Observed::Refuse(Err(Refusal::InvalidTransition))
 }
 
 // 24 where the revision is full, or else what comes next.
@@ -276,7 +276,7 @@ fn refuse_full(revision: u64, otherwise: Observed) -> Observed
     ensures { verdict_of_observed result ≡ cond (eqb revision full) (refused RevisionExhausted) (verdict_of_observed otherwise) }
 {
     if revision == u64::MAX {
-        return Observed::Refuse(Answer::RevisionExhausted);
+        return Observed::Refuse(Err(Refusal::RevisionExhausted));
     }
     otherwise
 }
@@ -370,7 +370,7 @@ fn judge_known(table: VoterSlotTable, phase: u8, seen: Seen, cut: VoterSlotLogId
     ensures { verdict_of_observed result ≡ judge_known table (sight_of seen) cut }
 {
     match seen {
-        Seen::Strange => Observed::Refuse(Answer::InvalidTransition),
+        Seen::Strange => Observed::Refuse(Err(Refusal::InvalidTransition)),
         Seen::NothingNew => {
             let right = target_phase(table.replacement.phase);
             accept_if(phase == right, Observed::Keep)
@@ -389,7 +389,7 @@ fn judge_seen(table: VoterSlotTable, seen: Seen, cut: VoterSlotLogId) -> Observe
     let slot = table.replacement.attestation.slot;
     let at = slot_place(table, slot);
     if table.count <= at {
-        return Observed::Refuse(Answer::InvalidTransition);
+        return Observed::Refuse(Err(Refusal::InvalidTransition));
     }
     let phase = phase_at(table, at);
     judge_known(table, phase, seen, cut)
@@ -471,12 +471,12 @@ pub fn weigh(
     let held = are_held(sets);
     let nodes_held = are_held(nodes);
     if !(few & ((counted & held) & nodes_held)) {
-        return Observed::Refuse(Answer::Unrepresentable);
+        return Observed::Refuse(Err(Refusal::Unrepresentable));
     }
     let rising = sets_rise(sets, counts);
     let nodes_rise = rises(nodes);
     if !(rising & nodes_rise) {
-        return Observed::Refuse(Answer::NotRising);
+        return Observed::Refuse(Err(Refusal::NotRising));
     }
     judge_sets(table, sets, counts, nodes, cut)
 }
@@ -499,10 +499,10 @@ pub fn answer_of_observed(judged: Observed) -> Answer
 {
     match judged {
         Observed::Refuse(answer) => answer,
-        Observed::Keep => Answer::Accepted,
-        Observed::AddLearner => Answer::Accepted,
-        Observed::AddJoint => Answer::Accepted,
-        Observed::AddUniform => Answer::Accepted,
+        Observed::Keep => Ok(()),
+        Observed::AddLearner => Ok(()),
+        Observed::AddJoint => Ok(()),
+        Observed::AddUniform => Ok(()),
     }
 }
 
@@ -590,19 +590,19 @@ fn carry_out(table: VoterSlotTable, judged: Observed, cut: VoterSlotLogId) -> Co
     match judged {
         Observed::Refuse(answer) => Controlled { answer, table },
         Observed::Keep => Controlled {
-            answer: Answer::Accepted,
+            answer: Ok(()),
             table,
         },
         Observed::AddLearner => Controlled {
-            answer: Answer::Accepted,
+            answer: Ok(()),
             table: learner_table(table, cut),
         },
         Observed::AddJoint => Controlled {
-            answer: Answer::Accepted,
+            answer: Ok(()),
             table: joint_table(table, cut),
         },
         Observed::AddUniform => Controlled {
-            answer: Answer::Accepted,
+            answer: Ok(()),
             table: uniform_table(table, cut),
         },
     }
@@ -648,7 +648,7 @@ fn weigh_entry(
     ensures { verdict_of_observed result ≡ entry_weighed table sets.now counts.now nodes.now cut }
 {
     if !is_representable(table) {
-        return Observed::Refuse(Answer::Unrepresentable);
+        return Observed::Refuse(Err(Refusal::Unrepresentable));
     }
     let judged = weigh(table, sets, counts, nodes, cut);
     confirm(table, judged)

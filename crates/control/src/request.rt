@@ -12,7 +12,7 @@ ghost use Rattle.control.specs.Control.{candidate_check, current_configuration, 
 ghost use Rattle.control.specs.BeginJudge.{attested_member, has_digest, has_receipt, named_of, newer_than, receipt_state};
 
 use crate::control::VoterReplacementRequest;
-use identity::answer::Answer;
+use identity::answer::{Answer, Refusal};
 use identity::identity::{ConsensusConfigurationEpoch, ConsensusRequestId, SlotId};
 use records::blank::blank_voter_slot_member;
 use records::equality::{same16, same32};
@@ -38,7 +38,7 @@ pub fn validate_request(request: VoterReplacementRequest) -> Answer
     let supplied = request.supplied_request_digest;
     let attested = request.attestation.request_digest;
     let same = same32(supplied, attested);
-    answer_by(valid & same, Answer::Accepted, Answer::InvalidLossEvidence)
+    answer_by(valid & same, Ok(()), Err(Refusal::InvalidLossEvidence))
 }
 
 // The claims are valid, and the request says the same as they do.
@@ -150,13 +150,13 @@ pub fn slot_check(table: VoterSlotTable, request: VoterReplacementRequest) -> An
     let newer = is_newer(member, request);
     let current = named.found
         & ((table.revision == request.expected_revision) & (expected & (same_cluster & attested)));
-    let fits = answer_by(newer, Answer::Accepted, Answer::InvalidLossEvidence);
+    let fits = answer_by(newer, Ok(()), Err(Refusal::InvalidLossEvidence));
     let enough = answer_by(
         MIN_REPLACEMENT_SLOTS <= table.count,
         fits,
-        Answer::NoSurvivingQuorum,
+        Err(Refusal::NoSurvivingQuorum),
     );
-    answer_by(current, enough, Answer::StaleIncarnation)
+    answer_by(current, enough, Err(Refusal::StaleIncarnation))
 }
 
 // The first slot of a number.

@@ -209,8 +209,8 @@ fn value_of(number: NumberResult) -> u64
     ensures { result ≡ value_of_number number }
 {
     match number {
-        NumberResult::Ok(value) => value,
-        NumberResult::Err(_) => 0,
+        Ok(value) => value,
+        Err(_) => 0,
     }
 }
 

@@ -6,7 +6,7 @@ use Rattle.std.specs.Prelude.{ℕ, ◌<◌, ◌≡◌, refl, ◌∷◌, length, 
 use Rattle.std.proofs.Common.{arith, ◌∙◌, lit<}
 use Rattle.identity.specs.Text.{scheme, is_in, starts_with, is_name, is_snapshot_id, is_utf8, every}
 use Rattle.identity.specs.Utf8.{fits, width_in, decoded_char, chars_from, all_chars}
-use Rattle.identity.specs.declared.answer.Answer.TheVariants.{Accepted}
+use Rattle.identity.specs.Answer.{Accepted}
 use Rattle.records.specs.Blank.{blank_voter_slot_identity, blank_spiffe_id, blank_snapshot_id, blank_voter_slot_log_id, blank_optional_log_id, blank_voter_slot_member, blank_voter_replacement_result, blank_voter_slot_record, blank_voter_snapshot_evidence, blank_voter_configuration, blank_lost_voter_attestation_v1, blank_voter_replacement_evidence, blank_voter_replacement_record}
 use Rattle.records.specs.Equality.{all_true, eq_list, same_voter_slot_identity, same_spiffe_id, same_snapshot_id, same_voter_slot_log_id, same_optional_log_id, same_voter_slot_member, same_voter_replacement_result, same_voter_slot_record, same_voter_snapshot_evidence, same_voter_configuration, same_lost_voter_attestation_v1, same_voter_replacement_evidence, same_voter_replacement_record}
 use Rattle.records.specs.Evidence.{follows, valid_stage, stage_or, valid_stages, in_order, valid_continuation, valid_evidence}

@@ -8,7 +8,7 @@ use Rattle.std.proofs.Math.Bool.{true, false}
 use Rattle.std.proofs.Math.ListN.{take}
 use borrow.Author.Tests.{eqb-true, eqb-false}
 use Rattle.identity.specs.Answer.{number_of, is_accepted}
-use Rattle.identity.specs.declared.answer.Answer.{Answer}
+use Rattle.identity.specs.Answer.{Answer}
 use Rattle.format.specs.Res.{Res}
 use Rattle.format.specs.Res.Res.{ok, no}
 use Rattle.records.specs.Blank.{blank_lost_voter_attestation_v1}

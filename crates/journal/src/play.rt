@@ -2,7 +2,7 @@
 //
 // Document 01, section "Replay program". No part of the original has it.
 ghost use Rattle.std.specs.Prelude.{◌+◌, ◌*◌, ◌-◌, ◌/◌, ◌<◌, ◌≤◌, min, cond, false, true, ◌≡◌, length};
-ghost use Rattle.identity.specs.declared.answer.Answer.TheVariants.{Accepted, BadRecord};
+ghost use Rattle.identity.specs.Answer.{Accepted, BadRecord};
 ghost use Rattle.records.specs.Blank.{blank_voter_slot_table};
 ghost use Rattle.records.specs.Validation.{validate};
 ghost use Rattle.control.specs.Control.{full};
@@ -21,7 +21,7 @@ use control::begin::begin_table;
 use control::judge::*;
 use control::make::*;
 use control::observe::{joint_table, learner_table, uniform_table};
-use identity::answer::{Answer, accepted};
+use identity::answer::{Answer, Refusal, accepted};
 use records::blank::blank_voter_slot_table;
 use records::records::VoterSlotTable;
 use records::validation::validate_table;
@@ -167,8 +167,8 @@ fn play_on(from: Opened, input: &[u8], last: bool, out: &mut [u8]) -> Opened
             Mark::Ad => Called::Command(judge_advance_body(t, body)),
             Mark::Bg => Called::Command(judge_begin_body(t, body)),
             Mark::Ob => Called::Observation(judge_observation_body(t, body, &mut ids, &mut counts)),
-            Mark::Tb => Called::Command(Judged::Refuse(Answer::BadRecord)),
-            Mark::Unknown => Called::Command(Judged::Refuse(Answer::BadRecord)),
+            Mark::Tb => Called::Command(Judged::Refuse(Err(Refusal::BadRecord))),
+            Mark::Unknown => Called::Command(Judged::Refuse(Err(Refusal::BadRecord))),
         };
         match route_of_called(called) {
             ROUTE_SNAPSHOT => t = snapshot_table(t, advance_in(body)),
@@ -267,7 +267,7 @@ fn bad_record() -> DecodedTable
 {
     let table = blank_voter_slot_table();
     DecodedTable {
-        answer: Answer::BadRecord,
+        answer: Err(Refusal::BadRecord),
         table,
     }
 }
@@ -279,7 +279,7 @@ fn start_answer(stands: bool, table: VoterSlotTable) -> Answer
     if stands {
         return validate_table(table);
     }
-    Answer::Accepted
+    Ok(())
 }
 
 // Nothing is read yet. There are as many turns as lines have room, and the count of records too.

@@ -4,7 +4,7 @@
 //
 // Document 01, section "Replay program". No part of the original has it.
 ghost use Rattle.std.specs.Prelude.{◌+◌, ◌≤◌, ◌≡◌, length, take, drop};
-ghost use Rattle.identity.specs.declared.answer.Answer.TheVariants.{Accepted};
+ghost use Rattle.identity.specs.Answer.{Accepted};
 ghost use Rattle.records.specs.Validation.{validate};
 ghost use Rattle.control.specs.Verdicts.{verdict_of};
 ghost use Rattle.control.specs.ObserveSight.{verdict_of_observed, weighed};
@@ -20,7 +20,7 @@ use control::judge::*;
 use control::make::*;
 use control::observe::*;
 use control::representable::{is_representable_request, is_representable_step};
-use identity::answer::Answer;
+use identity::answer::{Answer, Refusal};
 use layout::reading::LogIdRead;
 use reader::reader::read_log_id;
 use records::blank::blank_voter_slot_log_id;
@@ -86,8 +86,8 @@ fn check_call(fits: bool, cut: VoterSlotLogId, judged: Judged) -> Judged
     ensures { verdict_of result ≡ checked_call fits cut (verdict_of judged) }
 {
     let nonzero = is_valid_log_id(cut);
-    let later = refuse_if(!nonzero, Answer::InvalidTransition, judged);
-    refuse_if(!fits, Answer::Unrepresentable, later)
+    let later = refuse_if(!nonzero, Err(Refusal::InvalidTransition), judged);
+    refuse_if(!fits, Err(Refusal::Unrepresentable), later)
 }
 
 // The judges of the bodies: 33 for one that is not of its form, and then as the calls. An MK;
@@ -101,7 +101,7 @@ pub fn judge_marker_body(table: VoterSlotTable, body: &[u8]) -> Judged
     let request_digest = read.value.request_digest;
     let judged = judge_marker(table, request_id, request_digest);
     let checked = check_call(true, cut, judged);
-    refuse_if(!read.formed, Answer::BadRecord, checked)
+    refuse_if(!read.formed, Err(Refusal::BadRecord), checked)
 }
 
 // an AD;
@@ -116,7 +116,7 @@ pub fn judge_advance_body(table: VoterSlotTable, body: &[u8]) -> Judged
     let judged = judge_advance(table, advance);
     let fits = is_representable_step(step);
     let checked = check_call(fits, cut, judged);
-    refuse_if(!read.formed, Answer::BadRecord, checked)
+    refuse_if(!read.formed, Err(Refusal::BadRecord), checked)
 }
 
 // a BG, with its attestation's own number before 30;
@@ -128,7 +128,7 @@ pub fn judge_begin_body(table: VoterSlotTable, body: &[u8]) -> Judged
     let asks = read.asks;
     let begin = read.value;
     match asks {
-        Asks::Bad => Judged::Refuse(Answer::BadRecord),
+        Asks::Bad => Judged::Refuse(Err(Refusal::BadRecord)),
         Asks::Refused(answer) => Judged::Refuse(answer),
         Asks::Begin => {
             let cut = begin.cut;
@@ -152,7 +152,7 @@ pub fn judge_observation_body(
 {
     let read = read_observation(body, ids, counts);
     if !read.formed {
-        return Observed::Refuse(Answer::BadRecord);
+        return Observed::Refuse(Err(Refusal::BadRecord));
     }
     weigh_read(table, read, ids, counts)
 }

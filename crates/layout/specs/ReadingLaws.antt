@@ -7,7 +7,7 @@ use Rattle.std.proofs.Math.Path.{ap, ap₂}
 use Rattle.format.specs.Res.{Res, ok-count, no_ok}
 use Rattle.format.specs.Res.Res.{ok, no}
 use Rattle.identity.specs.Answer.{number_of}
-use Rattle.identity.specs.declared.answer.Answer.{Answer}
+use Rattle.identity.specs.Answer.{Answer}
 use Rattle.layout.specs.Reading.{report, outcome}
 use Rattle.layout.specs.declared.reading.Extent.{Extent}
 use Rattle.layout.specs.declared.reading.Extent.TheVariants as reading

@@ -11,7 +11,7 @@ ghost use Rattle.layout.specs.Reading.{report, outcome, u64_read, u16_read, u8_r
 
 use crate::put::put_bytes;
 use crate::reading::*;
-use identity::answer::Answer;
+use identity::answer::{Answer, Refusal};
 
 // A number of so many bytes, the highest first.
 fn read_be(bytes: &[u8], width: usize) -> U64Read
@@ -19,7 +19,7 @@ fn read_be(bytes: &[u8], width: usize) -> U64Read
     ensures { u64_read result ≡ (uint width).dec bytes.now }
 {
     if bytes.len() < width {
-        return U64Read::Refused(Answer::InvalidRecord);
+        return U64Read::Refused(Err(Refusal::InvalidRecord));
     }
     let mut value: u64 = 0;
     let mut i = 0;
@@ -64,7 +64,7 @@ pub fn read_array16(bytes: &[u8]) -> Array16Read
     ensures { (report result.answer, result.value) ≡ outcome (zeros 16) ((raw 16).dec bytes.now) }
 {
     if bytes.len() < 16 {
-        return refused_array16(Answer::InvalidRecord);
+        return refused_array16(Err(Refusal::InvalidRecord));
     }
     let mut value = zeros16();
     put_bytes(&mut value, 0, &bytes[..16]);
@@ -79,7 +79,7 @@ pub fn read_array32(bytes: &[u8]) -> Array32Read
     ensures { (report result.answer, result.value) ≡ outcome (zeros 32) ((raw 32).dec bytes.now) }
 {
     if bytes.len() < 32 {
-        return refused_array32(Answer::InvalidRecord);
+        return refused_array32(Err(Refusal::InvalidRecord));
     }
     let mut value = zeros32();
     put_bytes(&mut value, 0, &bytes[..32]);
@@ -94,7 +94,7 @@ pub fn read_array64(bytes: &[u8]) -> Array64Read
     ensures { (report result.answer, result.value) ≡ outcome (zeros 64) ((raw 64).dec bytes.now) }
 {
     if bytes.len() < 64 {
-        return refused_array64(Answer::InvalidRecord);
+        return refused_array64(Err(Refusal::InvalidRecord));
     }
     let mut value = zeros64();
     put_bytes(&mut value, 0, &bytes[..64]);
@@ -114,10 +114,10 @@ pub fn read_sized(bytes: &[u8], bound: usize) -> SizedRead
     };
     let size = size as usize;
     if bound < size {
-        return SizedRead::Refused(Answer::TooLarge);
+        return SizedRead::Refused(Err(Refusal::TooLarge));
     }
     if bytes.len() - at < size {
-        return SizedRead::Refused(Answer::InvalidRecord);
+        return SizedRead::Refused(Err(Refusal::InvalidRecord));
     }
     SizedRead::Read(size, at)
 }

@@ -11,7 +11,7 @@ ghost use Rattle.layout.specs.Parts.{absent_result, absent_snapshot, blank_bindi
 ghost use Rattle.layout.specs.Reading.{report, outcome, why_of, why_u64, why_u16, why_u8, why_bool, why_sized, why_identity, why_log_id, why_optional_log_id, why_three_cuts, why_times};
 
 use crate::parts::*;
-use identity::answer::Answer;
+use identity::answer::{Answer, Refusal};
 use identity::identity::VoterSlotIdentity;
 use records::blank::*;
 use records::records::*;
@@ -262,7 +262,7 @@ pub fn why(answer: Extent) -> Answer
     ensures { result ≡ why_of answer }
 {
     match answer {
-        Extent::To(_) => Answer::InvalidRecord,
+        Extent::To(_) => Err(Refusal::InvalidRecord),
         Extent::Refused(refusal) => refusal,
     }
 }
@@ -271,7 +271,7 @@ pub fn why_u64(answer: U64Read) -> Answer
     ensures { result ≡ why_u64 answer }
 {
     match answer {
-        U64Read::Read(_, _) => Answer::InvalidRecord,
+        U64Read::Read(_, _) => Err(Refusal::InvalidRecord),
         U64Read::Refused(refusal) => refusal,
     }
 }
@@ -280,7 +280,7 @@ pub fn why_u16(answer: U16Read) -> Answer
     ensures { result ≡ why_u16 answer }
 {
     match answer {
-        U16Read::Read(_, _) => Answer::InvalidRecord,
+        U16Read::Read(_, _) => Err(Refusal::InvalidRecord),
         U16Read::Refused(refusal) => refusal,
     }
 }
@@ -289,7 +289,7 @@ pub fn why_u8(answer: U8Read) -> Answer
     ensures { result ≡ why_u8 answer }
 {
     match answer {
-        U8Read::Read(_, _) => Answer::InvalidRecord,
+        U8Read::Read(_, _) => Err(Refusal::InvalidRecord),
         U8Read::Refused(refusal) => refusal,
     }
 }
@@ -298,7 +298,7 @@ pub fn why_bool(answer: BoolRead) -> Answer
     ensures { result ≡ why_bool answer }
 {
     match answer {
-        BoolRead::Read(_, _) => Answer::InvalidRecord,
+        BoolRead::Read(_, _) => Err(Refusal::InvalidRecord),
         BoolRead::Refused(refusal) => refusal,
     }
 }
@@ -307,7 +307,7 @@ pub fn why_sized(answer: SizedRead) -> Answer
     ensures { result ≡ why_sized answer }
 {
     match answer {
-        SizedRead::Read(_, _) => Answer::InvalidRecord,
+        SizedRead::Read(_, _) => Err(Refusal::InvalidRecord),
         SizedRead::Refused(refusal) => refusal,
     }
 }
@@ -316,7 +316,7 @@ pub fn why_identity(answer: IdentityRead) -> Answer
     ensures { result ≡ why_identity answer }
 {
     match answer {
-        IdentityRead::Read(_, _) => Answer::InvalidRecord,
+        IdentityRead::Read(_, _) => Err(Refusal::InvalidRecord),
         IdentityRead::Refused(refusal) => refusal,
     }
 }
@@ -325,7 +325,7 @@ pub fn why_log_id(answer: LogIdRead) -> Answer
     ensures { result ≡ why_log_id answer }
 {
     match answer {
-        LogIdRead::Read(_, _) => Answer::InvalidRecord,
+        LogIdRead::Read(_, _) => Err(Refusal::InvalidRecord),
         LogIdRead::Refused(refusal) => refusal,
     }
 }
@@ -334,7 +334,7 @@ pub fn why_optional_log_id(answer: OptionalLogIdRead) -> Answer
     ensures { result ≡ why_optional_log_id answer }
 {
     match answer {
-        OptionalLogIdRead::Read(_, _) => Answer::InvalidRecord,
+        OptionalLogIdRead::Read(_, _) => Err(Refusal::InvalidRecord),
         OptionalLogIdRead::Refused(refusal) => refusal,
     }
 }
@@ -343,7 +343,7 @@ pub fn why_three_cuts(answer: ThreeCutsRead) -> Answer
     ensures { result ≡ why_three_cuts answer }
 {
     match answer {
-        ThreeCutsRead::Read(_, _) => Answer::InvalidRecord,
+        ThreeCutsRead::Read(_, _) => Err(Refusal::InvalidRecord),
         ThreeCutsRead::Refused(refusal) => refusal,
     }
 }
@@ -352,7 +352,7 @@ pub fn why_times(answer: TimesRead) -> Answer
     ensures { result ≡ why_times answer }
 {
     match answer {
-        TimesRead::Read(_, _) => Answer::InvalidRecord,
+        TimesRead::Read(_, _) => Err(Refusal::InvalidRecord),
         TimesRead::Refused(refusal) => refusal,
     }
 }

@@ -2,7 +2,7 @@
 use crate::line;
 use crate::line::Line;
 use crate::question::{Mark, put_mark};
-use identity::answer::Answer;
+use identity::answer::{Answer, Refusal};
 use std::io::Print;
 
 #[derive(Clone, Copy)]
@@ -42,7 +42,7 @@ fn put_reply(line: Line, reply: Reply) -> Line {
         Reply::Pair(a, b) => line.number(a).byte(b' ').number(b),
         Reply::Triple(a, b, c) => line.number(a).byte(b' ').number(b).byte(b' ').number(c),
         Reply::Table(a, b, c, d) => put_table(line, a, b, c, d),
-        Reply::Malformed => line.number(number(Answer::BadRecord)),
+        Reply::Malformed => line.number(number(Err(Refusal::BadRecord))),
     }
 }
 

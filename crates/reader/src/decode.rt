@@ -12,7 +12,7 @@ ghost use Rattle.layout.specs.Reading.{report, outcome};
 ghost use Rattle.layout.specs.Layout.{binding, member, members, configuration, result_head, replacement_result, slot_member, slot, slots, claims_request, claims_slot, claims_names, claims_end, claims, attestation, snapshot, evidence, change, replacement, table_head, table_front, table};
 
 use crate::reader::*;
-use identity::answer::Answer;
+use identity::answer::{Answer, Refusal};
 use layout::get::*;
 use layout::parts::*;
 use layout::reading::*;
@@ -496,7 +496,7 @@ pub fn read_whole_attestation(bytes: &[u8]) -> AttestationRead
     };
     let value = read.value;
     if !((n == bytes.len()) & is_valid_attestation(value)) {
-        return refused_attestation(Answer::InvalidRecord);
+        return refused_attestation(Err(Refusal::InvalidRecord));
     }
     read
 }

@@ -10,7 +10,7 @@ ghost use Rattle.layout.specs.Reading.{report, outcome, u64_read, u16_read, u8_r
 ghost use Rattle.records.specs.Blank.{blank_spiffe_id, blank_snapshot_id};
 ghost use Rattle.layout.specs.Layout.{slot_id, incarnation, epoch, slot_count, choice, spiffe_id, snapshot_id, identity, log_id, optional_log_id, three_cuts, times, version, magic_and_version};
 
-use identity::answer::{Answer, accepted};
+use identity::answer::{Answer, Refusal, accepted};
 use identity::identity::*;
 use identity::text::{MAX_VOTER_SNAPSHOT_ID_BYTES, MAX_VOTER_SPIFFE_ID_BYTES, is_utf8};
 use layout::get::*;
@@ -29,7 +29,7 @@ pub fn read_epoch(bytes: &[u8]) -> U64Read
         return number;
     };
     if !is_configuration_epoch(value) {
-        return U64Read::Refused(Answer::InvalidRecord);
+        return U64Read::Refused(Err(Refusal::InvalidRecord));
     }
     U64Read::Read(value, n)
 }
@@ -88,7 +88,7 @@ pub fn read_count(bytes: &[u8]) -> U8Read
         return number;
     };
     if !is_valid_count(value as usize) {
-        return U8Read::Refused(Answer::InvalidRecord);
+        return U8Read::Refused(Err(Refusal::InvalidRecord));
     }
     U8Read::Read(value, n)
 }
@@ -102,7 +102,7 @@ pub fn read_choice(bytes: &[u8], low: u8, high: u8) -> U8Read
         return number;
     };
     if !((low <= value) & (value <= high)) {
-        return U8Read::Refused(Answer::InvalidRecord);
+        return U8Read::Refused(Err(Refusal::InvalidRecord));
     }
     U8Read::Read(value, n)
 }
@@ -116,7 +116,7 @@ pub fn read_flag(bytes: &[u8]) -> BoolRead
         return BoolRead::Refused(why_u8(number));
     };
     if 1 < value {
-        return BoolRead::Refused(Answer::InvalidRecord);
+        return BoolRead::Refused(Err(Refusal::InvalidRecord));
     }
     BoolRead::Read(value == 1, n)
 }
@@ -226,7 +226,7 @@ pub fn read_spiffe_id(bytes: &[u8]) -> SpiffeIdRead
     let end = at + len;
     let text = &bytes[at..end];
     if !is_utf8(text) {
-        return refused_spiffe_id(Answer::InvalidRecord);
+        return refused_spiffe_id(Err(Refusal::InvalidRecord));
     }
     let mut place = zeros2048();
     put_bytes(&mut place, 0, text);
@@ -247,7 +247,7 @@ pub fn read_snapshot_id(bytes: &[u8]) -> SnapshotIdRead
     let end = at + len;
     let text = &bytes[at..end];
     if !is_utf8(text) {
-        return refused_snapshot_id(Answer::InvalidRecord);
+        return refused_snapshot_id(Err(Refusal::InvalidRecord));
     }
     let mut place = zeros256();
     put_bytes(&mut place, 0, text);
@@ -266,7 +266,7 @@ pub fn read_version(bytes: &[u8]) -> Extent
         return Extent::Refused(why_u16(number));
     };
     if value as u64 != VERSION {
-        return Extent::Refused(Answer::InvalidRecord);
+        return Extent::Refused(Err(Refusal::InvalidRecord));
     }
     Extent::To(n)
 }
@@ -276,17 +276,17 @@ pub fn read_head(bytes: &[u8]) -> Extent
     ensures { report result ≡ magic_and_version.dec bytes.now }
 {
     if bytes.len() < 4 {
-        return Extent::Refused(Answer::InvalidRecord);
+        return Extent::Refused(Err(Refusal::InvalidRecord));
     }
     let number = read_u16(&bytes[4..]);
     let U16Read::Read(value, n) = number else {
         return Extent::Refused(why_u16(number));
     };
     if !((bytes[0] == b'O') & ((bytes[1] == b'P') & ((bytes[2] == b'V') & (bytes[3] == b'I')))) {
-        return Extent::Refused(Answer::InvalidRecord);
+        return Extent::Refused(Err(Refusal::InvalidRecord));
     }
     if value as u64 != VERSION {
-        return Extent::Refused(Answer::FreshInstallationRequired);
+        return Extent::Refused(Err(Refusal::FreshInstallationRequired));
     }
     Extent::To(4 + n)
 }

@@ -10,8 +10,8 @@ use native.Mathlib.Omega.{arith}
 use Rattle.std.proofs.lemmas.Bool.{not-true, not-false}
 use Rattle.identity.specs.Answer.{number_of, is_accepted}
 use Rattle.identity.specs.AnswerLaws.{number-injective}
-use Rattle.identity.specs.declared.answer.Answer.{Answer}
-use Rattle.identity.specs.declared.answer.Answer.TheVariants.{Accepted, InvalidRecord}
+use Rattle.identity.specs.Answer.{Answer}
+use Rattle.identity.specs.Answer.{Accepted, InvalidRecord}
 use Rattle.records.specs.Records.{all_below, slot_at, member_at}
 use Rattle.records.specs.RecordsLaws.{all_below-all}
 use Rattle.records.specs.Equality.{same_voter_slot_member}

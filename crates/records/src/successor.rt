@@ -5,7 +5,7 @@
 // give `Regression` answers yes or no; the representability check comes first. `retains` and
 // `latest`, which it calls, are in evidence.rt.
 ghost use Rattle.std.specs.Prelude.{◌≡◌, ◌+◌, ◌≤◌};
-ghost use Rattle.identity.specs.declared.answer.Answer.TheVariants.{Accepted};
+ghost use Rattle.identity.specs.Answer.{Accepted};
 ghost use Rattle.records.specs.Records.{all_below, slot_at};
 ghost use Rattle.records.specs.Successor.{own_receipt, or_regression, result_succeeds, slot_succeeds, request_succeeds, request_ended, slot_index, ended_succeeds, replacement_succeeds, head_succeeds, succession, validate_successor_of};
 
@@ -15,7 +15,7 @@ use crate::number::is_next;
 use crate::records::*;
 use crate::representable::is_representable;
 use crate::validation::validate_representable;
-use identity::answer::{Answer, accepted};
+use identity::answer::{Answer, Refusal, accepted};
 use identity::identity::{ConsensusConfigurationEpoch, MAX_VOTER_INCARNATION, SlotId};
 
 // `VoterSlotTable::validate_successor_of`: 30, the new table's number, the old one's, 7.
@@ -23,10 +23,10 @@ pub fn validate_successor_of(new: VoterSlotTable, old: VoterSlotTable) -> Answer
     ensures { result ≡ validate_successor_of new old }
 {
     if !is_representable(new) {
-        return Answer::Unrepresentable;
+        return Err(Refusal::Unrepresentable);
     }
     if !is_representable(old) {
-        return Answer::Unrepresentable;
+        return Err(Refusal::Unrepresentable);
     }
     let answer = validate_representable(new);
     if !accepted(answer) {
@@ -45,13 +45,13 @@ pub fn validate_succession(new: VoterSlotTable, old: VoterSlotTable) -> Answer
     ensures { result ≡ succession new old }
 {
     if !head_succeeds(new, old) {
-        return Answer::Regression;
+        return Err(Refusal::Regression);
     }
     if new.revision == old.revision {
         return kept(same_voter_slot_table(new, old));
     }
     if !slots_succeed(new, old) {
-        return Answer::Regression;
+        return Err(Refusal::Regression);
     }
     replacement_succeeds(new, old)
 }
@@ -61,9 +61,9 @@ fn kept(yes: bool) -> Answer
     ensures { result ≡ or_regression yes Accepted }
 {
     if yes {
-        return Answer::Accepted;
+        return Ok(());
     }
-    Answer::Regression
+    Err(Refusal::Regression)
 }
 
 // Cluster, manifest and count are the same, and neither the revision nor the epoch falls.
@@ -141,7 +141,7 @@ fn replacement_succeeds(new: VoterSlotTable, old: VoterSlotTable) -> Answer
     ensures { result ≡ replacement_succeeds new old }
 {
     if !old.has_replacement {
-        return Answer::Accepted;
+        return Ok(());
     }
     let request = new.replacement.attestation.request_id;
     let old_request = old.replacement.attestation.request_id;
@@ -182,11 +182,11 @@ fn ended_succeeds(new: VoterSlotTable, old: VoterReplacementRecord) -> Answer
 {
     let i = slot_index(new, old.attestation.slot);
     if new.count <= i {
-        return Answer::Regression;
+        return Err(Refusal::Regression);
     }
     let expected = old.attestation.expected_incarnation;
     if expected == MAX_VOTER_INCARNATION {
-        return Answer::IncarnationExhausted;
+        return Err(Refusal::IncarnationExhausted);
     }
     let slots = new.slots;
     let slot = slots[i];

@@ -6,7 +6,7 @@
 // original gives `TooLarge`; `follows`, `retains` and `latest` are in evidence.rt,
 // `validate_successor_of` in successor.rt.
 ghost use Rattle.std.specs.Prelude.{◌&&◌, ◌≡◌, ◌+◌, ◌-◌, ◌<◌, ◌≤◌, eqb, leb, ltb, get_or};
-ghost use Rattle.identity.specs.declared.answer.Answer.TheVariants.{Accepted};
+ghost use Rattle.identity.specs.Answer.{Accepted};
 ghost use Rattle.records.specs.Equality.{same_voter_slot_member};
 ghost use Rattle.records.specs.Records.{all_below, slot_at, member_at, no_slot_record, voting};
 ghost use Rattle.records.specs.Validation.{require_of, valid_count, valid_configuration, valid_spiffe_id, NamesHold, valid_attestation, is_active, valid_result, valid_slot, distinct_results, valid_slots, target_phase, valid_operation_head, is_current_epoch, valid_operation, claims_of, superseded_receipt, retired_member, valid_target, other_request, validate_member, validate_members, has_target, validate_operation, validity, validate};
@@ -16,7 +16,7 @@ use crate::evidence::{is_valid_evidence, is_valid_log_id};
 use crate::number::is_next;
 use crate::records::*;
 use crate::representable::is_representable;
-use identity::answer::{Answer, accepted};
+use identity::answer::{Answer, Refusal, accepted};
 use identity::identity::*;
 use identity::text::{MAX_VOTER_SPIFFE_ID_BYTES, is_name};
 
@@ -147,7 +147,7 @@ pub fn validate_table(table: VoterSlotTable) -> Answer
     ensures { result ≡ validate table }
 {
     if !is_representable(table) {
-        return Answer::Unrepresentable;
+        return Err(Refusal::Unrepresentable);
     }
     validate_representable(table)
 }
@@ -158,7 +158,7 @@ pub fn validate_representable(table: VoterSlotTable) -> Answer
     ensures { result ≡ validity table }
 {
     if !are_valid_slots(table) {
-        return Answer::InvalidRecord;
+        return Err(Refusal::InvalidRecord);
     }
     if !table.has_replacement {
         return require(all_voting(table));
@@ -169,14 +169,14 @@ pub fn validate_representable(table: VoterSlotTable) -> Answer
         table.replacement.attestation.candidate_spiffe_id.len,
         candidate,
     ) {
-        return Answer::InvalidRecord;
+        return Err(Refusal::InvalidRecord);
     }
     let controller = table.replacement.attestation.controller_spiffe_id.bytes;
     if !is_valid_spiffe_id(
         table.replacement.attestation.controller_spiffe_id.len,
         controller,
     ) {
-        return Answer::InvalidRecord;
+        return Err(Refusal::InvalidRecord);
     }
     validate_operation(table)
 }
@@ -337,7 +337,7 @@ fn validate_operation(table: VoterSlotTable) -> Answer
     ensures { result ≡ validate_operation table }
 {
     if !is_valid_operation(table) {
-        return Answer::InvalidRecord;
+        return Err(Refusal::InvalidRecord);
     }
     let answer = validate_members(table);
     if !accepted(answer) {
@@ -459,7 +459,7 @@ fn validate_members(table: VoterSlotTable) -> Answer
         }
         i += 1;
     }
-    Answer::Accepted
+    Ok(())
 }
 
 // One of the slots is the one that is being replaced.
@@ -493,10 +493,10 @@ fn validate_target(
     ensures { result ≡ validate_member claims slot predecessor successor }
 {
     if !current {
-        return Answer::InvalidRecord;
+        return Err(Refusal::InvalidRecord);
     }
     if claims.expected_incarnation == MAX_VOTER_INCARNATION {
-        return Answer::IncarnationExhausted;
+        return Err(Refusal::IncarnationExhausted);
     }
     require(is_valid_target(claims, slot, predecessor, successor) & other)
 }
@@ -506,9 +506,9 @@ fn require(valid: bool) -> Answer
     ensures { result ≡ require_of valid Accepted }
 {
     if valid {
-        return Answer::Accepted;
+        return Ok(());
     }
-    Answer::InvalidRecord
+    Err(Refusal::InvalidRecord)
 }
 
 // The receipt of the slot, if it has one, is not that of the open request.

@@ -6,8 +6,8 @@ use Rattle.std.proofs.Math.Path.{ap}
 use Rattle.std.proofs.lemmas.Bool.{false≢true, lt-leb}
 use Rattle.identity.specs.Answer.{is_accepted, number_of}
 use Rattle.identity.specs.AnswerLaws.{number-injective}
-use Rattle.identity.specs.declared.answer.Answer.{Answer}
-use Rattle.identity.specs.declared.answer.Answer.TheVariants.{BadRecord}
+use Rattle.identity.specs.Answer.{Answer}
+use Rattle.identity.specs.Answer.{BadRecord}
 use Rattle.format.specs.Combinators.{Bytes}
 use Rattle.format.specs.Res.{Res}
 use Rattle.format.specs.Res.Res.{ok, no}

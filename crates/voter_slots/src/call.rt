@@ -1,6 +1,6 @@
 // A command by its mark, or an observation, judged at a table; and what was judged, made and written.
 ghost use Rattle.std.specs.Prelude.{◌*◌, ◌≤◌, cond, ◌≡◌, length};
-ghost use Rattle.identity.specs.declared.answer.Answer.TheVariants.{Accepted, BadRecord};
+ghost use Rattle.identity.specs.Answer.{Accepted, BadRecord};
 ghost use Rattle.records.specs.Validation.{validate};
 ghost use Rattle.journal.specs.declared.replay.Mark.TheVariants.{Bg, Ob};
 ghost use Rattle.journal.specs.Replay.{asking};
@@ -11,7 +11,7 @@ ghost use Rattle.voter_slots.specs.Export.{ReadAs};
 use crate::result::*;
 use codec::codec::decode_voter_slot_table;
 use control::judge::Judged;
-use identity::answer::{Answer, accepted};
+use identity::answer::{Answer, Refusal, accepted};
 use journal::bodies::*;
 use journal::observation::*;
 use journal::record::MOST_BODY;
@@ -54,7 +54,7 @@ pub fn later(formed: bool, answer: Answer) -> Answer
     if formed {
         return answer;
     }
-    Answer::BadRecord
+    Err(Refusal::BadRecord)
 }
 
 // The command that a mark asks for; none where the body is too long for a record.
@@ -105,7 +105,7 @@ pub fn judge_body(table: VoterSlotTable, asks: Mark, body: &[u8]) -> Called
         Mark::Mk => Called::Command(judge_marker_body(table, body)),
         Mark::Ad => Called::Command(judge_advance_body(table, body)),
         Mark::Bg => Called::Command(judge_begin_body(table, body)),
-        _ => Called::Command(Judged::Refuse(Answer::BadRecord)),
+        _ => Called::Command(Judged::Refuse(Err(Refusal::BadRecord))),
     }
 }
 
@@ -122,7 +122,7 @@ pub fn observe_bytes(
 {
     let read = read_observation(body, ids, counts);
     if !read.formed {
-        return refused(Answer::BadRecord);
+        return refused(Err(Refusal::BadRecord));
     }
     let decoded = decode_voter_slot_table(table);
     let answer = decoded.answer;

@@ -5,7 +5,7 @@
 // find. An observation and the retired test are document 01's entry points.
 ghost use Rattle.std.specs.Prelude.{◌+◌, ◌*◌, ◌≤◌, cond, true, ◌≡◌, length, take, drop};
 ghost use Rattle.identity.specs.Answer.{is_accepted, number_of};
-ghost use Rattle.identity.specs.declared.answer.Answer.TheVariants.{Accepted, InvalidTransition, Unrepresentable};
+ghost use Rattle.identity.specs.Answer.{Accepted, InvalidTransition, Unrepresentable};
 ghost use Rattle.records.specs.Validation.{validate};
 ghost use Rattle.control.specs.Observation.{observe_membership};
 ghost use Rattle.journal.specs.declared.replay.Mark.TheVariants.{Ad, Bg, Ob};
@@ -21,7 +21,7 @@ use control::apply::Controlled;
 use control::observe::observe_membership;
 use control::representable::{is_representable_request, is_representable_step};
 use control::retired::{Retirement, is_retired};
-use identity::answer::{Answer, accepted, number};
+use identity::answer::{Answer, Refusal, accepted, number};
 use journal::bodies::*;
 use journal::observation::*;
 use journal::record::MOST_BODY;
@@ -136,7 +136,7 @@ fn refuse_command(fits: bool, asks: Mark, body: &[u8]) -> Answer
         Mark::Mk => later(read_marker(body).formed, invalid(fits)),
         Mark::Ad => refuse_advance(fits, body),
         Mark::Bg => refuse_begin(fits, body),
-        _ => Answer::BadRecord,
+        _ => Err(Refusal::BadRecord),
     }
 }
 
@@ -156,7 +156,7 @@ fn refuse_begin(fits: bool, body: &[u8]) -> Answer
     let asks = read.asks;
     let begin = read.value;
     match asks {
-        Asks::Bad => Answer::BadRecord,
+        Asks::Bad => Err(Refusal::BadRecord),
         Asks::Refused(answer) => answer,
         Asks::Begin => {
             let request = begin.request;
@@ -171,9 +171,9 @@ fn invalid(fits: bool) -> Answer
     ensures { result ≡ cond fits InvalidTransition Unrepresentable }
 {
     if fits {
-        return Answer::InvalidTransition;
+        return Err(Refusal::InvalidTransition);
     }
-    Answer::Unrepresentable
+    Err(Refusal::Unrepresentable)
 }
 
 // ---- observations
@@ -182,7 +182,7 @@ pub fn observe_at(table: VoterSlotTable, body: &[u8]) -> Afterwards
     ensures { (result.result, result.table) ≡ table_observe_of table body.now }
 {
     if MOST_BODY < body.len() {
-        return stay(table, Answer::BadRecord);
+        return stay(table, Err(Refusal::BadRecord));
     }
     let mut counts = no_counts();
     if body.len() <= USUAL_BODY {
@@ -205,7 +205,7 @@ fn observe_body(
 {
     let read = read_observation(body, ids, counts);
     if !read.formed {
-        return stay(table, Answer::BadRecord);
+        return stay(table, Err(Refusal::BadRecord));
     }
     observe_read(table, read, ids, counts)
 }

@@ -14,7 +14,7 @@ use crate::call::*;
 use crate::result::*;
 use codec::codec::decode_voter_slot_table;
 use control::retired::is_retired_in;
-use identity::answer::{Answer, accepted, number};
+use identity::answer::{Answer, Refusal, accepted, number};
 use journal::record::MOST_BODY;
 
 pub mod call;
@@ -83,7 +83,7 @@ pub extern "C" fn voter_slots_observe(table: &[u8], body: &[u8], out: &mut [u8])
     ensures { (result, out.new) ≡ observe_of table.now body.now out.old }
 {
     if MOST_BODY < body.len() {
-        return refused(Answer::BadRecord);
+        return refused(Err(Refusal::BadRecord));
     }
     let mut counts = no_counts();
     if body.len() <= USUAL_BODY {

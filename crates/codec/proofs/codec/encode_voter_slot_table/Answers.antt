@@ -6,7 +6,7 @@ use native.Mathlib.Omega.{arith}
 use lib.ListN.{length}
 use Rattle.format.specs.Res.Res.{ok, no}
 use Rattle.identity.specs.Answer.{number_of, is_accepted}
-use Rattle.identity.specs.declared.answer.Answer.TheVariants.{Accepted}
+use Rattle.identity.specs.Answer.{Accepted}
 use Rattle.records.specs.Validation.{validate}
 use Rattle.records.specs.ValidationLaws.{failed, held, is-accepted}
 use Rattle.records.specs.declared.records.VoterSlotTable.{VoterSlotTable}

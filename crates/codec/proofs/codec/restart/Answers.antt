@@ -6,7 +6,7 @@ use lib.ListN.{length}
 use lib.Seq.{length-take-le}
 use Rattle.format.specs.Res.Res.{ok, no}
 use Rattle.identity.specs.Answer.{number_of}
-use Rattle.identity.specs.declared.answer.Answer.TheVariants.{Accepted}
+use Rattle.identity.specs.Answer.{Accepted}
 use Rattle.records.specs.Blank.{blank_voter_slot_table}
 use Rattle.records.specs.Held.{HeldVoterSlotTable}
 use Rattle.records.specs.Validation.{validate}

@@ -2,7 +2,7 @@
 use mathlib.Core.Path.{ap, sym, ◌≡◌, ◌∙◌}
 use mathlib.Core.Bool.{true}
 use Rattle.identity.specs.Answer.{is_accepted}
-use Rattle.identity.specs.declared.answer.Answer.{Answer}
+use Rattle.identity.specs.Answer.{Answer}
 use Rattle.control.specs.Verdicts.{checked_of, paired}
 use Rattle.control.specs.VerdictLaws.{entry-passed, entry-refused, entry-valid}
 use Rattle.control.proofs.apply.apply_control.Goals as goal

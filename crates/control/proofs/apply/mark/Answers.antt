@@ -1,6 +1,6 @@
 -- `control::apply::mark` meets its contract: the answer of the verdict, and the table as it was. Assumes nothing.
 use mathlib.Core.Path.{ap, ◌∙◌}
-use Rattle.identity.specs.declared.answer.Answer.{Answer}
+use Rattle.identity.specs.Answer.{Answer}
 use Rattle.control.specs.Verdicts.{answer_of, paired}
 use Rattle.control.proofs.apply.mark.Goals as goal
 

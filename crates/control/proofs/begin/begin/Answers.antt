@@ -1,6 +1,6 @@
 -- `control::begin::begin` meets its contract: what the verdict tells of the answer and the table. Assumes nothing.
 use mathlib.Core.Path.{sym, ap, ap₂, ◌∙◌}
-use Rattle.identity.specs.declared.answer.Answer.{Answer}
+use Rattle.identity.specs.Answer.{Answer}
 use Rattle.control.specs.Verdicts.{answer_of, paired, verdict_of}
 use Rattle.control.specs.Judgement.{carried}
 use Rattle.control.specs.BeginJudge.{begin_made}

@@ -1,6 +1,6 @@
 -- `control::begin::begin_check` meets its contract: the tests in their order. Assumes nothing.
 use mathlib.Core.Path.{ap, ap₂, ◌∙◌}
-use Rattle.identity.specs.declared.answer.Answer.{Answer}
+use Rattle.identity.specs.Answer.{Answer}
 use Rattle.records.specs.Successor.{first_refusal}
 use Rattle.control.specs.BeginJudgeLaws.{then-assoc}
 use Rattle.control.specs.Control.{candidate_check, full_check, stale_check}

@@ -1,6 +1,6 @@
 -- `control::observe::accept_if` meets its contract: by the test. Assumes nothing.
 use mathlib.Core.Path.{sym}
-use Rattle.identity.specs.declared.answer.Answer.TheVariants.{InvalidTransition}
+use Rattle.identity.specs.Answer.{InvalidTransition}
 use Rattle.records.specs.TestLaws.{cond-false}
 use Rattle.control.specs.Judgement.Verdict.{refused}
 use Rattle.control.specs.ObserveSight.{verdict_of_observed}

@@ -2,7 +2,7 @@
 use mathlib.Core.Path.{sym, ap, ◌∙◌}
 use mathlib.Core.Bool.{Bool, cond}
 use Rattle.identity.specs.Answer.{is_accepted}
-use Rattle.identity.specs.declared.answer.Answer.TheVariants.{InvalidTransition}
+use Rattle.identity.specs.Answer.{InvalidTransition}
 use Rattle.records.specs.Validation.{validity}
 use Rattle.control.specs.Judgement.Verdict.{refused}
 use Rattle.control.specs.ObserveSight.{verdict_of_observed}

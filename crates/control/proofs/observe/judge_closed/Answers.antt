@@ -5,7 +5,7 @@ use mathlib.Core.List.{List}
 use Prim.Native.Nat.{ℕ, ◌≤◌}
 use native.Mathlib.Omega.{arith}
 use lib.ListN.{length, take, length-take}
-use Rattle.identity.specs.declared.answer.Answer.TheVariants.{InvalidTransition}
+use Rattle.identity.specs.Answer.{InvalidTransition}
 use Rattle.control.specs.Judgement.Verdict.{refused, kept}
 use Rattle.control.specs.ObserveSets.{slot_members}
 use Rattle.control.specs.ObserveSight.{judge_members}

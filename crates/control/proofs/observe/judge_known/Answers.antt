@@ -2,7 +2,7 @@
 use mathlib.Core.Path.{sym, ap, ◌∙◌}
 use mathlib.Core.Bool.{Bool, cond}
 use lib.Dec.{eqb}
-use Rattle.identity.specs.declared.answer.Answer.TheVariants.{InvalidTransition}
+use Rattle.identity.specs.Answer.{InvalidTransition}
 use Rattle.control.specs.Judgement.Addition.{adds_joint, adds_learner, adds_uniform}
 use Rattle.control.specs.Judgement.Verdict.{refused, kept, moves}
 use Rattle.control.specs.ObserveSight.{judge_known, sight_of}

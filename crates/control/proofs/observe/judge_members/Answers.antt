@@ -1,7 +1,7 @@
 -- `control::observe::judge_members` meets its contract: both sets are that of the members. Assumes nothing.
 use mathlib.Core.Path.{◌∙◌}
 use mathlib.Core.Bool.{cond, ◌&&◌}
-use Rattle.identity.specs.declared.answer.Answer.TheVariants.{InvalidTransition}
+use Rattle.identity.specs.Answer.{InvalidTransition}
 use Rattle.control.specs.Judgement.Verdict.{refused, kept}
 use Rattle.control.proofs.observe.judge_members.Goals as goal
 

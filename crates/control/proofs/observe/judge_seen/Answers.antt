@@ -5,7 +5,7 @@ use Prim.Native.Nat.{ℕ}
 use native.Mathlib.Omega.{arith}
 use lib.Dec.{ltb}
 use borrow.Author.Tests.{le-ltb, lt-ltb}
-use Rattle.identity.specs.declared.answer.Answer.TheVariants.{InvalidTransition}
+use Rattle.identity.specs.Answer.{InvalidTransition}
 use Rattle.records.specs.Records.{slot_at}
 use Rattle.control.specs.Control.{target_index}
 use Rattle.control.specs.Judgement.Verdict.{refused}

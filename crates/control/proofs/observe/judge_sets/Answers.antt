@@ -3,7 +3,7 @@ use mathlib.Core.Path.{sym, ap, ◌∙◌}
 use mathlib.Core.Bool.{cond}
 use lib.Dec.{eqb}
 use borrow.Author.Tests.{not-true, not-false}
-use Rattle.identity.specs.declared.answer.Answer.TheVariants.{RevisionExhausted}
+use Rattle.identity.specs.Answer.{RevisionExhausted}
 use Rattle.records.specs.TestLaws.{cond-false, cond-true}
 use Rattle.control.specs.Control.{full}
 use Rattle.control.specs.Judgement.{Addition, Verdict}

@@ -2,7 +2,7 @@
 use mathlib.Core.Path.{sym}
 use lib.Dec.{eqb}
 use borrow.Author.Tests.{eq-eqb, ne_eqb}
-use Rattle.identity.specs.declared.answer.Answer.TheVariants.{RevisionExhausted}
+use Rattle.identity.specs.Answer.{RevisionExhausted}
 use Rattle.records.specs.TestLaws.{cond-false, cond-true}
 use Rattle.control.specs.Control.{full}
 use Rattle.control.specs.Judgement.Verdict.{refused}

@@ -2,7 +2,7 @@
 use mathlib.Core.Path.{sym, ap, ◌∙◌}
 use mathlib.Core.Bool.{Bool, cond}
 use Rattle.identity.specs.Answer.{is_accepted}
-use Rattle.identity.specs.declared.answer.Answer.TheVariants.{Unrepresentable}
+use Rattle.identity.specs.Answer.{Unrepresentable}
 use Rattle.records.specs.RepresentableLaws.{representable-count}
 use Rattle.records.specs.Validation.{validity}
 use Rattle.control.specs.Judgement.Verdict.{refused}

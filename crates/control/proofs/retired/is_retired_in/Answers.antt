@@ -4,12 +4,12 @@ use mathlib.Core.Path.{◌≡◌, ap, sym, subst, ◌∙◌}
 use Rattle.identity.specs.Identity.{from_node_id}
 use Rattle.identity.proofs.IdentityLaws.{TellingIdentity, identity-told, read-telling}
 use Rattle.identity.specs.declared.identity.VoterSlotIdentity.{VoterSlotIdentity}
-use Rattle.identity.specs.declared.identity.VoterSlotIdentityResult.{VoterSlotIdentityResult}
+use Rattle.identity.specs.Identity.{VoterSlotIdentityResult}
 use Rattle.control.specs.Retired.{is_retired_identity}
 use Rattle.control.proofs.retired.is_retired_in.Goals as goal
 
 -- an identity that was read has a slot above 0
-has-slot : (node : ℕ) (identity : VoterSlotIdentity) → from_node_id node ≡ VoterSlotIdentityResult.Ok identity → 1 ≤ identity.slot
+has-slot : (node : ℕ) (identity : VoterSlotIdentity) → from_node_id node ≡ Ok identity → 1 ≤ identity.slot
 has-slot node identity h = (subst TellingIdentity h (read-telling node)).slot.above
 
 pub is_retired_identity-requires : goal.is_retired_identity-requires

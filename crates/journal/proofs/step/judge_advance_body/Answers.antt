@@ -1,7 +1,7 @@
 -- `journal::step::judge_advance_body` meets its contract. Assumes nothing.
 use mathlib.Core.Path.{ap, ap₂, ◌∙◌}
 use mathlib.Core.Bool.{Bool, cond, not}
-use Rattle.identity.specs.declared.answer.Answer.TheVariants.{BadRecord}
+use Rattle.identity.specs.Answer.{BadRecord}
 use Rattle.control.specs.Judgement.{Move, Verdict}
 use Rattle.control.specs.Judgement.Verdict.{refused}
 use Rattle.journal.specs.Step.{checked_call, numbered}

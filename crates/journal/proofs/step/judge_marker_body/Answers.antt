@@ -1,7 +1,7 @@
 -- `journal::step::judge_marker_body` meets its contract. Assumes nothing.
 use mathlib.Core.Path.{ap, ◌∙◌}
 use mathlib.Core.Bool.{cond, not, true}
-use Rattle.identity.specs.declared.answer.Answer.TheVariants.{BadRecord}
+use Rattle.identity.specs.Answer.{BadRecord}
 use Rattle.control.specs.Judgement.{Move, Verdict}
 use Rattle.control.specs.Judgement.Verdict.{refused}
 use Rattle.journal.specs.Step.{checked_call, numbered}

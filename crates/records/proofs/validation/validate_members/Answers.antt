@@ -6,7 +6,7 @@ use lib.Dec.{eqb}
 use borrow.Author.Tests.{ne_eqb}
 use native.Mathlib.Omega.{arith}
 use Rattle.identity.specs.AnswerLaws.{refused, passed}
-use Rattle.identity.specs.declared.answer.Answer.TheVariants.{Accepted}
+use Rattle.identity.specs.Answer.{Accepted}
 use Rattle.records.specs.Records.{voting, slot_at, member_at}
 use Rattle.records.specs.Validation.{require_of, validate_members}
 use Rattle.records.specs.ValidationLaws.{member_answer, member-claims, members-accepted, members-refused, other-slot}

@@ -1,7 +1,7 @@
 -- `records::validation::validate_members` meets its contract: every slot passed is accepted, and the first that is refused gives the answer. Assumes nothing.
 use mathlib.Core.Path.{◌≡◌}
 use Prim.Native.Nat.{◌≤◌, ◌-◌}
-use Rattle.identity.specs.declared.answer.Answer.TheVariants.{Accepted}
+use Rattle.identity.specs.Answer.{Accepted}
 use Rattle.records.specs.Validation.{validate_members}
 use Rattle.records.proofs.validation.validate_members.Given as goal
 

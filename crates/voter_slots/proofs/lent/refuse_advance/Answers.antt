@@ -2,8 +2,8 @@
 use mathlib.Core.Path.{ap, ◌∙◌}
 use mathlib.Core.Bool.{Bool, cond, ◌&&◌}
 use Rattle.identity.specs.Answer.{number_of}
-use Rattle.identity.specs.declared.answer.Answer.{Answer}
-use Rattle.identity.specs.declared.answer.Answer.TheVariants.{BadRecord, InvalidTransition, Unrepresentable}
+use Rattle.identity.specs.Answer.{Answer}
+use Rattle.identity.specs.Answer.{BadRecord, InvalidTransition, Unrepresentable}
 use Rattle.voter_slots.specs.LentLaws.{advance-refusal}
 use Rattle.voter_slots.proofs.lent.refuse_advance.Goals as goal
 

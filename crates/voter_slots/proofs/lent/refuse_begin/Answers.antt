@@ -2,7 +2,7 @@
 use mathlib.Core.Path.{ap, ◌∙◌}
 use mathlib.Core.Bool.{Bool, cond, ◌&&◌}
 use Rattle.identity.specs.Answer.{number_of}
-use Rattle.identity.specs.declared.answer.Answer.TheVariants.{InvalidTransition, Unrepresentable}
+use Rattle.identity.specs.Answer.{InvalidTransition, Unrepresentable}
 use Rattle.voter_slots.specs.LentLaws.{begin-bad, begin-refused, begin-refusal}
 use Rattle.voter_slots.proofs.lent.refuse_begin.Goals as goal
 

@@ -2,8 +2,8 @@
 use mathlib.Core.Path.{sym, ap, ◌∙◌}
 use mathlib.Core.Bool.{cond}
 use Rattle.identity.specs.Answer.{number_of}
-use Rattle.identity.specs.declared.answer.Answer.{Answer}
-use Rattle.identity.specs.declared.answer.Answer.TheVariants.{BadRecord}
+use Rattle.identity.specs.Answer.{Answer}
+use Rattle.identity.specs.Answer.{BadRecord}
 use Rattle.journal.specs.declared.replay.Mark.{Mark}
 use Rattle.journal.specs.Replay.{asking}
 use Rattle.voter_slots.specs.Lent.{refusal_at}
