@@ -3,13 +3,12 @@
 -- Each name here is a step of a proof; what is right is said in Validation.
 -- Assumes nothing.
 use Prim.Native.Nat.{ℕ, zero, suc, ◌+◌, ◌-◌, ◌%◌, ◌<◌, ◌≤◌}
-use Rattle.std.specs.Prelude.{◌≡◌, refl, Bool, true, false, not, ◌&&◌, eqb, leb, ltb}
-use Rattle.std.proofs.Common.{sym, ap, ◌∙◌, add-one, eqb-true, leb-true, ltb-true}
+use Rattle.std.specs.Prelude.{ℕ, ◌≡◌, refl, Ok, Err, Bool, true, false, not, ◌&&◌, eqb, leb, ltb}
+use Rattle.std.proofs.Common.{sym, ap, ◌∙◌, add-one, leb-true, ltb-true}
 use Rattle.std.proofs.Math.Bool.{and-eq-true_iff, and-false}
 use native.Mathlib.Omega.{arith}
 use Rattle.std.proofs.lemmas.Bool.{not-true, not-false}
-use Rattle.identity.specs.Answer.{number_of, is_accepted}
-use Rattle.identity.specs.AnswerLaws.{number-injective}
+use Rattle.identity.specs.Answer.{is_accepted}
 use Rattle.identity.specs.Answer.{Answer}
 use Rattle.identity.specs.Answer.{Accepted, InvalidRecord}
 use Rattle.records.specs.Records.{all_below, slot_at, member_at}
@@ -72,7 +71,8 @@ distinct_without t i h = all_below-all (λ j. distinct_results (slot_at t j) (sl
 
 -- an answer that counts as accepted is that one
 pub is-accepted : (a : Answer) → is_accepted a ≡ true → a ≡ Accepted
-is-accepted a h = number-injective a Accepted (eqb-true (number_of a) 0 h)
+is-accepted (Ok nothing) h = refl
+is-accepted (Err e) h = absurd (let z : ◌≡◌ {A = ℕ} 0 1 = cc in omega arith)
 
 -- two requirements in turn are one
 require-and : (a b : Bool) → require_of (a && b) Accepted ≡ require_of a (require_of b Accepted)
