@@ -1,6 +1,6 @@
 // The reply to each question.
 use crate::bytes::{read_attestation, read_table, write_table};
-use identity::identity::{NumberResult, VoterSlotIdentity, VoterSlotIdentityResult};
+use identity::identity::VoterSlotIdentity;
 use questions::question::Question;
 use questions::reply::{Reply, number};
 use raw::number::{be16, be32, be64};
@@ -90,24 +90,24 @@ fn reply_to_numbers(question: Question, body: &[u8]) -> Reply {
 fn node_id(slot: u16, incarnation: u64) -> Reply {
     match VoterSlotIdentity::new(slot, incarnation) {
         Ok(identity) => pair(identity.node_id()),
-        Err(answer) => Reply::Pair(number(answer), 0),
+        Err(refusal) => Reply::Pair(refusal as u8, 0),
     }
 }
 
-fn pair(res: NumberResult) -> Reply {
+fn pair(res: Result<u64, Refusal>) -> Reply {
     match res {
         Ok(value) => Reply::Pair(0, value),
-        Err(answer) => Reply::Pair(number(answer), 0),
+        Err(refusal) => Reply::Pair(refusal as u8, 0),
     }
 }
 
-fn triple(res: VoterSlotIdentityResult) -> Reply {
+fn triple(res: Result<VoterSlotIdentity, Refusal>) -> Reply {
     match res {
         Ok(identity) => Reply::Triple(
             0,
             identity.slot as u64,
             identity.incarnation,
         ),
-        Err(answer) => Reply::Triple(number(answer), 0, 0),
+        Err(refusal) => Reply::Triple(refusal as u8, 0, 0),
     }
 }

@@ -3,6 +3,7 @@
 -- to Uniform, where the successor takes over. Each name here is a step of a proof; what is right is
 -- said in Quorum.
 -- Assumes nothing.
+use Rattle.std.specs.Prelude.{Ok}
 use Prim.Native.Nat.{ℕ, zero, suc, ◌+◌, ◌*◌, ◌<◌, ◌≤◌}
 use Rattle.std.specs.Prelude.{◌≡◌, Bool, ◌&&◌, ◌||◌, List, [], ◌∷◌, map, ◌⊎◌, get_or, set}
 use Rattle.std.proofs.Math.Path.{refl, sym, ap}
@@ -21,7 +22,6 @@ use Rattle.identity.specs.Answer.{is_accepted}
 use Rattle.identity.specs.Identity.{from_node_id}
 use Rattle.identity.specs.Answer.{Answer}
 use Rattle.identity.specs.declared.identity.VoterSlotIdentity.{VoterSlotIdentity}
-use Rattle.identity.specs.Identity.{VoterSlotIdentityResult}
 use Rattle.records.specs.Equality.{eq_bytes, same_voter_slot_log_id, same_voter_slot_member, same_voter_snapshot_evidence, same_voter_slot_table}
 use Rattle.records.specs.EqualityLaws.{same_voter_slot_member-true}
 use Rattle.records.specs.Evidence.{valid_log_id}

@@ -2,6 +2,8 @@
 -- repeats, hold what the sets hold, and the tests of the code are those of the definition. The laws
 -- that count are `see-is`, of an open request, and `idle-is`, of none.
 -- Assumes nothing.
+use Rattle.std.specs.Prelude.{Ok, Err}
+use Rattle.identity.specs.Answer.{Answer}
 use Prim.Native.Nat.{ℕ, zero, suc, ◌+◌, ◌-◌, ◌*◌, ◌<◌, ◌≤◌, ◌^◌}
 use Rattle.std.proofs.Math.Path.{refl, sym}
 use Rattle.std.proofs.Common.{ap, ◌∙◌, length-append, length-drop, take_all}
@@ -14,11 +16,10 @@ use Rattle.std.proofs.Math.Dec.{eqb, leb, ltb}
 use Rattle.std.proofs.lemmas.List.{take-append-le}
 use borrow.Author.Tests.{eqb-true, eqb-false, eq-eqb, ne_eqb, ltb-true, ltb-false, leb-true, leb-false, not-true}
 use Rattle.identity.specs.Answer.{is_accepted}
-use Rattle.identity.specs.Identity.{max_consensus_node_id, from_node_id, node_id, node_id_span, validate_voter_slot_identity, value_of_number}
+use Rattle.identity.specs.Identity.{max_consensus_node_id, from_node_id, node_id, node_id_span, passed_with, validate_voter_slot_identity, value_of_number}
 use Rattle.identity.proofs.IdentityLaws.{identity-sound}
 use Rattle.identity.specs.Text.{every}
 use Rattle.identity.specs.Utf8Laws.{and_left, and_right}
-use Rattle.identity.specs.Identity.{NumberResult}
 use Rattle.records.specs.declared.records.VoterConfiguration.{VoterConfiguration}
 use Rattle.records.specs.declared.records.VoterReplacementRecord.{VoterReplacementRecord}
 use Rattle.records.specs.declared.records.VoterSlotMember.{VoterSlotMember}
@@ -41,12 +42,12 @@ use Rattle.control.specs.declared.observe.SetTests.{SetTests}
 -- no member has the id that stands for none
 node-below : (m : VoterSlotMember) → member_node m < no_id
 unfolding node_id
-node-below m = by (is_accepted (validate_voter_slot_identity m.identity)) refl
+node-below m = by (validate_voter_slot_identity m.identity) refl
   where
-    by : (b : Bool) → is_accepted (validate_voter_slot_identity m.identity) ≡ b
-        → value_of_number (cond b (Ok ((m.identity.incarnation - 1) * node_id_span + m.identity.slot)) (Err (validate_voter_slot_identity m.identity))) < no_id
-    by true e = let s = identity-sound m.identity e in omega (arith, s.incarnation.below, s.slot.below)
-    by false e = omega arith
+    by : (a : Answer) → validate_voter_slot_identity m.identity ≡ a
+        → value_of_number (passed_with a ((m.identity.incarnation - 1) * node_id_span + m.identity.slot)) < no_id
+    by (Ok nothing) e = let s = identity-sound m.identity (ap is_accepted e) in omega (arith, s.incarnation.below, s.slot.below)
+    by (Err refusal) e = omega arith
 
 pub length-listed : (c : VoterConfiguration) (n : ℕ) → length (listed c n) ≡ n
 unfolding listed

@@ -4,6 +4,8 @@
 -- retired test says yes exactly where `is_retired` does, on every valid table: `test-yes`,
 -- `valid-yes`; and its number tells its cases apart: `number-tells`.
 -- Assumes nothing.
+use Rattle.identity.specs.declared.answer.Refusal.TheVariants as refusal
+use Rattle.std.specs.Prelude.{Ok, Err}
 use Rattle.std.specs.Prelude.{ℕ, ◌<◌, ◌≤◌, ◌↔◌, refl, ◌≡◌, Bool, false, cond}
 use Rattle.std.proofs.Common.{sym, ap, ◌∙◌, eq-eqb, le-leb}
 use Rattle.std.proofs.Math.Bool.{true, not}
@@ -13,10 +15,8 @@ use Rattle.identity.proofs.IdentityLaws.{read_made}
 use Rattle.identity.specs.Answer.{number_of}
 use Rattle.identity.specs.AnswerLaws.{number-injective}
 use Rattle.identity.specs.Answer.{Answer}
-use Rattle.identity.specs.Answer.{Accepted, InvalidSlot, InvalidIncarnation, IncarnationExhausted, FreshInstallationRequired, TooLarge, InvalidRecord, Regression, InvalidLossEvidence, StaleIncarnation, IdempotencyConflict, ReplacementInProgress, NoSurvivingQuorum, ReplacementPastFence, ConfigurationEpochExhausted, RevisionExhausted, InvalidTransition, Unrepresentable, NotRising, BufferTooShort, BadRecord}
-use Rattle.identity.specs.Identity.{NumberResult}
+use Rattle.identity.specs.Answer.{Accepted, Unrepresentable}
 use Rattle.identity.specs.declared.identity.VoterSlotIdentity.{VoterSlotIdentity}
-use Rattle.identity.specs.Identity.{VoterSlotIdentityResult}
 use Rattle.records.specs.declared.records.VoterSlotTable.{VoterSlotTable}
 use Rattle.records.specs.Records.{slot_at, member_at}
 use Rattle.records.specs.Validation.{claims_of, validate}
@@ -52,27 +52,27 @@ valid-yes t node v = test-yes t node (valid-parts t v).0
 -- ---- its number leaves one case
 
 low : (a : Answer) → number_of a < 100
-low Accepted = omega arith
-low InvalidSlot = omega arith
-low InvalidIncarnation = omega arith
-low IncarnationExhausted = omega arith
-low FreshInstallationRequired = omega arith
-low TooLarge = omega arith
-low InvalidRecord = omega arith
-low Regression = omega arith
-low InvalidLossEvidence = omega arith
-low StaleIncarnation = omega arith
-low IdempotencyConflict = omega arith
-low ReplacementInProgress = omega arith
-low NoSurvivingQuorum = omega arith
-low ReplacementPastFence = omega arith
-low ConfigurationEpochExhausted = omega arith
-low RevisionExhausted = omega arith
-low InvalidTransition = omega arith
-low Unrepresentable = omega arith
-low NotRising = omega arith
-low BufferTooShort = omega arith
-low BadRecord = omega arith
+low (Ok nothing) = omega arith
+low (Err refusal.InvalidSlot) = omega arith
+low (Err refusal.InvalidIncarnation) = omega arith
+low (Err refusal.IncarnationExhausted) = omega arith
+low (Err refusal.FreshInstallationRequired) = omega arith
+low (Err refusal.TooLarge) = omega arith
+low (Err refusal.InvalidRecord) = omega arith
+low (Err refusal.Regression) = omega arith
+low (Err refusal.InvalidLossEvidence) = omega arith
+low (Err refusal.StaleIncarnation) = omega arith
+low (Err refusal.IdempotencyConflict) = omega arith
+low (Err refusal.ReplacementInProgress) = omega arith
+low (Err refusal.NoSurvivingQuorum) = omega arith
+low (Err refusal.ReplacementPastFence) = omega arith
+low (Err refusal.ConfigurationEpochExhausted) = omega arith
+low (Err refusal.RevisionExhausted) = omega arith
+low (Err refusal.InvalidTransition) = omega arith
+low (Err refusal.Unrepresentable) = omega arith
+low (Err refusal.NotRising) = omega arith
+low (Err refusal.BufferTooShort) = omega arith
+low (Err refusal.BadRecord) = omega arith
 
 no_answer : (a : Answer) (n : ℕ) → 100 ≤ n → n ≡ number_of a → ⊥
 no_answer a n h e = let l = low a in omega arith

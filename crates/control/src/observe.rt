@@ -194,6 +194,7 @@ fn is_obsolete(table: VoterSlotTable, identity: VoterSlotIdentity) -> bool
 }
 
 // Whether the node of neither configuration, if there is one, is a superseded candidate.
+#[tactic(auto, unfolding(crate::specs::Observation::is_obsolete))]
 fn may_linger(table: VoterSlotTable, node: ConsensusNodeId) -> bool
     requires { table.replacement.predecessor.count ≤ 9 }
     ensures { result ≡ lingers_as table.replacement node }

@@ -11,6 +11,7 @@ ghost use Rattle.identity.specs.Text.{every};
 ghost use Rattle.control.specs.Observation.{all_rising, contains, difference, is_held_node_id, is_rising, is_subset, split_sets, total, union_ids};
 ghost use Rattle.control.specs.ObserveSets.{are_two_sets, first_of, is_one_set, least_new, listed, no_id, slot_members};
 
+use identity::answer::Refusal;
 use identity::identity::*;
 use records::records::{MAX_FIXED_VOTER_SLOTS, VoterConfiguration, VoterSlotTable};
 
@@ -205,7 +206,7 @@ pub fn is_one_more(len: usize, than: usize) -> bool
 
 // What `member_ids` takes for a member's id: that of its identity. A member whose identity is not
 // in range, which the representability check refuses, has 0.
-fn value_of(number: NumberResult) -> u64
+fn value_of(number: Result<u64, Refusal>) -> u64
     ensures { result ≡ value_of_number number }
 {
     match number {

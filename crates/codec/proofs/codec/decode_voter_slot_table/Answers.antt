@@ -3,7 +3,7 @@ use Prim.Native.Nat.{ℕ}
 use mathlib.Core.List.{List}
 use mathlib.Core.Path.{◌≡◌, sym, ap, ◌∙◌}
 use native.Mathlib.Omega.{arith}
-use borrow.Author.Tests.{eq-eqb, ne_eqb, eqb-true}
+use borrow.Author.Tests.{eq-eqb, ne_eqb}
 use lib.ListN.{length}
 use Rattle.format.specs.Res.Res.{ok, no}
 use Rattle.format.specs.Combinators.{Bytes, gate}
@@ -11,7 +11,8 @@ use Rattle.format.specs.Fill.{gate-refused}
 use Rattle.identity.specs.Answer.{number_of, is_accepted}
 use Rattle.records.specs.Blank.{blank_voter_slot_table}
 use Rattle.records.specs.Validation.{validity}
-use Rattle.records.specs.ValidationLaws.{failed, held}
+use Rattle.identity.specs.AnswerLaws.{accepted-is-0}
+use Rattle.records.specs.ValidationLaws.{failed, held, is-accepted}
 use Rattle.records.specs.declared.records.VoterSlotTable.{VoterSlotTable}
 use Rattle.codec.specs.Codec.{decoded, decode_voter_slot_table, max_table_bytes}
 use Rattle.codec.specs.EntryLaws.{bounded-out, decoded-no, decoded-ok, decode_no, decode-left, decode-judged}
@@ -87,7 +88,7 @@ returns-then-not-accepted c =
     let v = tested.validate_representable-answer.ensures in
     decoded-no _ c.no_table-then-not-accepted.ensures
     (decode-judged s (omega arith) (is k) (eq-eqb n (length s) (omega arith))
-    ∙ gate-refused (number_of (validity t)) t n (ap is_accepted (sym v) ∙ failed tested.accepted.ensures c.if-not-accepted.true-raw)
+    ∙ gate-refused (number_of (validity t)) t n (sym (accepted-is-0 (validity t)) ∙ ap is_accepted (sym v) ∙ failed tested.accepted.ensures c.if-not-accepted.true-raw)
     ∙ ap (λ a. no (number_of a)) (sym v))
 
 pub returns : goal.returns
@@ -99,6 +100,6 @@ returns c =
     let t = table-value k in
     let n = table-size k in
     let v = tested.validate_representable-answer.ensures in
-    let z = eqb-true _ 0 (held tested.accepted.ensures c.if-not-accepted.false-raw) in
+    let z = ap number_of (is-accepted _ (held tested.accepted.ensures c.if-not-accepted.false-raw)) in
     ap (λ k. (k, t)) z
     ∙ decoded-ok _ (decode-judged s (omega arith) (is k) (eq-eqb n (length s) (omega arith)) ∙ ap (λ k. gate k t n) (ap number_of (sym v) ∙ z))

@@ -7,6 +7,7 @@ use lib.ListN.{length}
 use Rattle.format.specs.Res.Res.{ok, no}
 use Rattle.identity.specs.Answer.{number_of, is_accepted}
 use Rattle.identity.specs.Answer.{Accepted}
+use Rattle.identity.specs.AnswerLaws.{accepted-is-0}
 use Rattle.records.specs.Validation.{validate}
 use Rattle.records.specs.ValidationLaws.{failed, held, is-accepted}
 use Rattle.records.specs.declared.records.VoterSlotTable.{VoterSlotTable}
@@ -45,7 +46,7 @@ returns-then-not-accepted c =
     let b = c.args.buffer.now in
     let v = c.validate_table-answer.ensures in
     ap (λ a. (no (number_of a), b)) v
-    ∙ ap (outcome b) (sym (encode-refused _ b (ap is_accepted (sym v) ∙ failed c.accepted.ensures c.if-not-accepted.true-raw)))
+    ∙ ap (outcome b) (sym (encode-refused _ b (sym (accepted-is-0 _) ∙ ap is_accepted (sym v) ∙ failed c.accepted.ensures c.if-not-accepted.true-raw)))
 
 pub table_size-requires : goal.table_size-requires
 table_size-requires c = fits c

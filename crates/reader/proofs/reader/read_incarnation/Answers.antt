@@ -5,6 +5,7 @@ use Rattle.format.specs.Res.Res.{ok, no}
 use Rattle.format.specs.Combinators.{checked-ok, checked-no}
 use Rattle.format.specs.Num.{uint}
 use Rattle.format.specs.Fill.{checked_refused}
+use Rattle.identity.specs.AnswerLaws.{accepted-is-0}
 use Rattle.identity.specs.Answer.{number_of, is_accepted}
 use Rattle.records.specs.ValidationLaws.{failed, held}
 use Rattle.layout.specs.Layout.{incarnation}
@@ -29,10 +30,10 @@ pub returns-then-not-accepted : goal.returns-then-not-accepted
 unfolding incarnation
 returns-then-not-accepted c =
     let v = c.validate_voter_incarnation-answer.ensures in
-    ap (λ a. no (number_of a)) v ∙ sym (checked_refused _ _ _ (is (record { before = c.before.before.before.before; type_inv = record { bytes = c.shared_slice_known-1.given } })) (ap is_accepted (sym v) ∙ failed c.accepted.ensures c.if-not-accepted.true-raw))
+    ap (λ a. no (number_of a)) v ∙ sym (checked_refused _ _ _ (is (record { before = c.before.before.before.before; type_inv = record { bytes = c.shared_slice_known-1.given } })) (sym (accepted-is-0 _) ∙ ap is_accepted (sym v) ∙ failed c.accepted.ensures c.if-not-accepted.true-raw))
 
 pub returns : goal.returns
 unfolding incarnation
 returns c =
     let v = c.validate_voter_incarnation-answer.ensures in
-    sym (checked-ok _ _ _ (is (record { before = c.before.before.before.before; type_inv = record { bytes = c.shared_slice_known-1.given } })) (eqb-true _ 0 (ap is_accepted (sym v) ∙ held c.accepted.ensures c.if-not-accepted.false-raw)))
+    sym (checked-ok _ _ _ (is (record { before = c.before.before.before.before; type_inv = record { bytes = c.shared_slice_known-1.given } })) (eqb-true _ 0 (sym (accepted-is-0 _) ∙ ap is_accepted (sym v) ∙ held c.accepted.ensures c.if-not-accepted.false-raw)))
