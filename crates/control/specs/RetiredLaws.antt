@@ -4,7 +4,7 @@
 -- retired test says yes exactly where `is_retired` does, on every valid table: `test-yes`,
 -- `valid-yes`; and its number tells its cases apart: `number-tells`.
 -- Assumes nothing.
-use Rattle.identity.specs.declared.answer.Refusal.TheVariants as refusal
+use Rattle.identity.specs.AnswerLaws.{number-small}
 use Rattle.std.specs.Prelude.{Ok, Err}
 use Rattle.std.specs.Prelude.{ℕ, ◌<◌, ◌≤◌, ◌↔◌, refl, ◌≡◌, Bool, false, cond}
 use Rattle.std.proofs.Common.{sym, ap, ◌∙◌, eq-eqb, le-leb}
@@ -51,31 +51,8 @@ valid-yes t node v = test-yes t node (valid-parts t v).0
 
 -- ---- its number leaves one case
 
-low : (a : Answer) → number_of a < 100
-low (Ok nothing) = omega arith
-low (Err refusal.InvalidSlot) = omega arith
-low (Err refusal.InvalidIncarnation) = omega arith
-low (Err refusal.IncarnationExhausted) = omega arith
-low (Err refusal.FreshInstallationRequired) = omega arith
-low (Err refusal.TooLarge) = omega arith
-low (Err refusal.InvalidRecord) = omega arith
-low (Err refusal.Regression) = omega arith
-low (Err refusal.InvalidLossEvidence) = omega arith
-low (Err refusal.StaleIncarnation) = omega arith
-low (Err refusal.IdempotencyConflict) = omega arith
-low (Err refusal.ReplacementInProgress) = omega arith
-low (Err refusal.NoSurvivingQuorum) = omega arith
-low (Err refusal.ReplacementPastFence) = omega arith
-low (Err refusal.ConfigurationEpochExhausted) = omega arith
-low (Err refusal.RevisionExhausted) = omega arith
-low (Err refusal.InvalidTransition) = omega arith
-low (Err refusal.Unrepresentable) = omega arith
-low (Err refusal.NotRising) = omega arith
-low (Err refusal.BufferTooShort) = omega arith
-low (Err refusal.BadRecord) = omega arith
-
 no_answer : (a : Answer) (n : ℕ) → 100 ≤ n → n ≡ number_of a → ⊥
-no_answer a n h e = let l = low a in omega arith
+no_answer a n h e = let l = number-small a in omega arith
 
 pub number-tells : (x y : Retirement) → retired_number x ≡ retired_number y → x ≡ y
 number-tells NotRetired NotRetired e = refl

@@ -3,8 +3,8 @@
 -- Each name here is a step of a proof or a law for the layers above; what is right is said in
 -- Answer.
 -- Assumes nothing.
-use Rattle.std.specs.Prelude.{ℕ, ◌≡◌, refl, Bool, true, false, cond, not, eqb, Ok, Err}
-use Rattle.std.proofs.Common.{sym, ap, ◌∙◌, arith}
+use Rattle.std.specs.Prelude.{ℕ, ◌<◌, ◌≡◌, refl, Bool, true, false, cond, not, eqb, Ok, Err}
+use Rattle.std.proofs.Common.{sym, ap, ◌∙◌, arith, lit<}
 use Rattle.std.proofs.lemmas.Bool.{not-true, not-false}
 use Rattle.identity.specs.declared.answer.Refusal.TheVariants as refusal
 use Rattle.identity.specs.declared.answer.Refusal.{Refusal}
@@ -100,6 +100,30 @@ accepted-is-0 (Err refusal.Unrepresentable) = refl
 accepted-is-0 (Err refusal.NotRising) = refl
 accepted-is-0 (Err refusal.BufferTooShort) = refl
 accepted-is-0 (Err refusal.BadRecord) = refl
+
+-- No number reaches 100.
+pub number-small : (a : Answer) → number_of a < 100
+number-small (Ok nothing) = lit< tt
+number-small (Err refusal.InvalidSlot) = lit< tt
+number-small (Err refusal.InvalidIncarnation) = lit< tt
+number-small (Err refusal.IncarnationExhausted) = lit< tt
+number-small (Err refusal.FreshInstallationRequired) = lit< tt
+number-small (Err refusal.TooLarge) = lit< tt
+number-small (Err refusal.InvalidRecord) = lit< tt
+number-small (Err refusal.Regression) = lit< tt
+number-small (Err refusal.InvalidLossEvidence) = lit< tt
+number-small (Err refusal.StaleIncarnation) = lit< tt
+number-small (Err refusal.IdempotencyConflict) = lit< tt
+number-small (Err refusal.ReplacementInProgress) = lit< tt
+number-small (Err refusal.NoSurvivingQuorum) = lit< tt
+number-small (Err refusal.ReplacementPastFence) = lit< tt
+number-small (Err refusal.ConfigurationEpochExhausted) = lit< tt
+number-small (Err refusal.RevisionExhausted) = lit< tt
+number-small (Err refusal.InvalidTransition) = lit< tt
+number-small (Err refusal.Unrepresentable) = lit< tt
+number-small (Err refusal.NotRising) = lit< tt
+number-small (Err refusal.BufferTooShort) = lit< tt
+number-small (Err refusal.BadRecord) = lit< tt
 
 -- ---- `let answer = check(..); if !accepted(answer) { .. }`: what is known of the check's
 -- definition in each arm

@@ -9,6 +9,7 @@ use Rattle.std.proofs.Math.ListN.{take}
 use borrow.Author.Tests.{eqb-true, eqb-false}
 use Rattle.identity.specs.Answer.{number_of, is_accepted}
 use Rattle.identity.specs.Answer.{Answer}
+use Rattle.identity.specs.AnswerLaws.{accepted-is-0}
 use Rattle.format.specs.Res.{Res}
 use Rattle.format.specs.Res.Res.{ok, no}
 use Rattle.records.specs.Blank.{blank_lost_voter_attestation_v1}
@@ -32,7 +33,7 @@ module _ (head : BeginHead) (bs supplied : List ℕ) (answer : Answer) (v : Lost
 
   refused-by-number : (x : Res LostVoterAttestationV1) → Answers x → is_accepted answer ≡ false → refused (number_of answer) ≡ attested x next
   unfolding attested decoded
-  refused-by-number (ok a n) e f = absurd (eqb-false (number_of answer) 0 f (ap (λ p. p.0) e))
+  refused-by-number (ok a n) e f = absurd (eqb-false (number_of answer) 0 (sym (accepted-is-0 answer) ∙ f) (ap (λ p. p.0) e))
   refused-by-number (no k) e f = ap refused (ap (λ p. p.0) e)
 
   pub attested-refused : Answers (decode_lost_voter_attestation bs) → is_accepted answer ≡ false → refused (number_of answer) ≡ attested_asking (supplied_body head bs supplied)
@@ -41,7 +42,7 @@ module _ (head : BeginHead) (bs supplied : List ℕ) (answer : Answer) (v : Lost
   asks-by-number : (x : Res LostVoterAttestationV1) → Answers x → is_accepted answer ≡ true → (x ≡ no 0 → ⊥) → asks (next v) ≡ attested x next
   unfolding attested decoded
   asks-by-number (ok a n) e f never = ap (λ p. asks (next p.1)) e
-  asks-by-number (no k) e f never = absurd (never (ap no (sym (ap (λ p. p.0) e) ∙ eqb-true (number_of answer) 0 f)))
+  asks-by-number (no k) e f never = absurd (never (ap no (sym (ap (λ p. p.0) e) ∙ eqb-true (number_of answer) 0 (sym (accepted-is-0 answer) ∙ f))))
 
   pub attested-asks : {b : VoterBegin} {digest configuration : List ℕ} → b ≡ begin_by head v digest configuration → digest ≡ take 32 supplied → configuration ≡ take 32 (drop 32 supplied)
       → Answers (decode_lost_voter_attestation bs) → is_accepted answer ≡ true → asks (command (begin_control b.request) b.cut) ≡ attested_asking (supplied_body head bs supplied)

@@ -15,7 +15,8 @@ use Rattle.std.proofs.Math.Seq.{get_or-drop}
 use borrow.Author.Tests.{eqb-true, eqb-false, leb-true, leb-false, ltb-true, ltb-false, eq-eqb, ne_eqb, not-true}
 use Rattle.identity.specs.Answer.{is_accepted, number_of}
 use Rattle.identity.specs.Answer.{Answer}
-use Rattle.identity.specs.Answer.{Accepted, InvalidSlot, InvalidIncarnation, IncarnationExhausted, FreshInstallationRequired, TooLarge, InvalidRecord, Regression, InvalidLossEvidence, StaleIncarnation, IdempotencyConflict, ReplacementInProgress, NoSurvivingQuorum, ReplacementPastFence, ConfigurationEpochExhausted, RevisionExhausted, InvalidTransition, Unrepresentable, NotRising, BufferTooShort, BadRecord}
+use Rattle.identity.specs.Answer.{Accepted, BadRecord}
+use Rattle.identity.specs.AnswerLaws.{number-small}
 use Rattle.format.specs.Combinators.{Bytes, dep, held, via}
 use Rattle.format.specs.Put.{Put, put, length-put, put-nothing, then}
 use Rattle.format.specs.Res.{Res, no_ok, ok-count, ok-value}
@@ -503,34 +504,11 @@ opening-bad body asks m a n answer t e f =
 
 -- ---- a line is no longer than the longest
 
-number_small : (a : Answer) → number_of a < 2 ^ 64
-number_small Accepted = lit< tt
-number_small InvalidSlot = lit< tt
-number_small InvalidIncarnation = lit< tt
-number_small IncarnationExhausted = lit< tt
-number_small FreshInstallationRequired = lit< tt
-number_small TooLarge = lit< tt
-number_small InvalidRecord = lit< tt
-number_small Regression = lit< tt
-number_small InvalidLossEvidence = lit< tt
-number_small StaleIncarnation = lit< tt
-number_small IdempotencyConflict = lit< tt
-number_small ReplacementInProgress = lit< tt
-number_small NoSurvivingQuorum = lit< tt
-number_small ReplacementPastFence = lit< tt
-number_small ConfigurationEpochExhausted = lit< tt
-number_small RevisionExhausted = lit< tt
-number_small InvalidTransition = lit< tt
-number_small Unrepresentable = lit< tt
-number_small NotRising = lit< tt
-number_small BufferTooShort = lit< tt
-number_small BadRecord = lit< tt
-
 pub line-short : (number : ℕ) (mark : Mark) (answer : Answer) (revision : ℕ) → number < 2 ^ 64 → revision < 2 ^ 64 → length (line_of number mark (number_of answer) revision) ≤ longest_line
 unfolding line_of
 line-short number mark answer revision a b =
     let x = decimal-long number a in
-    let y = decimal-long (number_of answer) (number_small answer) in
+    let y = decimal-long (number_of answer) (let s = number-small answer in omega arith) in
     let z = decimal-long revision b in
     let m = mark-long mark in
     simp length-append (omega arith)
