@@ -1,5 +1,6 @@
 // The reply to each question.
 use crate::bytes::{read_attestation, read_table, write_table};
+use identity::answer::Refusal;
 use identity::identity::VoterSlotIdentity;
 use questions::question::Question;
 use questions::reply::{Reply, number};
@@ -90,14 +91,14 @@ fn reply_to_numbers(question: Question, body: &[u8]) -> Reply {
 fn node_id(slot: u16, incarnation: u64) -> Reply {
     match VoterSlotIdentity::new(slot, incarnation) {
         Ok(identity) => pair(identity.node_id()),
-        Err(refusal) => Reply::Pair(refusal as u8, 0),
+        Err(refusal) => Reply::Pair(refusal as u64, 0),
     }
 }
 
 fn pair(res: Result<u64, Refusal>) -> Reply {
     match res {
         Ok(value) => Reply::Pair(0, value),
-        Err(refusal) => Reply::Pair(refusal as u8, 0),
+        Err(refusal) => Reply::Pair(refusal as u64, 0),
     }
 }
 
@@ -108,6 +109,6 @@ fn triple(res: Result<VoterSlotIdentity, Refusal>) -> Reply {
             identity.slot as u64,
             identity.incarnation,
         ),
-        Err(refusal) => Reply::Triple(refusal as u8, 0, 0),
+        Err(refusal) => Reply::Triple(refusal as u64, 0, 0),
     }
 }

@@ -5,7 +5,7 @@ use Rattle.std.proofs.Common.{sym, ◌∙◌, arith, le-leb, ne_eqb}
 use Rattle.std.proofs.Math.Path.{ap}
 use Rattle.std.proofs.lemmas.Bool.{false≢true, lt-leb}
 use Rattle.identity.specs.Answer.{is_accepted, number_of}
-use Rattle.identity.specs.AnswerLaws.{number-injective}
+use Rattle.identity.specs.AnswerLaws.{accepted-is-0, number-injective}
 use Rattle.identity.specs.Answer.{Answer}
 use Rattle.identity.specs.Answer.{BadRecord}
 use Rattle.format.specs.Combinators.{Bytes}
@@ -108,7 +108,8 @@ same-table t u e = ap (table_of t) e
 -- a refusal of a call
 settled-no : (a : Answer) (u : VoterSlotTable) (out : List ℕ) (k : ℕ) → k ≡ number_of a → (k ≡ 0 → ⊥) → settled (a, u) out ≡ leaves k out
 settled-no a u out k e h =
-    ap (λ (n : ℕ). cond (eqb n 0) (written u out) (leaves n out)) (sym e) ∙ cond-false (eqb k 0) (written u out) (leaves k out) (ne_eqb k 0 h)
+    ap (λ b. cond b (written u out) (leaves (number_of a) out)) (accepted-is-0 a)
+    ∙ ap (λ (n : ℕ). cond (eqb n 0) (written u out) (leaves n out)) (sym e) ∙ cond-false (eqb k 0) (written u out) (leaves k out) (ne_eqb k 0 h)
 
 given_is : (x : Asking) (a : Answer) (u t : VoterSlotTable) (bs out : List ℕ) {n : ℕ} → decode_voter_slot_table bs ≡ ok t n → (x ≡ refused 0 → ⊥)
     → ◌≡◌ {A = ℕ × Standing} (called t x) (number_of a, stands u) → settled (a, u) out ≡ asked_of x bs out

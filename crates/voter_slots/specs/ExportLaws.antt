@@ -8,6 +8,7 @@ use Rattle.std.proofs.Math.Nat.{zero-add}
 use Rattle.std.proofs.Math.Dec.{eqb}
 use Rattle.identity.specs.Answer.{is_accepted, number_of}
 use Rattle.identity.specs.Answer.{Answer}
+use Rattle.identity.specs.AnswerLaws.{accepted-is-0}
 use Rattle.identity.specs.Answer.{Accepted}
 use Rattle.format.specs.Combinators.{Bytes}
 use Rattle.format.specs.Put.{Put}
@@ -45,12 +46,12 @@ read_as bs t e = read-by bs t (decode_voter_slot_table bs) refl e
 module _ (bs : List ℕ) (answer : Answer) (t : VoterSlotTable) (met : ◌≡◌ {A = ℕ × VoterSlotTable} (number_of answer, t) (decoded blank_voter_slot_table (decode_voter_slot_table bs))) where
   -- the reader accepted
   pub is_read : is_accepted answer ≡ true → ReadAs bs t
-  is_read h = sym met ∙ ap (λ k. (k, t)) (eqb-true (number_of answer) 0 h)
+  is_read h = sym met ∙ ap (λ k. (k, t)) (eqb-true (number_of answer) 0 (sym (accepted-is-0 answer) ∙ h))
 
   no-by : (r : Res VoterSlotTable) → decode_voter_slot_table bs ≡ r → ◌≡◌ {A = ℕ × VoterSlotTable} (number_of answer, t) (decoded blank_voter_slot_table r) → is_accepted answer ≡ false
       → decode_voter_slot_table bs ≡ no (number_of answer)
   unfolding decoded
-  no-by (ok u n) p q h = let zero : number_of answer ≡ 0 = λ i. (q i).0 in absurd (false≢true (sym h ∙ ap (λ k. eqb k 0) zero))
+  no-by (ok u n) p q h = let zero : number_of answer ≡ 0 = λ i. (q i).0 in absurd (false≢true (sym h ∙ accepted-is-0 answer ∙ ap (λ k. eqb k 0) zero))
   no-by (no k) p q h = let same : number_of answer ≡ k = λ i. (q i).0 in p ∙ ap (λ (x : ℕ). no x) (sym same)
 
   -- the reader refused

@@ -6,7 +6,7 @@ use Rattle.std.proofs.Common.{sym, ◌∙◌, arith, ne_eqb}
 use Rattle.std.proofs.Math.Bool.{true, false}
 use Rattle.std.proofs.lemmas.Bool.{false≢true}
 use Rattle.identity.specs.Answer.{is_accepted, number_of}
-use Rattle.identity.specs.AnswerLaws.{number-injective}
+use Rattle.identity.specs.AnswerLaws.{accepted-is-0, number-injective}
 use Rattle.identity.specs.Answer.{Answer}
 use Rattle.identity.specs.Answer.{Accepted, BadRecord, InvalidTransition, Unrepresentable}
 use Rattle.format.specs.Res.Res.{no}
@@ -66,7 +66,7 @@ over_no t bs e = ap (read_over t (length bs)) (sym e)
 
 pub unwritten : (t : VoterSlotTable) (out : List ℕ) → is_accepted (validate t) ≡ false → leaves (number_of (validate t)) out ≡ table_write_of t out
 unfolding written_by
-unwritten t out h = ap (written_by t out) (sym (encode-refused t out h))
+unwritten t out h = ap (written_by t out) (sym (encode-refused t out (sym (accepted-is-0 (validate t)) ∙ h)))
 
 -- ---- what a caller is told
 
@@ -79,8 +79,9 @@ tells-not a u h = ap (λ (r : VoterSlotsResult). (r, u)) (sym (cond-false (is_ac
 -- a refusal by its number
 told-no : (a : Answer) (t u : VoterSlotTable) (k : ℕ) → k ≡ number_of a → (k ≡ 0 → ⊥) → t ≡ u → told (a, u) ≡ stays k t
 told-no a t u k e h s =
-    ap (λ (n : ℕ). (cond (eqb n 0) (numbers_of u 0) (refused_result n), u)) (sym e)
-    ∙ (ap (λ (r : VoterSlotsResult). (r, u)) (cond-false (eqb k 0) (numbers_of u 0) (refused_result k) (ne_eqb k 0 h)) ∙ ap (stays k) (sym s))
+    ap (λ (b : Bool). (cond b (numbers_of u 0) (refused_result (number_of a)), u)) (accepted-is-0 a)
+    ∙ (ap (λ (n : ℕ). (cond (eqb n 0) (numbers_of u 0) (refused_result n), u)) (sym e)
+    ∙ (ap (λ (r : VoterSlotsResult). (r, u)) (cond-false (eqb k 0) (numbers_of u 0) (refused_result k) (ne_eqb k 0 h)) ∙ ap (stays k) (sym s)))
 
 -- ---- a valid table
 
