@@ -7,7 +7,7 @@ use Rattle.std.specs.Prelude.{ℕ, ◌+◌, ◌-◌, ◌*◌, ◌/◌, ◌%◌, 
 use Rattle.std.proofs.Common.{sym, ap, ◌∙◌, arith, leb-true, le-leb}
 use Rattle.identity.specs.declared.answer.Refusal.{Refusal}
 use Rattle.identity.specs.declared.answer.Refusal.TheVariants as refusal
-use Rattle.identity.specs.Answer.{Answer, number_of_refusal, is_accepted, Accepted, InvalidIncarnation, InvalidSlot}
+use Rattle.identity.specs.Answer.{Answer, is_accepted, Accepted, InvalidIncarnation, InvalidSlot}
 use Rattle.identity.specs.AnswerLaws.{refusal-injective, refusal-not-0}
 use Rattle.identity.specs.Identity.{max_slot_id, max_voter_incarnation, max_consensus_node_id, node_id_span, is_slot_id, is_voter_incarnation, is_consensus_node_id, validate_voter_incarnation, validate_voter_slot_identity, passed_with, next_voter_incarnation, identity_of, new_voter_slot_identity, node_id, from_node_id, number_and_value, number_and_identity}
 use Rattle.identity.specs.declared.identity.VoterSlotIdentity.{VoterSlotIdentity}

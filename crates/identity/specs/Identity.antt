@@ -6,7 +6,7 @@
 use Rattle.std.specs.Prelude.{ℕ, ◌+◌, ◌-◌, ◌*◌, ◌/◌, ◌%◌, ◌^◌, Bool, cond, ◌&&◌, eqb, leb, Result, Ok, Err}
 use Rattle.identity.specs.declared.answer.Refusal.{Refusal}
 use Rattle.identity.specs.declared.answer.Refusal.TheVariants.{IncarnationExhausted}
-use Rattle.identity.specs.Answer.{Answer, number_of, number_of_refusal, Accepted, InvalidSlot, InvalidIncarnation}
+use Rattle.identity.specs.Answer.{Answer, number_of_refusal, Accepted, InvalidSlot, InvalidIncarnation}
 use Rattle.identity.specs.declared.identity.VoterSlotIdentity.{VoterSlotIdentity}
 
 -- "Slot 1 to 65,535, incarnation 1 to 2^47, epoch from 1."
