@@ -4,8 +4,7 @@ use Rattle.std.specs.Prelude.{ℕ, zero, suc, ◌≤◌, ◌<◌, Bool, ◌≡�
 use Rattle.std.proofs.Common.{arith, zero-add, sym, ap, ◌∙◌, length-append, le-leb}
 use Rattle.std.proofs.Math.Bool.{true, false}
 use Rattle.std.proofs.lemmas.Bool.{lt-leb}
-use Rattle.identity.specs.Answer.{number_of}
-use Rattle.identity.specs.Answer.{Accepted}
+use Rattle.identity.specs.Answer.{number_of, Accepted}
 use Rattle.format.specs.Combinators.{gate}
 use Rattle.format.specs.Fill.{gate-refused}
 use Rattle.format.specs.Num.{pick}

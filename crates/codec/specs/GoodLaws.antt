@@ -10,10 +10,9 @@ use Rattle.std.proofs.Math.Bool.{true, false, cond}
 use Rattle.std.proofs.lemmas.Bool.{false≢true, lt-leb}
 use Rattle.std.proofs.Math.ListN.{take, get_or, take-append-drop}
 use Rattle.std.proofs.lemmas.List.{length-replicate, get_or-replicate}
-use Rattle.identity.specs.Answer.{number_of}
+use Rattle.identity.specs.Answer.{number_of, Accepted, InvalidSlot, InvalidIncarnation}
 use Rattle.identity.specs.Identity.{is_slot_id, is_voter_incarnation, is_configuration_epoch, validate_slot_id, validate_voter_incarnation}
 use Rattle.identity.specs.Text.{is_utf8}
-use Rattle.identity.specs.Answer.{Accepted, InvalidSlot, InvalidIncarnation}
 use Rattle.identity.specs.declared.identity.VoterSlotIdentity.{VoterSlotIdentity}
 use Rattle.format.specs.Combinators.{Codec, Bytes, dep, check, via, held, always}
 use Rattle.format.specs.Num.{uint, raw, pick, bytes_take, bytes-append, bytes-be}

@@ -3,9 +3,8 @@
 -- to Uniform, where the successor takes over. Each name here is a step of a proof; what is right is
 -- said in Quorum.
 -- Assumes nothing.
-use Rattle.std.specs.Prelude.{Ok}
+use Rattle.std.specs.Prelude.{Ok, ◌≡◌, Bool, ◌&&◌, ◌||◌, List, [], ◌∷◌, map, ◌⊎◌, get_or, set}
 use Prim.Native.Nat.{ℕ, zero, suc, ◌+◌, ◌*◌, ◌<◌, ◌≤◌}
-use Rattle.std.specs.Prelude.{◌≡◌, Bool, ◌&&◌, ◌||◌, List, [], ◌∷◌, map, ◌⊎◌, get_or, set}
 use Rattle.std.proofs.Math.Path.{refl, sym, ap}
 use Rattle.std.proofs.Common.{◌∙◌, subst, inr}
 use Rattle.std.proofs.Math.Bool.{true, false, cond, not}
@@ -17,10 +16,8 @@ use Rattle.std.proofs.Math.Seq.{map-set_same}
 use Rattle.std.proofs.Math.Dec.{eqb, leb, ltb}
 use borrow.Author.Tests.{eqb-true, eqb-false, leb-true, leb-false, ltb-true, eq-eqb, ne_eqb, lt-ltb, le-ltb}
 use Rattle.identity.specs.Utf8Laws.{and_left, and_right}
-use Rattle.identity.specs.Answer.{Accepted, InvalidRecord, ReplacementInProgress, ReplacementPastFence, InvalidTransition}
-use Rattle.identity.specs.Answer.{is_accepted}
+use Rattle.identity.specs.Answer.{Accepted, InvalidRecord, ReplacementInProgress, ReplacementPastFence, InvalidTransition, is_accepted, Answer}
 use Rattle.identity.specs.Identity.{from_node_id}
-use Rattle.identity.specs.Answer.{Answer}
 use Rattle.identity.specs.declared.identity.VoterSlotIdentity.{VoterSlotIdentity}
 use Rattle.records.specs.Equality.{eq_bytes, same_voter_slot_log_id, same_voter_slot_member, same_voter_snapshot_evidence, same_voter_slot_table}
 use Rattle.records.specs.EqualityLaws.{same_voter_slot_member-true}

@@ -11,9 +11,7 @@ use Rattle.std.proofs.lemmas.Bool.{false≢true}
 use Rattle.std.proofs.lemmas.List.{map-append}
 use Rattle.std.proofs.Math.Nat.{sub-zero}
 use Rattle.std.proofs.Math.ListN.{get_or-eq_default}
-use Rattle.identity.specs.Answer.{is_accepted}
-use Rattle.identity.specs.Answer.{Answer}
-use Rattle.identity.specs.Answer.{Accepted, InvalidLossEvidence, NoSurvivingQuorum, StaleIncarnation}
+use Rattle.identity.specs.Answer.{is_accepted, Answer, Accepted, InvalidLossEvidence, NoSurvivingQuorum, StaleIncarnation}
 use Rattle.records.specs.declared.records.VoterSlotMember.{VoterSlotMember}
 use Rattle.records.specs.declared.records.VoterSlotRecord.{VoterSlotRecord}
 use Rattle.records.specs.declared.records.VoterSlotTable.{VoterSlotTable}

@@ -9,8 +9,7 @@ use Rattle.identity.specs.declared.identity.VoterSlotIdentity.{VoterSlotIdentity
 use Rattle.std.specs.Prelude.{Result, Ok, Err, ℕ, zero, suc, ◌+◌, Bool, true, false, cond, ◌&&◌, ◌||◌, List, ◌∷◌, [], length, take, drop, set, eqb, leb, ltb}
 use Rattle.identity.specs.Identity.{max_consensus_node_id, node_id, from_node_id, value_of_number}
 use Rattle.identity.specs.Text.{every}
-use Rattle.identity.specs.Answer.{Answer}
-use Rattle.identity.specs.Answer.{RevisionExhausted, InvalidTransition, Unrepresentable, NotRising}
+use Rattle.identity.specs.Answer.{Answer, RevisionExhausted, InvalidTransition, Unrepresentable, NotRising}
 use Rattle.records.specs.declared.records.VoterSlotLogId.{VoterSlotLogId}
 use Rattle.records.specs.declared.records.VoterSlotMember.{VoterSlotMember}
 use Rattle.records.specs.declared.records.VoterConfiguration.{VoterConfiguration}

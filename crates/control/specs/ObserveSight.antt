@@ -6,10 +6,8 @@
 use Rattle.std.specs.Prelude.{ℕ, ◌+◌, ◌<◌, ◌≤◌, ◌≡◌, Bool, cond, false, not, true, ◌&&◌, ◌||◌, List, ◌∷◌, [], eqb, leb, ltb, length}
 use Rattle.identity.specs.Conditions.{◌and◌}
 use Rattle.identity.specs.Identity.{from_node_id}
-use Rattle.identity.specs.Answer.{is_accepted}
+use Rattle.identity.specs.Answer.{is_accepted, Answer, Accepted, InvalidTransition, NotRising, RevisionExhausted, Unrepresentable}
 use Rattle.identity.specs.Text.{every}
-use Rattle.identity.specs.Answer.{Answer}
-use Rattle.identity.specs.Answer.{Accepted, InvalidTransition, NotRising, RevisionExhausted, Unrepresentable}
 use Rattle.records.specs.declared.records.VoterReplacementRecord.{VoterReplacementRecord}
 use Rattle.records.specs.declared.records.VoterSlotLogId.{VoterSlotLogId}
 use Rattle.records.specs.declared.records.VoterSlotTable.{VoterSlotTable}

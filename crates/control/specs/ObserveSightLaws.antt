@@ -2,12 +2,11 @@
 -- repeats, hold what the sets hold, and the tests of the code are those of the definition. The laws
 -- that count are `see-is`, of an open request, and `idle-is`, of none.
 -- Assumes nothing.
-use Rattle.std.specs.Prelude.{Ok, Err}
-use Rattle.identity.specs.Answer.{Answer}
+use Rattle.std.specs.Prelude.{Ok, Err, ◌≡◌, Bool, ◌&&◌, ◌||◌, length, take, drop, get_or}
+use Rattle.identity.specs.Answer.{Answer, is_accepted}
 use Prim.Native.Nat.{ℕ, zero, suc, ◌+◌, ◌-◌, ◌*◌, ◌<◌, ◌≤◌, ◌^◌}
 use Rattle.std.proofs.Math.Path.{refl, sym}
 use Rattle.std.proofs.Common.{ap, ◌∙◌, length-append, length-drop, take_all}
-use Rattle.std.specs.Prelude.{◌≡◌, Bool, ◌&&◌, ◌||◌, length, take, drop, get_or}
 use Rattle.std.proofs.Math.Bool.{true, false, cond, not, or_comm, or-false, and_assoc, and-true, and-false}
 use Rattle.std.proofs.lemmas.Bool.{false≢true}
 use mathlib.Core.List.{List, ◌∷◌, [], ◌++◌}
@@ -15,7 +14,6 @@ use native.Mathlib.Omega.{arith}
 use Rattle.std.proofs.Math.Dec.{eqb, leb, ltb}
 use Rattle.std.proofs.lemmas.List.{take-append-le}
 use borrow.Author.Tests.{eqb-true, eqb-false, eq-eqb, ne_eqb, ltb-true, ltb-false, leb-true, leb-false, not-true}
-use Rattle.identity.specs.Answer.{is_accepted}
 use Rattle.identity.specs.Identity.{max_consensus_node_id, from_node_id, node_id, node_id_span, passed_with, validate_voter_slot_identity, value_of_number}
 use Rattle.identity.proofs.IdentityLaws.{identity-sound}
 use Rattle.identity.specs.Text.{every}

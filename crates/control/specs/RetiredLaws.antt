@@ -4,18 +4,14 @@
 -- retired test says yes exactly where `is_retired` does, on every valid table: `test-yes`,
 -- `valid-yes`; and its number tells its cases apart: `number-tells`.
 -- Assumes nothing.
-use Rattle.identity.specs.AnswerLaws.{number-small}
-use Rattle.std.specs.Prelude.{Ok, Err}
-use Rattle.std.specs.Prelude.{ℕ, ◌<◌, ◌≤◌, ◌↔◌, refl, ◌≡◌, Bool, false, cond}
+use Rattle.identity.specs.AnswerLaws.{number-small, number-injective}
+use Rattle.std.specs.Prelude.{Ok, Err, ℕ, ◌<◌, ◌≤◌, ◌↔◌, refl, ◌≡◌, Bool, false, cond}
 use Rattle.std.proofs.Common.{sym, ap, ◌∙◌, eq-eqb, le-leb}
 use Rattle.std.proofs.Math.Bool.{true, not}
 use native.Mathlib.Omega.{arith}
 use Rattle.identity.specs.Identity.{is_slot_id, is_voter_incarnation, validate_voter_incarnation, validate_voter_slot_identity, node_id, from_node_id, value_of_number}
 use Rattle.identity.proofs.IdentityLaws.{read_made}
-use Rattle.identity.specs.Answer.{number_of}
-use Rattle.identity.specs.AnswerLaws.{number-injective}
-use Rattle.identity.specs.Answer.{Answer}
-use Rattle.identity.specs.Answer.{Accepted, Unrepresentable}
+use Rattle.identity.specs.Answer.{number_of, Answer, Accepted, Unrepresentable}
 use Rattle.identity.specs.declared.identity.VoterSlotIdentity.{VoterSlotIdentity}
 use Rattle.records.specs.declared.records.VoterSlotTable.{VoterSlotTable}
 use Rattle.records.specs.Records.{slot_at, member_at}

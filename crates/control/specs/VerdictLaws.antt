@@ -8,12 +8,10 @@ use Rattle.std.proofs.Math.Path.{refl}
 use Rattle.std.proofs.Common.{sym, ap, ◌∙◌, eq-eqb}
 use Rattle.std.proofs.Math.Bool.{cond, false, true, false≢true}
 use Rattle.std.proofs.Math.Dec.{eqb, leb, ltb}
-use Rattle.identity.specs.Answer.{Answer}
-use Rattle.identity.specs.Answer.{Accepted, InvalidTransition, StaleIncarnation, Unrepresentable}
+use Rattle.identity.specs.Answer.{Answer, Accepted, InvalidTransition, StaleIncarnation, Unrepresentable, is_accepted}
 use Rattle.records.specs.declared.records.VoterSlotLogId.{VoterSlotLogId}
 use Rattle.records.specs.declared.records.VoterSlotTable.{VoterSlotTable}
 use Rattle.records.specs.Equality.{eq_bytes, same_voter_slot_log_id, same_voter_snapshot_evidence}
-use Rattle.identity.specs.Answer.{is_accepted}
 use Rattle.identity.specs.Utf8Laws.{and_left}
 use Rattle.records.specs.Evidence.{follows, valid_log_id}
 use Rattle.records.specs.Representable.{representable}

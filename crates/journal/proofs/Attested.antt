@@ -7,8 +7,7 @@ use Rattle.std.proofs.Math.Path.{sym, ap, ap₂}
 use Rattle.std.proofs.Math.Bool.{true, false}
 use Rattle.std.proofs.Math.ListN.{take}
 use borrow.Author.Tests.{eqb-true, eqb-false}
-use Rattle.identity.specs.Answer.{number_of, is_accepted}
-use Rattle.identity.specs.Answer.{Answer}
+use Rattle.identity.specs.Answer.{number_of, is_accepted, Answer}
 use Rattle.identity.specs.AnswerLaws.{accepted-is-0}
 use Rattle.format.specs.Res.{Res}
 use Rattle.format.specs.Res.Res.{ok, no}

@@ -13,9 +13,7 @@ use mathlib.Core.List.{List, [], ◌∷◌, ◌++◌, append_assoc, append-nil}
 use Rattle.std.proofs.Math.ListN.{length, take, length-drop}
 use Rattle.std.proofs.Math.Seq.{get_or-drop}
 use borrow.Author.Tests.{eqb-true, eqb-false, leb-true, leb-false, ltb-true, ltb-false, eq-eqb, ne_eqb, not-true}
-use Rattle.identity.specs.Answer.{is_accepted, number_of}
-use Rattle.identity.specs.Answer.{Answer}
-use Rattle.identity.specs.Answer.{Accepted, BadRecord}
+use Rattle.identity.specs.Answer.{is_accepted, number_of, Answer, Accepted, BadRecord}
 use Rattle.identity.specs.AnswerLaws.{number-small}
 use Rattle.format.specs.Combinators.{Bytes, dep, held, via}
 use Rattle.format.specs.Put.{Put, put, length-put, put-nothing, then}

@@ -4,9 +4,7 @@
 -- (PieceLaws).
 -- Assumes nothing.
 use Rattle.std.specs.Prelude.{ℕ, zero, suc, ◌+◌, ◌*◌, ◌-◌, ◌/◌, ◌<◌, ◌≤◌, min, ◌≡◌, Bool, true, false, cond, not, ◌&&◌, ◌||◌, List, [], ◌∷◌, ◌++◌, length, take, drop, eqb, leb, ltb}
-use Rattle.identity.specs.Answer.{is_accepted, number_of}
-use Rattle.identity.specs.Answer.{Answer}
-use Rattle.identity.specs.Answer.{Accepted}
+use Rattle.identity.specs.Answer.{is_accepted, number_of, Answer, Accepted}
 use Rattle.format.specs.Put.{Put, put}
 use Rattle.format.specs.Res.{Res}
 use Rattle.format.specs.Res.Res.{ok, no}

@@ -4,9 +4,7 @@
 -- call.
 -- Assumes nothing.
 use Rattle.std.specs.Prelude.{ℕ, ◌≡◌, Bool, true, false, cond, List}
-use Rattle.identity.specs.Answer.{number_of}
-use Rattle.identity.specs.Answer.{Answer}
-use Rattle.identity.specs.Answer.{Accepted, BadRecord, InvalidTransition, Unrepresentable}
+use Rattle.identity.specs.Answer.{number_of, Answer, Accepted, BadRecord, InvalidTransition, Unrepresentable}
 use Rattle.format.specs.Res.{Res}
 use Rattle.format.specs.Res.Res.{ok, no}
 use Rattle.layout.specs.Layout.{log_id}

@@ -6,9 +6,7 @@
 use Rattle.std.specs.Prelude.{ℕ, ◌+◌, Bool, List, take, drop}
 use Rattle.format.specs.Res.{Res}
 use Rattle.format.specs.Res.Res.{ok, no}
-use Rattle.identity.specs.Answer.{number_of}
-use Rattle.identity.specs.Answer.{Answer}
-use Rattle.identity.specs.Answer.{InvalidRecord}
+use Rattle.identity.specs.Answer.{number_of, Answer, InvalidRecord}
 use Rattle.identity.specs.declared.identity.VoterSlotIdentity.{VoterSlotIdentity}
 use Rattle.records.specs.declared.records.VoterSlotLogId.{VoterSlotLogId}
 use Rattle.records.specs.declared.records.OptionalLogId.{OptionalLogId}

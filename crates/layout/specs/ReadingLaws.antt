@@ -6,8 +6,7 @@ use Rattle.std.proofs.Common.{arith, sym, ◌∙◌}
 use Rattle.std.proofs.Math.Path.{ap, ap₂}
 use Rattle.format.specs.Res.{Res, ok-count, no_ok}
 use Rattle.format.specs.Res.Res.{ok, no}
-use Rattle.identity.specs.Answer.{number_of}
-use Rattle.identity.specs.Answer.{Answer}
+use Rattle.identity.specs.Answer.{number_of, Answer}
 use Rattle.layout.specs.Reading.{report, outcome}
 use Rattle.layout.specs.declared.reading.Extent.{Extent}
 use Rattle.layout.specs.declared.reading.Extent.TheVariants as reading

@@ -2,11 +2,10 @@
 -- Assumes nothing.
 use Rattle.std.specs.Prelude.{ℕ, ◌≡◌, refl, true, List, [], ◌∷◌, ◌++◌, take, drop}
 use Rattle.std.proofs.Common.{arith, ap, ◌∙◌}
-use Rattle.identity.specs.Answer.{number_of}
+use Rattle.identity.specs.Answer.{number_of, Accepted}
 use Rattle.identity.specs.Identity.{validate_slot_id, validate_voter_incarnation}
 use Rattle.identity.specs.Text.{is_in, starts_with, is_name, is_snapshot_id, is_utf8, every}
 use Rattle.identity.specs.Utf8.{fits, width_in, decoded_char, chars_from, all_chars}
-use Rattle.identity.specs.Answer.{Accepted}
 use Rattle.format.specs.Res.{and_then}
 use Rattle.format.specs.Res.Res.{ok, no}
 use Rattle.format.specs.Combinators.{dec_seq, dec_check, dec_map, dep-ok, map-ok, gate, dep, check, via, held, always}

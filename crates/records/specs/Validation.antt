@@ -5,11 +5,9 @@
 -- Assumes nothing.
 use Rattle.std.specs.Prelude.{ℕ, zero, suc, ◌+◌, ◌-◌, ◌%◌, ◌≡◌, Bool, true, cond, not, ◌&&◌, ◌||◌, take, eqb, leb, ltb}
 use Rattle.identity.specs.Conditions.{◌and◌}
-use Rattle.identity.specs.Answer.{is_accepted}
+use Rattle.identity.specs.Answer.{is_accepted, Answer, Accepted, IncarnationExhausted, InvalidRecord, Unrepresentable}
 use Rattle.identity.specs.Identity.{max_voter_incarnation}
 use Rattle.identity.specs.Text.{is_name, max_spiffe_id_bytes}
-use Rattle.identity.specs.Answer.{Answer}
-use Rattle.identity.specs.Answer.{Accepted, IncarnationExhausted, InvalidRecord, Unrepresentable}
 use Rattle.records.specs.Equality.{eq_bytes, same_voter_slot_log_id, same_voter_slot_member}
 use Rattle.records.specs.Records.{max_fixed_voter_slots, min_replacement_slots, pending, catching_up, voting, snapshot_installed, fenced, uniform, completed, superseded, all_below, slot_at, member_at}
 use Rattle.records.specs.Evidence.{valid_log_id, valid_evidence}

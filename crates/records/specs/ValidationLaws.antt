@@ -8,9 +8,7 @@ use Rattle.std.proofs.Common.{sym, ap, ◌∙◌, add-one, leb-true, ltb-true}
 use Rattle.std.proofs.Math.Bool.{and-eq-true_iff, and-false}
 use native.Mathlib.Omega.{arith}
 use Rattle.std.proofs.lemmas.Bool.{not-true, not-false}
-use Rattle.identity.specs.Answer.{is_accepted}
-use Rattle.identity.specs.Answer.{Answer}
-use Rattle.identity.specs.Answer.{Accepted, InvalidRecord}
+use Rattle.identity.specs.Answer.{is_accepted, Answer, Accepted, InvalidRecord}
 use Rattle.records.specs.Records.{all_below, slot_at, member_at}
 use Rattle.records.specs.RecordsLaws.{all_below-all}
 use Rattle.records.specs.Equality.{same_voter_slot_member}

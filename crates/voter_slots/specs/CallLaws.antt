@@ -4,10 +4,8 @@ use Rattle.std.specs.Prelude.{ℕ, ◌≤◌, ◌<◌, ◌≡◌, refl, Bool, tr
 use Rattle.std.proofs.Common.{sym, ◌∙◌, arith, le-leb, ne_eqb}
 use Rattle.std.proofs.Math.Path.{ap}
 use Rattle.std.proofs.lemmas.Bool.{false≢true, lt-leb}
-use Rattle.identity.specs.Answer.{is_accepted, number_of}
+use Rattle.identity.specs.Answer.{is_accepted, number_of, Answer, BadRecord}
 use Rattle.identity.specs.AnswerLaws.{accepted-is-0, number-injective}
-use Rattle.identity.specs.Answer.{Answer}
-use Rattle.identity.specs.Answer.{BadRecord}
 use Rattle.format.specs.Combinators.{Bytes}
 use Rattle.format.specs.Res.{Res}
 use Rattle.format.specs.Res.Res.{ok, no}

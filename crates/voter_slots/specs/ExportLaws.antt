@@ -6,10 +6,8 @@ use Rattle.std.proofs.Common.{◌∙◌, arith, eqb-true}
 use Rattle.std.proofs.lemmas.Bool.{false≢true}
 use Rattle.std.proofs.Math.Nat.{zero-add}
 use Rattle.std.proofs.Math.Dec.{eqb}
-use Rattle.identity.specs.Answer.{is_accepted, number_of}
-use Rattle.identity.specs.Answer.{Answer}
+use Rattle.identity.specs.Answer.{is_accepted, number_of, Answer, Accepted}
 use Rattle.identity.specs.AnswerLaws.{accepted-is-0}
-use Rattle.identity.specs.Answer.{Accepted}
 use Rattle.format.specs.Combinators.{Bytes}
 use Rattle.format.specs.Put.{Put}
 use Rattle.format.specs.Res.{Res}

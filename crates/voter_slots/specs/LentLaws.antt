@@ -5,10 +5,8 @@ use Rattle.std.proofs.Math.Path.{refl, ap}
 use Rattle.std.proofs.Common.{sym, ◌∙◌, arith, ne_eqb}
 use Rattle.std.proofs.Math.Bool.{true, false}
 use Rattle.std.proofs.lemmas.Bool.{false≢true}
-use Rattle.identity.specs.Answer.{is_accepted, number_of}
+use Rattle.identity.specs.Answer.{is_accepted, number_of, Answer, Accepted, BadRecord, InvalidTransition, Unrepresentable}
 use Rattle.identity.specs.AnswerLaws.{accepted-is-0, number-injective}
-use Rattle.identity.specs.Answer.{Answer}
-use Rattle.identity.specs.Answer.{Accepted, BadRecord, InvalidTransition, Unrepresentable}
 use Rattle.format.specs.Res.Res.{no}
 use Rattle.records.specs.Representable.{representable}
 use Rattle.records.specs.Successor.{validate_successor_of}

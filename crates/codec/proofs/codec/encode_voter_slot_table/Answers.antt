@@ -5,8 +5,7 @@ use native.Mathlib.Nat.{zero-add}
 use native.Mathlib.Omega.{arith}
 use lib.ListN.{length}
 use Rattle.format.specs.Res.Res.{ok, no}
-use Rattle.identity.specs.Answer.{number_of, is_accepted}
-use Rattle.identity.specs.Answer.{Accepted}
+use Rattle.identity.specs.Answer.{number_of, is_accepted, Accepted}
 use Rattle.identity.specs.AnswerLaws.{accepted-is-0}
 use Rattle.records.specs.Validation.{validate}
 use Rattle.records.specs.ValidationLaws.{failed, held, is-accepted}

@@ -5,8 +5,7 @@ use mathlib.Core.Path.{◌≡◌, sym, ap, ◌∙◌}
 use lib.ListN.{length}
 use lib.Seq.{length-take-le}
 use Rattle.format.specs.Res.Res.{ok, no}
-use Rattle.identity.specs.Answer.{number_of}
-use Rattle.identity.specs.Answer.{Accepted}
+use Rattle.identity.specs.Answer.{number_of, Accepted}
 use Rattle.records.specs.Blank.{blank_voter_slot_table}
 use Rattle.records.specs.Held.{HeldVoterSlotTable}
 use Rattle.records.specs.Validation.{validate}

@@ -6,8 +6,7 @@ use Rattle.control.specs.Control.{full}
 use Rattle.control.specs.declared.judge.Judged.TheVariants.{Refuse, Keep, Begin, RecordSnapshot, RecordCaughtUp, Continue, Fence, Finalize}
 use Rattle.control.specs.declared.judge.Judged.{Judged}
 use Rattle.records.specs.declared.records.VoterSlotTable.{VoterSlotTable}
-use Rattle.identity.specs.Answer.{Accepted}
-use Rattle.identity.specs.Answer.{Answer}
+use Rattle.identity.specs.Answer.{Accepted, Answer}
 use mathlib.Core.Bool.{true}
 use mathlib.Core.Path.{ap, refl, sym, ◌≡◌, ◌∙◌}
 use Rattle.control.proofs.apply.advance.Goals as goal

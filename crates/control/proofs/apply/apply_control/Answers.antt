@@ -1,8 +1,7 @@
 -- `control::apply::apply_control` meets its contract: refused by its tests, or the command on a table that they found valid. Assumes nothing.
 use mathlib.Core.Path.{ap, sym, ◌≡◌, ◌∙◌}
 use mathlib.Core.Bool.{true}
-use Rattle.identity.specs.Answer.{is_accepted}
-use Rattle.identity.specs.Answer.{Answer}
+use Rattle.identity.specs.Answer.{is_accepted, Answer}
 use Rattle.control.specs.Verdicts.{checked_of, paired}
 use Rattle.control.specs.VerdictLaws.{entry-passed, entry-refused, entry-valid}
 use Rattle.control.proofs.apply.apply_control.Goals as goal

@@ -1,7 +1,6 @@
 -- `control::observe::carry_out` meets its contract: by the case; a maker has the room that its caller shows. Assumes nothing.
 use mathlib.Core.Path.{sym, ap, ◌∙◌}
-use Rattle.identity.specs.Answer.{Answer}
-use Rattle.identity.specs.Answer.{Accepted}
+use Rattle.identity.specs.Answer.{Answer, Accepted}
 use Rattle.records.specs.declared.records.VoterSlotTable.{VoterSlotTable}
 use Rattle.control.specs.Judgement.{added, carried}
 use Rattle.control.specs.ObserveSight.{is_change, verdict_of_observed}

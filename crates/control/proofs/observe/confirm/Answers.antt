@@ -1,8 +1,7 @@
 -- `control::observe::confirm` meets its contract: nothing is made, or something is. Assumes nothing.
 use mathlib.Core.Path.{sym, ap, ◌∙◌}
 use mathlib.Core.Bool.{Bool, cond}
-use Rattle.identity.specs.Answer.{is_accepted}
-use Rattle.identity.specs.Answer.{InvalidTransition}
+use Rattle.identity.specs.Answer.{is_accepted, InvalidTransition}
 use Rattle.records.specs.Validation.{validity}
 use Rattle.control.specs.Judgement.Verdict.{refused}
 use Rattle.control.specs.ObserveSight.{verdict_of_observed}

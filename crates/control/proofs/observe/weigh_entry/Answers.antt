@@ -1,8 +1,7 @@
 -- `control::observe::weigh_entry` meets its contract: 30 of the table, the verdict, validity where something is new. Assumes nothing.
 use mathlib.Core.Path.{sym, ap, ◌∙◌}
 use mathlib.Core.Bool.{Bool, cond}
-use Rattle.identity.specs.Answer.{is_accepted}
-use Rattle.identity.specs.Answer.{Unrepresentable}
+use Rattle.identity.specs.Answer.{is_accepted, Unrepresentable}
 use Rattle.records.specs.RepresentableLaws.{representable-count}
 use Rattle.records.specs.Validation.{validity}
 use Rattle.control.specs.Judgement.Verdict.{refused}

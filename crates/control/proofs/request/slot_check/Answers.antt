@@ -2,8 +2,7 @@
 use mathlib.Core.Bool.{cond, ◌&&◌}
 use mathlib.Core.Path.{ap, ◌∙◌}
 use lib.Dec.{eqb, leb}
-use Rattle.identity.specs.Answer.{NoSurvivingQuorum, StaleIncarnation}
-use Rattle.identity.specs.Answer.{Answer}
+use Rattle.identity.specs.Answer.{NoSurvivingQuorum, StaleIncarnation, Answer}
 use Rattle.records.proofs.Held.{held-lost-voter-attestation-v1, held-voter-slot-table}
 use Rattle.control.specs.BeginJudgeLaws.{slot-judged}
 use Rattle.control.proofs.request.slot_check.Goals as goal

@@ -1,9 +1,7 @@
 -- `voter_slots::lent::refuse_advance` meets its contract. Assumes nothing.
 use mathlib.Core.Path.{ap, ◌∙◌}
 use mathlib.Core.Bool.{Bool, cond, ◌&&◌}
-use Rattle.identity.specs.Answer.{number_of}
-use Rattle.identity.specs.Answer.{Answer}
-use Rattle.identity.specs.Answer.{BadRecord, InvalidTransition, Unrepresentable}
+use Rattle.identity.specs.Answer.{number_of, Answer, BadRecord, InvalidTransition, Unrepresentable}
 use Rattle.voter_slots.specs.LentLaws.{advance-refusal}
 use Rattle.voter_slots.proofs.lent.refuse_advance.Goals as goal
 

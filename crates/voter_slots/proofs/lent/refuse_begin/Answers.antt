@@ -1,8 +1,7 @@
 -- `voter_slots::lent::refuse_begin` meets its contract. Assumes nothing.
 use mathlib.Core.Path.{ap, ◌∙◌}
 use mathlib.Core.Bool.{Bool, cond, ◌&&◌}
-use Rattle.identity.specs.Answer.{number_of}
-use Rattle.identity.specs.Answer.{InvalidTransition, Unrepresentable}
+use Rattle.identity.specs.Answer.{number_of, InvalidTransition, Unrepresentable}
 use Rattle.voter_slots.specs.LentLaws.{begin-bad, begin-refused, begin-refusal}
 use Rattle.voter_slots.proofs.lent.refuse_begin.Goals as goal
 

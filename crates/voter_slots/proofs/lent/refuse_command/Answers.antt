@@ -1,9 +1,7 @@
 -- `voter_slots::lent::refuse_command` meets its contract. Assumes nothing.
 use mathlib.Core.Path.{sym, ap, ◌∙◌}
 use mathlib.Core.Bool.{cond}
-use Rattle.identity.specs.Answer.{number_of}
-use Rattle.identity.specs.Answer.{Answer}
-use Rattle.identity.specs.Answer.{BadRecord}
+use Rattle.identity.specs.Answer.{number_of, Answer, BadRecord}
 use Rattle.journal.specs.declared.replay.Mark.{Mark}
 use Rattle.journal.specs.Replay.{asking}
 use Rattle.voter_slots.specs.Lent.{refusal_at}
