@@ -1,6 +1,5 @@
-// Layer three, the readers of the fields and of the records.
+// Layer three: the readers.
 
 #![tactic(auto)]
 
-pub mod decode;
 pub mod reader;
