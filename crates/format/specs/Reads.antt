@@ -2,13 +2,14 @@
 -- what the ways to make a form of others leave. For a `Reader` that is moved on, as that of
 -- codec.rs.
 -- Assumes nothing.
-use Rattle.std.specs.Prelude.{ℕ, zero, suc, ◌+◌, ◌≤◌, ◌≡◌, refl, Bool, true, false, cond, List, length, take, drop, leb}
-use Rattle.std.proofs.Common.{ap, ap₂, sym, ◌∙◌, arith, drop-drop}
+use Rattle.std.specs.Prelude.{ℕ, zero, suc, ◌+◌, ◌≤◌, ◌<◌, ◌≡◌, refl, Bool, true, false, cond, List, [], ◌∷◌, length, get_or, take, drop}
+use Rattle.std.specs.Int.{w16, w64, from_be_bytes}
+use Rattle.std.proofs.Common.{ap, sym, ◌∙◌, arith, drop-drop}
 use Rattle.format.specs.Res.{Res, and_then, malformed}
 use Rattle.format.specs.Res.Res.{ok, no}
-use Rattle.format.specs.Num.{pick}
-use Rattle.format.specs.Combinators.{Codec, dep, check, via, always, dec_seq, dec_check, dec_map, gate}
-use Rattle.format.specs.List.{opt, flag, either}
+use Rattle.format.specs.Num.{raw, uint, val, raw-got, raw-not, dec_uint}
+use Rattle.format.specs.Combinators.{Codec, dep, check, via, always, dec_seq, dec_check, dec_map, gate, held}
+use Rattle.format.specs.List.{opt, flag, flag_test, to_flag, of_flag, either}
 
 -- the value that was read and the rest of the bytes, or the refusal
 pub data Reading (A : Type 0) : Type 0 where
@@ -40,6 +41,54 @@ tested_read zero a rest = Reading.read a rest
 tested_read (suc k) a rest = Reading.refused (suc k)
 
 -- ---- one law for each way to make a form
+
+-- so many bytes as they stand
+module _ (n : ℕ) (bs : List ℕ) where
+  pub reads_raw : n ≤ length bs → reads (raw n) bs ≡ Reading.read (take n bs) (drop n bs)
+  unfolding reads
+  reads_raw h = ap (left_of bs) (raw-got n bs h)
+
+  pub reads_raw_short : length bs < n → reads (raw n) bs ≡ Reading.refused malformed
+  unfolding reads
+  reads_raw_short h = ap (left_of bs) (raw-not n bs h)
+
+-- a number of so many bytes
+module _ (k : ℕ) (bs : List ℕ) where
+  number : (x : Res (List ℕ)) → left_of bs (and_then x (λ l n. ok (val 0 l) n)) ≡ made_read (val 0) (left_of bs x)
+  unfolding and_then
+  number (ok l n) = refl
+  number (no r) = refl
+
+  pub reads_uint : reads (uint k) bs ≡ made_read (val 0) (reads (raw k) bs)
+  unfolding reads uint held via raw dec_uint dec_map
+  reads_uint = number ((raw k).dec bs)
+
+-- the library's number of eight bytes, of two, of one, the highest first
+pub number_of_8 : (l : List ℕ) → length l ≡ 8 → from_be_bytes w64 l ≡ val 0 l
+unfolding val
+number_of_8 (a ∷ b ∷ c ∷ d ∷ e ∷ f ∷ g ∷ h ∷ []) p = omega arith
+number_of_8 [] p = absurd (omega arith)
+number_of_8 (a ∷ []) p = absurd (omega arith)
+number_of_8 (a ∷ b ∷ []) p = absurd (omega arith)
+number_of_8 (a ∷ b ∷ c ∷ []) p = absurd (omega arith)
+number_of_8 (a ∷ b ∷ c ∷ d ∷ []) p = absurd (omega arith)
+number_of_8 (a ∷ b ∷ c ∷ d ∷ e ∷ []) p = absurd (omega arith)
+number_of_8 (a ∷ b ∷ c ∷ d ∷ e ∷ f ∷ []) p = absurd (omega arith)
+number_of_8 (a ∷ b ∷ c ∷ d ∷ e ∷ f ∷ g ∷ []) p = absurd (omega arith)
+number_of_8 (a ∷ b ∷ c ∷ d ∷ e ∷ f ∷ g ∷ h ∷ x ∷ l) p = absurd (omega arith)
+
+pub number_of_1 : (l : List ℕ) → length l ≡ 1 → get_or l 0 0 ≡ val 0 l
+unfolding val
+number_of_1 (a ∷ []) p = omega arith
+number_of_1 [] p = absurd (omega arith)
+number_of_1 (a ∷ x ∷ l) p = absurd (omega arith)
+
+pub number_of_2 : (l : List ℕ) → length l ≡ 2 → from_be_bytes w16 l ≡ val 0 l
+unfolding val
+number_of_2 (a ∷ b ∷ []) p = omega arith
+number_of_2 [] p = absurd (omega arith)
+number_of_2 (a ∷ []) p = absurd (omega arith)
+number_of_2 (a ∷ b ∷ x ∷ l) p = absurd (omega arith)
 
 -- one after the other
 module _ {A B : Type 0} (C : Codec A) (D : A → Codec B) (bs : List ℕ) where
@@ -90,6 +139,11 @@ module _ {A : Type 0} (C : Codec A) (test : A → ℕ) (bs : List ℕ) where
   unfolding reads check dec_check
   reads_check = tested (C.dec bs)
 
+-- a yes or no, in a byte
+pub reads_flag : (bs : List ℕ) → reads flag bs ≡ made_read to_flag (then_read (reads (uint 1) bs) (λ x rest. tested_read (flag_test x) x rest))
+unfolding flag
+reads_flag bs = reads_via (check (uint 1) flag_test) to_flag of_flag _ bs ∙ ap (made_read to_flag) (reads_check (uint 1) flag_test bs)
+
 -- a value that may be absent
 module _ {A : Type 0} (C : Codec A) (blank : A) (bs : List ℕ) where
   abbrev flagged : Bool → A → Bool × A
@@ -113,7 +167,7 @@ module _ {A : Type 0} (C : Codec A) (blank : A) (bs : List ℕ) where
 
 -- ---- what is made of two, three or four forms, one after the other: a `?` for each
 
-fused : {A B C : Type 0} (f : B → C) (x : Reading A) (k : A → List ℕ → Reading B) → made_read f (then_read x k) ≡ then_read x (λ a rest. made_read f (k a rest))
+pub fused : {A B C : Type 0} (f : B → C) (x : Reading A) (k : A → List ℕ → Reading B) → made_read f (then_read x k) ≡ then_read x (λ a rest. made_read f (k a rest))
 fused f (Reading.read a rest) k = refl
 fused f (Reading.refused n) k = refl
 
@@ -129,7 +183,7 @@ made_then : {A B C : Type 0} (f : A → B) (x : Reading A) (h : B → List ℕ �
 made_then f (Reading.read a rest) h = refl
 made_then f (Reading.refused n) h = refl
 
-same_then : {A B : Type 0} (x : Reading A) (h k : A → List ℕ → Reading B) → ((a : A) (rest : List ℕ) → h a rest ≡ k a rest) → then_read x h ≡ then_read x k
+pub same_then : {A B : Type 0} (x : Reading A) (h k : A → List ℕ → Reading B) → ((a : A) (rest : List ℕ) → h a rest ≡ k a rest) → then_read x h ≡ then_read x k
 same_then (Reading.read a rest) h k e = e a rest
 same_then (Reading.refused n) h k e = refl
 
@@ -142,7 +196,7 @@ module _ {A B Z : Type 0} (C : Codec A) (D : A → Codec B) (f : A × B → Z) (
       ∙ same_then (reads C bs) _ _ (λ a rest. made_twice {B = A × B} f (λ b. (a, b)) (reads (D a) rest))
 
 module _ {A B Z : Type 0} (C : Codec A) (D : A → Codec B) (bs : List ℕ) (h : A × B → List ℕ → Reading Z) where
-  reads_pair : then_read {A = A × B} (reads (dep C D) bs) h ≡ then_read {B = Z} (reads C bs) (λ a rest. then_read {B = Z} (reads (D a) rest) (λ b r. h (a, b) r))
+  pub reads_pair : then_read {A = A × B} (reads (dep C D) bs) h ≡ then_read {B = Z} (reads C bs) (λ a rest. then_read {B = Z} (reads (D a) rest) (λ b r. h (a, b) r))
   reads_pair =
       ap (λ x. then_read {A = A × B} x h) (reads_dep C D bs)
       ∙ chained {B = A × B} (reads C bs) (λ a rest. made_read (λ b. (a, b)) (reads (D a) rest)) h

@@ -1,6 +1,7 @@
 -- What a `Reader` says: its answer and the bytes that it has left, as a reading of a form.
 -- Assumes nothing.
-use Rattle.std.specs.Prelude.{ℕ, List, Result, Ok, Err}
+use Rattle.std.specs.Prelude.{ℕ, List, length, Result, Ok, Err}
+use Rattle.std.proofs.Common.{Bor}
 use Rattle.format.specs.Reads.{Reading}
 use Rattle.identity.specs.Answer.{number_of_refusal}
 use Rattle.identity.specs.declared.answer.Refusal.{Refusal}
@@ -9,3 +10,12 @@ use Rattle.identity.specs.declared.answer.Refusal.{Refusal}
 abbrev pub told : {A : Type 0} → Result A Refusal → List ℕ → Reading A
 told (Ok a) rest = Reading.read a rest
 told (Err e) rest = Reading.refused (number_of_refusal e)
+
+-- the same of bytes that are lent: by themselves, and with their number before them
+abbrev pub told_bytes : Result (Bor (List ℕ)) Refusal → List ℕ → Reading (List ℕ)
+told_bytes (Ok s) rest = Reading.read s.now rest
+told_bytes (Err e) rest = Reading.refused (number_of_refusal e)
+
+abbrev pub told_sized : Result (Bor (List ℕ)) Refusal → List ℕ → Reading (ℕ × List ℕ)
+told_sized (Ok s) rest = Reading.read (length s.now, s.now) rest
+told_sized (Err e) rest = Reading.refused (number_of_refusal e)

@@ -1,15 +1,25 @@
-// The readers.
-ghost use Rattle.std.specs.Prelude.{◌≡◌, ◌≤◌, length, take, drop};
+// The cursor over the bytes, and what it reads that is made of numbers and text alone: `Reader` of
+// codec.rs. decode.rt has the records.
+//
+// Ported from crates/opc-consensus/src/voter_slots/codec.rs of openpacketcore-sdk, commit
+// 717de332e7, Apache-2.0 (see NOTICE). Changed: text is copied into a place of fixed size; an
+// optional part comes as a yes or no beside its value, the blank where there is none.
+//
+// Each method promises that its answer, with the bytes that are left after it, is what reading its
+// form leaves (`reads` of format's Reads.antt).
+ghost use Rattle.std.specs.Prelude.{◌≡◌, ◌≤◌, length, IfOk};
 ghost use Rattle.format.specs.Num.{uint, raw};
 ghost use Rattle.format.specs.List.{flag};
-ghost use Rattle.format.specs.Reads.{reads};
-ghost use Rattle.layout.specs.Told.{told};
-ghost use Rattle.layout.specs.Layout.{slot_id, incarnation, epoch, slot_count, choice, log_id, identity, binding, times};
+ghost use Rattle.format.specs.Reads.{reads, made_read};
+ghost use Rattle.layout.specs.Told.{told, told_bytes, told_sized};
+ghost use Rattle.layout.specs.Layout.{slot_id, incarnation, epoch, slot_count, choice, log_id, optional_log_id, three_cuts, identity, times, version, magic_and_version, sized, string, placed, spiffe_id, snapshot_id};
 
 use identity::answer::Refusal;
 use identity::identity::*;
+use identity::text::{MAX_VOTER_SNAPSHOT_ID_BYTES, MAX_VOTER_SPIFFE_ID_BYTES, is_utf8};
+use layout::parts::{ThreeCuts, Times, VERSION};
 use records::records::*;
-use layout::parts::{Binding, Times};
+use records::validation::is_valid_count;
 
 // What is left of the bytes that are read.
 #[derive(Clone, Copy)]
@@ -18,55 +28,65 @@ pub struct Reader<'a> {
 }
 
 impl<'a> Reader<'a> {
+    // `new`, without its bound: the two decoders test that first (codec).
     pub fn new(bytes: &'a [u8]) -> Reader<'a>
         ensures { result.bytes.now ≡ bytes.now }
     {
         Reader { bytes }
     }
 
+    // `take`
+    #[tactic(auto, using(format::specs::Reads::reads_raw, format::specs::Reads::reads_raw_short))]
+    pub fn take(&mut self, count: usize) -> Result<&'a [u8], Refusal>
+        ensures form { told_bytes result self.new.bytes.now ≡ reads (raw count) self.old.bytes.now }
+        ensures long { IfOk result (λ bytes. length bytes.now ≡ count) }
+    {
+        let Some((front, rest)) = self.bytes.split_at_checked(count) else {
+            return Err(Refusal::InvalidRecord);
+        };
+        self.bytes = rest;
+        Ok(front)
+    }
+
     // `array`
-    fn array<const N: usize>(&mut self) -> Result<[u8; N], Refusal>
+    #[tactic(auto, using(format::specs::Reads::reads_raw, format::specs::Reads::reads_raw_short))]
+    pub fn array<const N: usize>(&mut self) -> Result<[u8; N], Refusal>
         ensures { told result self.new.bytes.now ≡ reads (raw N) self.old.bytes.now }
     {
-        let bytes = self.bytes;
-        if bytes.len() < N {
+        let Some((front, rest)) = self.bytes.split_first_chunk::<N>() else {
             return Err(Refusal::InvalidRecord);
-        }
-        let (front, rest) = bytes.split_at(N);
+        };
         self.bytes = rest;
-        let mut value = [0; N];
-        value.copy_from_slice(front);
-        Ok(value)
+        Ok(*front)
+    }
+
+    // `u8`
+    #[tactic(auto, using(format::specs::Reads::reads_uint, format::specs::Reads::number_of_1))]
+    pub fn u8(&mut self) -> Result<u8, Refusal>
+        ensures { told result self.new.bytes.now ≡ reads (uint 1) self.old.bytes.now }
+    {
+        Ok(self.array::<1>()?[0])
     }
 
     // `u16`
-    fn u16(&mut self) -> Result<u16, Refusal>
+    #[tactic(auto, using(format::specs::Reads::reads_uint, format::specs::Reads::number_of_2))]
+    pub fn u16(&mut self) -> Result<u16, Refusal>
         ensures { told result self.new.bytes.now ≡ reads (uint 2) self.old.bytes.now }
     {
         Ok(u16::from_be_bytes(self.array()?))
     }
 
     // `u64`
-    fn u64(&mut self) -> Result<u64, Refusal>
+    #[tactic(auto, using(format::specs::Reads::reads_uint, format::specs::Reads::number_of_8))]
+    pub fn u64(&mut self) -> Result<u64, Refusal>
         ensures { told result self.new.bytes.now ≡ reads (uint 8) self.old.bytes.now }
     {
         Ok(u64::from_be_bytes(self.array()?))
     }
 
-    // `log_id`
-    #[tactic(auto, using(format::specs::Reads::reads_two), unfolding(layout::specs::Layout::log_id))]
-    fn log_id(&mut self) -> Result<VoterSlotLogId, Refusal>
-        ensures { told result self.new.bytes.now ≡ reads log_id self.old.bytes.now }
-    {
-        Ok(VoterSlotLogId {
-            term: self.u64()?,
-            index: self.u64()?,
-        })
-    }
-
     // `epoch`
     #[tactic(auto, using(format::specs::Reads::reads_check), unfolding(layout::specs::Layout::epoch, format::specs::Num::pick))]
-    fn epoch(&mut self) -> Result<u64, Refusal>
+    pub fn epoch(&mut self) -> Result<ConsensusConfigurationEpoch, Refusal>
         ensures { told result self.new.bytes.now ≡ reads epoch self.old.bytes.now }
     {
         let value = self.u64()?;
@@ -78,7 +98,7 @@ impl<'a> Reader<'a> {
 
     // `incarnation`
     #[tactic(auto, using(format::specs::Reads::reads_check), unfolding(layout::specs::Layout::incarnation))]
-    fn incarnation(&mut self) -> Result<u64, Refusal>
+    pub fn incarnation(&mut self) -> Result<VoterIncarnation, Refusal>
         ensures { told result self.new.bytes.now ≡ reads incarnation self.old.bytes.now }
     {
         let value = self.u64()?;
@@ -86,9 +106,103 @@ impl<'a> Reader<'a> {
         Ok(value)
     }
 
-    // `times`
+    // `SlotId::new` of a number that was read
+    #[tactic(auto, using(format::specs::Reads::reads_check), unfolding(layout::specs::Layout::slot_id))]
+    fn slot_id(&mut self) -> Result<SlotId, Refusal>
+        ensures { told result self.new.bytes.now ≡ reads slot_id self.old.bytes.now }
+    {
+        let value = self.u16()?;
+        validate_slot_id(value)?;
+        Ok(value)
+    }
+
+    // `identity`
+    #[tactic(auto, using(format::specs::Reads::reads_two), unfolding(layout::specs::Layout::identity))]
+    pub fn identity(&mut self) -> Result<VoterSlotIdentity, Refusal>
+        ensures { told result self.new.bytes.now ≡ reads identity self.old.bytes.now }
+    {
+        Ok(VoterSlotIdentity {
+            slot: self.slot_id()?,
+            incarnation: self.incarnation()?,
+        })
+    }
+
+    // `count`: odd, up to nine.
+    #[tactic(auto, using(format::specs::Reads::reads_check), unfolding(layout::specs::Layout::slot_count, format::specs::Num::pick))]
+    pub fn count(&mut self) -> Result<usize, Refusal>
+        ensures { told result self.new.bytes.now ≡ reads slot_count self.old.bytes.now }
+    {
+        let count = self.u8()? as usize;
+        if !is_valid_count(count) {
+            return Err(Refusal::InvalidRecord);
+        }
+        Ok(count)
+    }
+
+    // One of the numbers from low to high: a phase, a kind, a reason.
+    #[tactic(auto, using(format::specs::Reads::reads_check), unfolding(layout::specs::Layout::choice, format::specs::Num::pick))]
+    pub fn choice(&mut self, low: u8, high: u8) -> Result<u8, Refusal>
+        ensures { told result self.new.bytes.now ≡ reads (choice low high) self.old.bytes.now }
+    {
+        let value = self.u8()?;
+        if !((low <= value) & (value <= high)) {
+            return Err(Refusal::InvalidRecord);
+        }
+        Ok(value)
+    }
+
+    // The byte in front of an optional part.
+    #[tactic(auto, using(format::specs::Reads::reads_flag), unfolding(format::specs::List::flag_test, format::specs::Num::pick))]
+    pub fn flag(&mut self) -> Result<bool, Refusal>
+        ensures { told result self.new.bytes.now ≡ reads flag self.old.bytes.now }
+    {
+        match self.u8()? {
+            0 => Ok(false),
+            1 => Ok(true),
+            _ => Err(Refusal::InvalidRecord),
+        }
+    }
+
+    // `log_id`
+    #[tactic(auto, using(format::specs::Reads::reads_two), unfolding(layout::specs::Layout::log_id))]
+    pub fn log_id(&mut self) -> Result<VoterSlotLogId, Refusal>
+        ensures { told result self.new.bytes.now ≡ reads log_id self.old.bytes.now }
+    {
+        Ok(VoterSlotLogId {
+            term: self.u64()?,
+            index: self.u64()?,
+        })
+    }
+
+    // `optional(Reader::log_id)`
+    #[tactic(auto, using(format::specs::Reads::reads_via, format::specs::Reads::reads_opt), unfolding(layout::specs::Layout::optional_log_id, records::specs::Blank::blank_voter_slot_log_id))]
+    fn optional_log_id(&mut self) -> Result<OptionalLogId, Refusal>
+        ensures { told result self.new.bytes.now ≡ reads optional_log_id self.old.bytes.now }
+    {
+        let is_some = self.flag()?;
+        let cut = if is_some {
+            self.log_id()?
+        } else {
+            VoterSlotLogId { term: 0, index: 0 }
+        };
+        Ok(OptionalLogId { is_some, cut })
+    }
+
+    // Three of the cuts that end the evidence.
+    #[tactic(auto, using(format::specs::Reads::reads_three), unfolding(layout::specs::Layout::three_cuts))]
+    pub fn three_cuts(&mut self) -> Result<ThreeCuts, Refusal>
+        ensures { told result self.new.bytes.now ≡ reads three_cuts self.old.bytes.now }
+    {
+        Ok(ThreeCuts {
+            first: self.optional_log_id()?,
+            second: self.optional_log_id()?,
+            third: self.optional_log_id()?,
+        })
+    }
+
+    // The times of an attestation.
     #[tactic(auto, using(format::specs::Reads::reads_four), unfolding(layout::specs::Layout::times))]
-    fn times(&mut self) -> Result<Times, Refusal>
+    pub fn times(&mut self) -> Result<Times, Refusal>
         ensures { told result self.new.bytes.now ≡ reads times self.old.bytes.now }
     {
         Ok(Times {
@@ -97,5 +211,77 @@ impl<'a> Reader<'a> {
             issued_ms: self.u64()?,
             expires_ms: self.u64()?,
         })
+    }
+
+    // `sized_bytes`
+    #[tactic(auto, using(format::specs::Reads::reads_dep, format::specs::Reads::reads_check), unfolding(layout::specs::Layout::sized, format::specs::Num::pick))]
+    pub fn sized_bytes(&mut self, bound: usize) -> Result<&'a [u8], Refusal>
+        ensures form { told_sized result self.new.bytes.now ≡ reads (sized bound) self.old.bytes.now }
+        ensures small { IfOk result (λ bytes. length bytes.now ≤ bound) }
+    {
+        let count = self.u16()? as usize;
+        if bound < count {
+            return Err(Refusal::TooLarge);
+        }
+        self.take(count)
+    }
+
+    // `string`: how many bytes, and a place that has them and zeros after them.
+    #[tactic(auto, using(format::specs::Reads::reads_check, layout::specs::ReadingLaws::rest_of_zeros), unfolding(layout::specs::Layout::string, format::specs::Num::pick))]
+    fn string<const N: usize>(&mut self) -> Result<(usize, [u8; N]), Refusal>
+        ensures { told result self.new.bytes.now ≡ made_read (λ p. (p.0, placed N p)) (reads (string N) self.old.bytes.now) }
+    {
+        let bytes = self.sized_bytes(N)?;
+        if !is_utf8(bytes) {
+            return Err(Refusal::InvalidRecord);
+        }
+        let mut place = [0; N];
+        place[..bytes.len()].copy_from_slice(bytes);
+        Ok((bytes.len(), place))
+    }
+
+    // `identity_string`
+    #[tactic(auto, using(format::specs::Reads::reads_via), unfolding(layout::specs::Layout::spiffe_id))]
+    pub fn spiffe_id(&mut self) -> Result<SpiffeId, Refusal>
+        ensures { told result self.new.bytes.now ≡ reads spiffe_id self.old.bytes.now }
+    {
+        let (len, bytes) = self.string::<MAX_VOTER_SPIFFE_ID_BYTES>()?;
+        Ok(SpiffeId { len, bytes })
+    }
+
+    // `string(MAX_VOTER_SNAPSHOT_ID_BYTES)`
+    #[tactic(auto, using(format::specs::Reads::reads_via), unfolding(layout::specs::Layout::snapshot_id))]
+    pub fn snapshot_id(&mut self) -> Result<SnapshotId, Refusal>
+        ensures { told result self.new.bytes.now ≡ reads snapshot_id self.old.bytes.now }
+    {
+        let (len, bytes) = self.string::<MAX_VOTER_SNAPSHOT_ID_BYTES>()?;
+        Ok(SnapshotId { len, bytes })
+    }
+
+    // The version of an attestation.
+    #[tactic(auto, using(format::specs::Reads::reads_via, format::specs::Reads::reads_check), unfolding(layout::specs::Layout::version, format::specs::Num::pick))]
+    pub fn version(&mut self) -> Result<(), Refusal>
+        ensures { told result self.new.bytes.now ≡ reads version self.old.bytes.now }
+    {
+        if self.u16()? as u64 != VERSION {
+            return Err(Refusal::InvalidRecord);
+        }
+        Ok(())
+    }
+
+    // The magic and the version of a table: both are read before either is judged.
+    #[tactic(auto, using(layout::specs::ReadingLaws::reads_magic, layout::specs::ReadingLaws::same_bytes), unfolding(layout::specs::Layout::head_test, format::specs::Num::pick))]
+    pub fn magic_and_version(&mut self) -> Result<(), Refusal>
+        ensures { told result self.new.bytes.now ≡ reads magic_and_version self.old.bytes.now }
+    {
+        let magic = self.array::<4>()?;
+        let version = self.u16()?;
+        if magic != *b"OPVI" {
+            return Err(Refusal::InvalidRecord);
+        }
+        if version as u64 != VERSION {
+            return Err(Refusal::FreshInstallationRequired);
+        }
+        Ok(())
     }
 }
