@@ -7,3 +7,4 @@ pub mod Copy
 pub mod Put
 pub mod Fill
 pub mod Reads
+pub mod ReadsMore

@@ -2,4 +2,5 @@
 
 #![tactic(auto)]
 
+pub mod decode;
 pub mod reader;

@@ -7,8 +7,9 @@
 //
 // Each method promises that its answer, with the bytes that are left after it, is what reading its
 // form leaves (`reads` of format's Reads.antt).
-ghost use Rattle.std.specs.Prelude.{◌≡◌, ◌≤◌, length, IfOk};
-ghost use Rattle.format.specs.Num.{uint, raw};
+ghost use Rattle.std.specs.Prelude.{◌≡◌, ◌≤◌, length, eqb, IfOk};
+ghost use Rattle.identity.specs.Answer.{Accepted, InvalidRecord};
+ghost use Rattle.format.specs.Num.{uint, raw, pick};
 ghost use Rattle.format.specs.List.{flag};
 ghost use Rattle.format.specs.Reads.{reads, made_read};
 ghost use Rattle.layout.specs.Told.{told, told_bytes, told_sized};
@@ -128,9 +129,10 @@ impl<'a> Reader<'a> {
     }
 
     // `count`: odd, up to nine.
-    #[tactic(auto, using(format::specs::Reads::reads_check), unfolding(layout::specs::Layout::slot_count, format::specs::Num::pick))]
+    #[tactic(auto, using(format::specs::Reads::reads_check, records::specs::ValidationLaws::count_small), unfolding(layout::specs::Layout::slot_count, format::specs::Num::pick))]
     pub fn count(&mut self) -> Result<usize, Refusal>
-        ensures { told result self.new.bytes.now ≡ reads slot_count self.old.bytes.now }
+        ensures form { told result self.new.bytes.now ≡ reads slot_count self.old.bytes.now }
+        ensures small { IfOk result (λ count. count ≤ 9) }
     {
         let count = self.u8()? as usize;
         if !is_valid_count(count) {
@@ -281,6 +283,17 @@ impl<'a> Reader<'a> {
         }
         if version as u64 != VERSION {
             return Err(Refusal::FreshInstallationRequired);
+        }
+        Ok(())
+    }
+
+    // `finish`: nothing is left over.
+    #[tactic(auto, unfolding(format::specs::Num::pick))]
+    pub fn finish(self) -> Result<(), Refusal>
+        ensures { result ≡ pick (eqb (length self.entry.bytes.now) 0) Accepted InvalidRecord }
+    {
+        if !self.bytes.is_empty() {
+            return Err(Refusal::InvalidRecord);
         }
         Ok(())
     }

@@ -1,0 +1,331 @@
+// The readers of the records, in the order of codec.rs.
+//
+// Ported from crates/opc-consensus/src/voter_slots/codec.rs of openpacketcore-sdk, commit
+// 717de332e7, Apache-2.0 (see NOTICE). Changed: groups of fields that stand together have a reader
+// of their own (layout's parts.rt); lists fill a place of nine.
+ghost use Rattle.std.specs.Prelude.{◌≡◌, ◌≤◌, length};
+ghost use Rattle.format.specs.List.{opt};
+ghost use Rattle.format.specs.Through.{whole, boxed};
+ghost use Rattle.format.specs.Reads.{reads};
+ghost use Rattle.records.specs.Blank.{blank_voter_replacement_result, blank_voter_snapshot_evidence};
+ghost use Rattle.layout.specs.Told.{told, told_whole};
+ghost use Rattle.layout.specs.Layout.{binding, member, members, configuration, result_head, replacement_result, slot_member, slot, slots, claims_request, claims_slot, claims_names, claims_end, claims, attestation, snapshot, evidence, change, replacement, table_head, table};
+
+use crate::reader::Reader;
+use identity::answer::Refusal;
+use layout::parts::*;
+use records::blank::{blank_voter_replacement_result, blank_voter_snapshot_evidence};
+use records::records::*;
+use records::validation::is_valid_attestation;
+
+impl<'a> Reader<'a> {
+    // `binding`: what follows an identity.
+    #[tactic(auto, using(format::specs::Reads::reads_three), unfolding(layout::specs::Layout::binding))]
+    pub fn binding(&mut self) -> Result<Binding, Refusal>
+        ensures { told result self.new.bytes.now ≡ reads binding self.old.bytes.now }
+    {
+        Ok(Binding {
+            key_digest: self.array()?,
+            descriptor_digest: self.array()?,
+            admission_generation: self.u64()?,
+        })
+    }
+
+    // A member of a configuration.
+    #[tactic(auto, using(format::specs::Reads::reads_two), unfolding(layout::specs::Layout::member))]
+    fn member(&mut self) -> Result<VoterSlotMember, Refusal>
+        ensures { told result self.new.bytes.now ≡ reads member self.old.bytes.now }
+    {
+        let identity = self.identity()?;
+        let binding = self.binding()?;
+        Ok(member_of(identity, binding))
+    }
+
+    // The first so many of the nine places; blanks after them.
+    #[tactic(auto, using(format::specs::ReadsMore::filled_none, format::specs::ReadsMore::filled_next, format::specs::ReadsMore::padded_refused, format::specs::ReadsMore::padded_filled), unfolding(layout::specs::Layout::members, layout::specs::Parts::blank_voter_slot_members))]
+    fn members(
+        &mut self,
+        count: usize,
+    ) -> Result<[VoterSlotMember; MAX_FIXED_VOTER_SLOTS], Refusal>
+        requires { count ≤ 9 }
+        ensures { told result self.new.bytes.now ≡ reads (members count) self.old.bytes.now }
+    {
+        let mut value = blank_voter_slot_members();
+        for i in 0..count {
+            value[i] = self.member()?;
+        }
+        Ok(value)
+    }
+
+    // `configuration`
+    #[tactic(auto, using(format::specs::Reads::reads_three), unfolding(layout::specs::Layout::configuration))]
+    fn configuration(&mut self) -> Result<VoterConfiguration, Refusal>
+        ensures { told result self.new.bytes.now ≡ reads configuration self.old.bytes.now }
+    {
+        let epoch = self.epoch()?;
+        let count = self.count()?;
+        let members = self.members(count)?;
+        Ok(VoterConfiguration {
+            epoch,
+            members,
+            count,
+        })
+    }
+
+    // The front of a receipt.
+    #[tactic(auto, using(format::specs::Reads::reads_four), unfolding(layout::specs::Layout::result_head))]
+    fn result_head(&mut self) -> Result<ResultHead, Refusal>
+        ensures { told result self.new.bytes.now ≡ reads result_head self.old.bytes.now }
+    {
+        Ok(ResultHead {
+            request_id: self.array()?,
+            request_digest: self.array()?,
+            incarnation: self.incarnation()?,
+            revision: self.u64()?,
+        })
+    }
+
+    // A receipt.
+    #[tactic(auto, using(format::specs::Reads::reads_four), unfolding(layout::specs::Layout::replacement_result))]
+    fn replacement_result(&mut self) -> Result<VoterReplacementResult, Refusal>
+        ensures { told result self.new.bytes.now ≡ reads replacement_result self.old.bytes.now }
+    {
+        let head = self.result_head()?;
+        let configuration_epoch = self.epoch()?;
+        let kind = self.choice(COMPLETED, SUPERSEDED)?;
+        let terminal = self.log_id()?;
+        Ok(result_of(head, configuration_epoch, kind, terminal))
+    }
+
+    // A receipt, or none.
+    #[tactic(auto, using(format::specs::Reads::reads_opt))]
+    fn optional_result(&mut self) -> Result<(bool, VoterReplacementResult), Refusal>
+        ensures { told result self.new.bytes.now ≡ reads (opt replacement_result blank_voter_replacement_result) self.old.bytes.now }
+    {
+        if !self.flag()? {
+            return Ok((false, blank_voter_replacement_result()));
+        }
+        Ok((true, self.replacement_result()?))
+    }
+
+    // The front of a slot.
+    #[tactic(auto, using(format::specs::Reads::reads_three), unfolding(layout::specs::Layout::slot_member))]
+    fn slot_member(&mut self) -> Result<SlotMember, Refusal>
+        ensures { told result self.new.bytes.now ≡ reads slot_member self.old.bytes.now }
+    {
+        let identity = self.identity()?;
+        let retired_through = self.u64()?;
+        let binding = self.binding()?;
+        Ok(SlotMember {
+            member: member_of(identity, binding),
+            retired_through,
+        })
+    }
+
+    // A slot.
+    #[tactic(auto, using(format::specs::Reads::reads_three), unfolding(layout::specs::Layout::slot))]
+    fn slot(&mut self) -> Result<VoterSlotRecord, Refusal>
+        ensures { told result self.new.bytes.now ≡ reads slot self.old.bytes.now }
+    {
+        let head = self.slot_member()?;
+        let phase = self.choice(PENDING, VOTING)?;
+        let (has_last_result, last_result) = self.optional_result()?;
+        Ok(VoterSlotRecord {
+            member: head.member,
+            retired_through: head.retired_through,
+            phase,
+            has_last_result,
+            last_result,
+        })
+    }
+
+    // The first so many of the nine places; blanks after them.
+    #[tactic(auto, using(format::specs::ReadsMore::filled_none, format::specs::ReadsMore::filled_next, format::specs::ReadsMore::padded_refused, format::specs::ReadsMore::padded_filled), unfolding(layout::specs::Layout::slots, layout::specs::Parts::blank_voter_slot_records))]
+    fn slots(&mut self, count: usize) -> Result<[VoterSlotRecord; MAX_FIXED_VOTER_SLOTS], Refusal>
+        requires { count ≤ 9 }
+        ensures { told result self.new.bytes.now ≡ reads (slots count) self.old.bytes.now }
+    {
+        let mut value = blank_voter_slot_records();
+        for i in 0..count {
+            value[i] = self.slot()?;
+        }
+        Ok(value)
+    }
+
+    // The groups of an attestation.
+    #[tactic(auto, using(format::specs::Reads::reads_three), unfolding(layout::specs::Layout::claims_request))]
+    fn claims_request(&mut self) -> Result<ClaimsRequest, Refusal>
+        ensures { told result self.new.bytes.now ≡ reads claims_request self.old.bytes.now }
+    {
+        self.version()?;
+        Ok(ClaimsRequest {
+            request_id: self.array()?,
+            request_digest: self.array()?,
+        })
+    }
+
+    #[tactic(auto, using(format::specs::Reads::reads_four), unfolding(layout::specs::Layout::claims_slot))]
+    fn claims_slot(&mut self) -> Result<ClaimsSlot, Refusal>
+        ensures { told result self.new.bytes.now ≡ reads claims_slot self.old.bytes.now }
+    {
+        Ok(ClaimsSlot {
+            cluster_instance: self.array()?,
+            identity: self.identity()?,
+            old_descriptor_digest: self.array()?,
+            candidate_key_digest: self.array()?,
+        })
+    }
+
+    #[tactic(auto, using(format::specs::Reads::reads_four), unfolding(layout::specs::Layout::claims_names))]
+    fn claims_names(&mut self) -> Result<ClaimsNames, Refusal>
+        ensures { told result self.new.bytes.now ≡ reads claims_names self.old.bytes.now }
+    {
+        Ok(ClaimsNames {
+            admission_generation: self.u64()?,
+            candidate_spiffe_id: self.spiffe_id()?,
+            controller_spiffe_id: self.spiffe_id()?,
+            signing_key_digest: self.array()?,
+        })
+    }
+
+    #[tactic(auto, using(format::specs::Reads::reads_four), unfolding(layout::specs::Layout::claims_end))]
+    fn claims_end(&mut self) -> Result<ClaimsEnd, Refusal>
+        ensures { told result self.new.bytes.now ≡ reads claims_end self.old.bytes.now }
+    {
+        Ok(ClaimsEnd {
+            reason: self.choice(STORAGE_LOST, TIME_BOUND_LOSS)?,
+            policy_digest: self.array()?,
+            times: self.times()?,
+            signature: self.array()?,
+        })
+    }
+
+    // The fields of an attestation; anything may come after them.
+    #[tactic(auto, using(format::specs::Reads::reads_four), unfolding(layout::specs::Layout::claims))]
+    pub fn attestation(&mut self) -> Result<LostVoterAttestationV1, Refusal>
+        ensures { told result self.new.bytes.now ≡ reads claims self.old.bytes.now }
+    {
+        let request = self.claims_request()?;
+        let slot = self.claims_slot()?;
+        let names = self.claims_names()?;
+        let end = self.claims_end()?;
+        Ok(attestation_of(request, slot, names, end))
+    }
+
+    // `sized_bytes(MAX_LOST_VOTER_ATTESTATION_BYTES)`, and the attestation in them.
+    #[tactic(auto, using(format::specs::ReadsMore::reads_boxed), unfolding(layout::specs::Layout::sized))]
+    fn boxed_attestation(&mut self) -> Result<LostVoterAttestationV1, Refusal>
+        ensures { told result self.new.bytes.now ≡ reads (boxed attestation 8192) self.old.bytes.now }
+    {
+        read_whole_attestation(self.sized_bytes(MAX_LOST_VOTER_ATTESTATION_BYTES)?)
+    }
+
+    // The evidence of a snapshot.
+    #[tactic(auto, using(format::specs::Reads::reads_three), unfolding(layout::specs::Layout::snapshot))]
+    fn snapshot(&mut self) -> Result<VoterSnapshotEvidence, Refusal>
+        ensures { told result self.new.bytes.now ≡ reads snapshot self.old.bytes.now }
+    {
+        Ok(VoterSnapshotEvidence {
+            cut: self.log_id()?,
+            snapshot_id: self.snapshot_id()?,
+            digest: self.array()?,
+        })
+    }
+
+    // A snapshot, or none.
+    #[tactic(auto, using(format::specs::Reads::reads_opt))]
+    fn optional_snapshot(&mut self) -> Result<(bool, VoterSnapshotEvidence), Refusal>
+        ensures { told result self.new.bytes.now ≡ reads (opt snapshot blank_voter_snapshot_evidence) self.old.bytes.now }
+    {
+        if !self.flag()? {
+            return Ok((false, blank_voter_snapshot_evidence()));
+        }
+        Ok((true, self.snapshot()?))
+    }
+
+    // The evidence of a replacement.
+    #[tactic(auto, using(format::specs::Reads::reads_four), unfolding(layout::specs::Layout::evidence))]
+    fn evidence(&mut self) -> Result<VoterReplacementEvidence, Refusal>
+        ensures { told result self.new.bytes.now ≡ reads evidence self.old.bytes.now }
+    {
+        let prepare = self.log_id()?;
+        let (has_snapshot, snapshot) = self.optional_snapshot()?;
+        let early = self.three_cuts()?;
+        let late = self.three_cuts()?;
+        Ok(evidence_of(prepare, has_snapshot, snapshot, early, late))
+    }
+
+    // What an open request changes, and how far it is.
+    #[tactic(auto, using(format::specs::Reads::reads_three), unfolding(layout::specs::Layout::change))]
+    fn change(&mut self) -> Result<Change, Refusal>
+        ensures { told result self.new.bytes.now ≡ reads change self.old.bytes.now }
+    {
+        Ok(Change {
+            predecessor: self.configuration()?,
+            successor: self.configuration()?,
+            phase: self.choice(PREPARED, UNIFORM)?,
+        })
+    }
+
+    // An open request.
+    #[tactic(auto, using(format::specs::Reads::reads_four), unfolding(layout::specs::Layout::replacement))]
+    fn replacement(&mut self) -> Result<VoterReplacementRecord, Refusal>
+        ensures { told result self.new.bytes.now ≡ reads replacement self.old.bytes.now }
+    {
+        let expected_revision = self.u64()?;
+        let attestation = self.boxed_attestation()?;
+        let change = self.change()?;
+        let evidence = self.evidence()?;
+        Ok(replacement_of(
+            expected_revision,
+            attestation,
+            change,
+            evidence,
+        ))
+    }
+
+    // The front of a table.
+    #[tactic(auto, using(format::specs::Reads::reads_four), unfolding(layout::specs::Layout::table_head))]
+    fn table_head(&mut self) -> Result<TableHead, Refusal>
+        ensures { told result self.new.bytes.now ≡ reads table_head self.old.bytes.now }
+    {
+        Ok(TableHead {
+            cluster_instance: self.array()?,
+            manifest_digest: self.array()?,
+            revision: self.u64()?,
+            configuration_epoch: self.epoch()?,
+        })
+    }
+
+    // The fields of a table; anything may come after them. The table is made here, where its cursor
+    // is known: passed on by a reader of the open request's end, its 8 KB would be copied once
+    // more.
+    #[tactic(auto, using(layout::specs::ReadingLaws::reads_table, format::specs::Reads::reads_opt))]
+    pub fn table(&mut self) -> Result<VoterSlotTable, Refusal>
+        ensures { told result self.new.bytes.now ≡ reads table self.old.bytes.now }
+    {
+        self.magic_and_version()?;
+        let head = self.table_head()?;
+        let count = self.count()?;
+        let slots = self.slots(count)?;
+        if !self.flag()? {
+            return Ok(idle_table_of(head, count, slots));
+        }
+        let replacement = self.replacement()?;
+        Ok(table_of_parts(head, count, slots, true, replacement))
+    }
+}
+
+// All of the bytes are one attestation, of the rule of validation.rs.
+#[tactic(auto, using(format::specs::ReadsMore::reads_whole, format::specs::Reads::reads_check), unfolding(layout::specs::Layout::attestation, format::specs::Num::pick))]
+pub fn read_whole_attestation(bytes: &[u8]) -> Result<LostVoterAttestationV1, Refusal>
+    ensures { told_whole result (length bytes.now) ≡ whole attestation bytes.now }
+{
+    let mut input = Reader::new(bytes);
+    let attestation = input.attestation()?;
+    input.finish()?;
+    if !is_valid_attestation(attestation) {
+        return Err(Refusal::InvalidRecord);
+    }
+    Ok(attestation)
+}
