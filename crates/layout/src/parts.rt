@@ -8,7 +8,7 @@
 // takes it.
 ghost use Rattle.std.specs.Prelude.{false, ◌≡◌};
 ghost use Rattle.records.specs.Blank.{blank_voter_replacement_record};
-ghost use Rattle.layout.specs.Parts.{blank_binding, blank_result_head, blank_slot_member, blank_claims_request, blank_claims_slot, blank_claims_names, blank_claims_end, blank_change, blank_table_head, member_of, result_of, attestation_of, evidence_of, early_cuts, late_cuts, replacement_of, table_of};
+ghost use Rattle.layout.specs.Parts.{blank_binding, blank_result_head, blank_slot_member, blank_claims_request, blank_claims_slot, blank_claims_names, blank_claims_end, blank_change, blank_table_head, blank_voter_slot_members, blank_voter_slot_records, member_of, result_of, attestation_of, evidence_of, early_cuts, late_cuts, replacement_of, table_of};
 
 use identity::identity::*;
 use records::blank::*;
@@ -214,6 +214,21 @@ pub fn blank_table_head() -> TableHead
         revision: 0,
         configuration_epoch: 0,
     }
+}
+
+// The nine places, all blank.
+pub fn blank_voter_slot_members() -> [VoterSlotMember; MAX_FIXED_VOTER_SLOTS]
+    ensures { result ≡ blank_voter_slot_members }
+{
+    let blank = blank_voter_slot_member();
+    [blank; MAX_FIXED_VOTER_SLOTS]
+}
+
+pub fn blank_voter_slot_records() -> [VoterSlotRecord; MAX_FIXED_VOTER_SLOTS]
+    ensures { result ≡ blank_voter_slot_records }
+{
+    let blank = blank_voter_slot_record();
+    [blank; MAX_FIXED_VOTER_SLOTS]
 }
 
 // A member of its identity and its binding.
