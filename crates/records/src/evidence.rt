@@ -20,6 +20,7 @@ pub fn is_valid_log_id(cut: VoterSlotLogId) -> bool
 }
 
 // `VoterSlotLogId::follows`.
+#[tactic(auto, unfolding(crate::specs::Evidence::follows))]
 pub fn log_id_follows(cut: VoterSlotLogId, older: VoterSlotLogId, allow_equal: bool) -> bool
     ensures { result ≡ follows cut older allow_equal }
 {
@@ -30,6 +31,7 @@ pub fn log_id_follows(cut: VoterSlotLogId, older: VoterSlotLogId, allow_equal: b
 }
 
 // `VoterReplacementEvidence::validate`.
+#[tactic(auto, unfolding(crate::specs::Evidence::valid_evidence))]
 pub fn is_valid_evidence(evidence: VoterReplacementEvidence, phase: u8) -> bool
     ensures { result ≡ valid_evidence evidence phase }
 {
@@ -46,6 +48,7 @@ pub fn is_valid_evidence(evidence: VoterReplacementEvidence, phase: u8) -> bool
 }
 
 // Each stage follows the one before it.
+#[tactic(auto, unfolding(crate::specs::Evidence::valid_stages))]
 fn are_valid_stages(evidence: VoterReplacementEvidence, phase: u8) -> bool
     ensures { result ≡ valid_stages evidence phase }
 {
@@ -84,6 +87,7 @@ pub fn snapshot_cut(evidence: VoterReplacementEvidence) -> OptionalLogId
 }
 
 // A stage is present exactly where it is due, and follows the one before it.
+#[tactic(auto, unfolding(crate::specs::Evidence::valid_stage))]
 fn is_valid_stage(
     stage: OptionalLogId,
     due: bool,
@@ -99,6 +103,7 @@ fn is_valid_stage(
 }
 
 // The cut that the next stage is to follow.
+#[tactic(auto, unfolding(crate::specs::Evidence::stage_or))]
 fn stage_or(stage: OptionalLogId, previous: VoterSlotLogId) -> VoterSlotLogId
     ensures { result ≡ stage_or stage previous }
 {
@@ -106,6 +111,7 @@ fn stage_or(stage: OptionalLogId, previous: VoterSlotLogId) -> VoterSlotLogId
 }
 
 // The continuation lies between prepare and fence, in order with the other cuts.
+#[tactic(auto, unfolding(crate::specs::Evidence::valid_continuation))]
 fn is_valid_continuation(evidence: VoterReplacementEvidence) -> bool
     ensures { result ≡ valid_continuation evidence }
 {
@@ -132,6 +138,7 @@ fn is_valid_continuation(evidence: VoterReplacementEvidence) -> bool
 
 // Of the continuation and another cut the later one follows the other; a snapshot may have the same
 // cut.
+#[tactic(auto, unfolding(crate::specs::Evidence::in_order))]
 pub fn is_in_order(continuation: VoterSlotLogId, other: OptionalLogId, is_snapshot: bool) -> bool
     ensures { result ≡ in_order continuation other is_snapshot }
 {
@@ -158,6 +165,7 @@ pub fn is_valid_snapshot_id(id: SnapshotId) -> bool
 }
 
 // `VoterReplacementEvidence::retains`.
+#[tactic(auto, unfolding(crate::specs::Evidence::retains))]
 pub fn evidence_retains(
     new: VoterReplacementEvidence,
     old: VoterReplacementEvidence,
@@ -180,6 +188,7 @@ pub fn evidence_retains(
 }
 
 // The cuts that stay as they are once they are present.
+#[tactic(auto, unfolding(crate::specs::Evidence::retains_cuts))]
 fn retains_cuts(new: VoterReplacementEvidence, old: VoterReplacementEvidence) -> bool
     ensures { result ≡ retains_cuts new old }
 {
@@ -202,6 +211,7 @@ fn retains_cuts(new: VoterReplacementEvidence, old: VoterReplacementEvidence) ->
 }
 
 // A cut that was present is the same still.
+#[tactic(auto, unfolding(crate::specs::Evidence::retains_cut))]
 fn retains_cut(new: OptionalLogId, old: OptionalLogId) -> bool
     ensures { result ≡ retains_cut new old }
 {
@@ -212,6 +222,7 @@ fn retains_cut(new: OptionalLogId, old: OptionalLogId) -> bool
 }
 
 // A mark that was present is the same still or, before the fence, a later one.
+#[tactic(auto, unfolding(crate::specs::Evidence::retains_marker))]
 fn retains_marker(new: OptionalLogId, old: OptionalLogId, old_phase: u8) -> bool
     ensures { result ≡ retains_marker new old old_phase }
 {
@@ -223,6 +234,7 @@ fn retains_marker(new: OptionalLogId, old: OptionalLogId, old_phase: u8) -> bool
 }
 
 // `VoterReplacementEvidence::latest`.
+#[tactic(auto, unfolding(crate::specs::Evidence::latest))]
 pub fn latest_cut(evidence: VoterReplacementEvidence) -> VoterSlotLogId
     ensures { result ≡ latest evidence }
 {
@@ -243,6 +255,7 @@ pub fn latest_cut(evidence: VoterReplacementEvidence) -> VoterSlotLogId
 }
 
 // The one of greater index, where the stage is present.
+#[tactic(auto, unfolding(crate::specs::Evidence::later_of))]
 fn later_of(latest: VoterSlotLogId, stage: OptionalLogId) -> VoterSlotLogId
     ensures { result ≡ later_of latest stage }
 {

@@ -15,6 +15,7 @@ use identity::identity::{MAX_VOTER_INCARNATION, VoterIncarnation};
 use identity::text::{MAX_VOTER_SNAPSHOT_ID_BYTES, MAX_VOTER_SPIFFE_ID_BYTES, is_utf8};
 
 // Whether the Rust types can hold the table.
+#[tactic(auto, unfolding(crate::specs::Representable::representable))]
 pub fn is_representable(table: VoterSlotTable) -> bool
     ensures { result ≡ representable table }
 {
@@ -56,6 +57,7 @@ fn slot_places(table: VoterSlotTable) -> bool
 }
 
 // Whether the Rust types can hold the slot's record.
+#[tactic(auto, unfolding(crate::specs::Representable::representable_slot_record))]
 fn is_representable_slot_record(slot: VoterSlotRecord) -> bool
     ensures { result ≡ representable_slot_record slot }
 {
@@ -74,6 +76,7 @@ fn is_representable_slot_record(slot: VoterSlotRecord) -> bool
 }
 
 // Whether the Rust types can hold the member.
+#[tactic(auto, unfolding(crate::specs::Representable::representable_member))]
 pub fn is_representable_member(member: VoterSlotMember) -> bool
     ensures { result ≡ representable_member member }
 {
@@ -88,6 +91,7 @@ fn is_incarnation(value: VoterIncarnation) -> bool
 }
 
 // Whether the Rust types can hold the receipt.
+#[tactic(auto, unfolding(crate::specs::Representable::representable_result))]
 fn is_representable_result(res: VoterReplacementResult) -> bool
     ensures { result ≡ representable_result res }
 {
@@ -95,6 +99,7 @@ fn is_representable_result(res: VoterReplacementResult) -> bool
 }
 
 // Whether the Rust types can hold the replacement.
+#[tactic(auto, unfolding(crate::specs::Representable::representable_replacement))]
 fn is_representable_replacement(replacement: VoterReplacementRecord) -> bool
     ensures { result ≡ representable_replacement replacement }
 {
@@ -118,6 +123,7 @@ fn is_representable_replacement(replacement: VoterReplacementRecord) -> bool
 }
 
 // Whether the Rust types can hold the attestation.
+#[tactic(auto, unfolding(crate::specs::Representable::representable_attestation))]
 pub fn is_representable_attestation(attestation: LostVoterAttestationV1) -> bool
     ensures { result ≡ representable_attestation attestation }
 {
@@ -133,6 +139,7 @@ pub fn is_representable_attestation(attestation: LostVoterAttestationV1) -> bool
 }
 
 // Whether the name is UTF-8 with zeros after it.
+#[tactic(auto, unfolding(crate::specs::Representable::is_text))]
 fn is_representable_spiffe_id(id: SpiffeId) -> bool
     ensures { result ≡ representable_spiffe_id id }
 {
@@ -144,6 +151,7 @@ fn is_representable_spiffe_id(id: SpiffeId) -> bool
 }
 
 // Whether the snapshot id is UTF-8 with zeros after it.
+#[tactic(auto, unfolding(crate::specs::Representable::is_text))]
 fn is_representable_snapshot_id(id: SnapshotId) -> bool
     ensures { result ≡ representable_snapshot_id id }
 {
@@ -165,6 +173,7 @@ fn is_text(bytes: &[u8], len: usize) -> bool
 }
 
 // Whether the Rust types can hold the configuration.
+#[tactic(auto, unfolding(crate::specs::Representable::representable_configuration))]
 fn is_representable_configuration(configuration: VoterConfiguration) -> bool
     ensures { result ≡ representable_configuration configuration }
 {
@@ -202,6 +211,7 @@ fn is_member_place(past: bool, member: VoterSlotMember) -> bool
 }
 
 // Whether the Rust types can hold the evidence.
+#[tactic(auto, unfolding(crate::specs::Representable::representable_evidence))]
 fn is_representable_evidence(evidence: VoterReplacementEvidence) -> bool
     ensures { result ≡ representable_evidence evidence }
 {
@@ -243,6 +253,7 @@ pub fn is_representable_snapshot(snapshot: VoterSnapshotEvidence) -> bool
 }
 
 // Whether the cut is there, or blank.
+#[tactic(auto, unfolding(crate::specs::Representable::representable_optional_log_id))]
 fn is_representable_optional_log_id(optional: OptionalLogId) -> bool
     ensures { result ≡ representable_optional_log_id optional }
 {

@@ -19,6 +19,7 @@ use identity::answer::{Answer, Refusal, accepted};
 use identity::identity::{ConsensusConfigurationEpoch, MAX_VOTER_INCARNATION, SlotId};
 
 // `VoterSlotTable::validate_successor_of`: 30, the new table's number, the old one's, 7.
+#[tactic(auto, unfolding(crate::specs::Successor::validate_successor_of, crate::specs::Representable::representable))]
 pub fn validate_successor_of(new: VoterSlotTable, old: VoterSlotTable) -> Answer
     ensures { result ≡ validate_successor_of new old }
 {
@@ -40,6 +41,7 @@ pub fn validate_successor_of(new: VoterSlotTable, old: VoterSlotTable) -> Answer
 }
 
 // The check of two tables that are valid.
+#[tactic(auto, unfolding(crate::specs::Successor::succession))]
 pub fn validate_succession(new: VoterSlotTable, old: VoterSlotTable) -> Answer
     requires { new.count ≤ 9 }
     ensures { result ≡ succession new old }
@@ -67,6 +69,7 @@ fn kept(yes: bool) -> Answer
 }
 
 // Cluster, manifest and count are the same, and neither the revision nor the epoch falls.
+#[tactic(auto, unfolding(crate::specs::Successor::head_succeeds))]
 fn head_succeeds(new: VoterSlotTable, old: VoterSlotTable) -> bool
     ensures { result ≡ head_succeeds new old }
 {
@@ -103,6 +106,7 @@ fn slots_succeed(new: VoterSlotTable, old: VoterSlotTable) -> bool
 
 // Floor and incarnation do not fall. Of the same incarnation the member stays and the phase does
 // not fall; a later one has a greater generation. A receipt stays, or a later one takes its place.
+#[tactic(auto, unfolding(crate::specs::Successor::slot_succeeds))]
 fn slot_succeeds(new: VoterSlotRecord, old: VoterSlotRecord) -> bool
     ensures { result ≡ slot_succeeds new old }
 {
@@ -124,6 +128,7 @@ fn slot_succeeds(new: VoterSlotRecord, old: VoterSlotRecord) -> bool
 }
 
 // The receipt is the old one, or has a greater revision and incarnation, and no lower epoch.
+#[tactic(auto, unfolding(crate::specs::Successor::result_succeeds))]
 fn result_succeeds(new: VoterReplacementResult, old: VoterReplacementResult) -> bool
     ensures { result ≡ result_succeeds new old }
 {
@@ -136,6 +141,7 @@ fn result_succeeds(new: VoterReplacementResult, old: VoterReplacementResult) -> 
 }
 
 // The request that was open stays open, or has ended.
+#[tactic(auto, unfolding(crate::specs::Successor::replacement_succeeds))]
 fn replacement_succeeds(new: VoterSlotTable, old: VoterSlotTable) -> Answer
     requires { new.count ≤ 9 }
     ensures { result ≡ replacement_succeeds new old }
@@ -155,6 +161,7 @@ fn replacement_succeeds(new: VoterSlotTable, old: VoterSlotTable) -> Answer
 }
 
 // The same request stays open.
+#[tactic(auto, unfolding(crate::specs::Successor::request_succeeds))]
 fn request_succeeds(new: VoterReplacementRecord, old: VoterReplacementRecord) -> bool
     ensures { result ≡ request_succeeds new old }
 {
@@ -176,6 +183,7 @@ fn request_succeeds(new: VoterReplacementRecord, old: VoterReplacementRecord) ->
 }
 
 // The request that was open has ended.
+#[tactic(auto, unfolding(crate::specs::Successor::ended_succeeds))]
 fn ended_succeeds(new: VoterSlotTable, old: VoterReplacementRecord) -> Answer
     requires { new.count ≤ 9 }
     ensures { result ≡ ended_succeeds new old }
@@ -212,6 +220,7 @@ pub fn slot_index(table: VoterSlotTable, slot: SlotId) -> usize
 }
 
 // The receipt of the slot whose request was open tells how the request ended.
+#[tactic(auto, unfolding(crate::specs::Successor::request_ended))]
 fn request_ended(
     epoch: ConsensusConfigurationEpoch,
     old: VoterReplacementRecord,
@@ -229,6 +238,7 @@ fn request_ended(
 }
 
 // The receipt is the one of the request itself.
+#[tactic(auto, unfolding(crate::specs::Successor::own_receipt))]
 fn is_own_receipt(
     epoch: ConsensusConfigurationEpoch,
     old: VoterReplacementRecord,

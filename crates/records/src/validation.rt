@@ -53,6 +53,7 @@ pub fn is_valid_count(count: usize) -> bool
 }
 
 // `VoterConfiguration::validate`.
+#[tactic(auto, unfolding(crate::specs::Validation::valid_configuration))]
 fn is_valid_configuration(configuration: VoterConfiguration) -> bool
     ensures { result ≡ valid_configuration configuration }
 {
@@ -95,6 +96,7 @@ fn members_rise(configuration: VoterConfiguration) -> bool
 }
 
 // `LostVoterAttestationV1::validate`.
+#[tactic(auto, unfolding(crate::specs::Validation::valid_attestation))]
 pub fn is_valid_attestation(attestation: LostVoterAttestationV1) -> bool
     ensures { result ≡ valid_attestation attestation }
 {
@@ -143,6 +145,7 @@ pub fn are_valid_times(
 }
 
 // `VoterSlotTable::validate`, after 30.
+#[tactic(auto, unfolding(crate::specs::Validation::validate, crate::specs::Representable::representable))]
 pub fn validate_table(table: VoterSlotTable) -> Answer
     ensures { result ≡ validate table }
 {
@@ -153,6 +156,7 @@ pub fn validate_table(table: VoterSlotTable) -> Answer
 }
 
 // Validity of a table that has passed the representability check.
+#[tactic(auto, unfolding(crate::specs::Validation::validity, crate::specs::Validation::validate_operation, crate::specs::Validation::valid_operation, crate::specs::Validation::valid_attestation))]
 pub fn validate_representable(table: VoterSlotTable) -> Answer
     requires { table.count ≤ 9 }
     ensures { result ≡ validity table }
@@ -200,6 +204,7 @@ fn all_voting(table: VoterSlotTable) -> bool
 }
 
 // `VoterSlotTable::validate` up to the open request.
+#[tactic(auto, unfolding(crate::specs::Validation::valid_slots))]
 fn are_valid_slots(table: VoterSlotTable) -> bool
     requires { table.count ≤ 9 }
     ensures { result ≡ valid_slots table }
@@ -247,6 +252,7 @@ fn each_slot_valid(table: VoterSlotTable) -> bool
 }
 
 // One slot, in a table of that revision and epoch; active where it is being replaced.
+#[tactic(auto, unfolding(crate::specs::Validation::valid_slot))]
 fn is_valid_slot(
     revision: u64,
     epoch: ConsensusConfigurationEpoch,
@@ -265,6 +271,7 @@ fn is_valid_slot(
 }
 
 // The receipt of one slot.
+#[tactic(auto, unfolding(crate::specs::Validation::valid_result))]
 fn is_valid_result(
     revision: u64,
     epoch: ConsensusConfigurationEpoch,
@@ -331,6 +338,7 @@ fn are_distinct_results(a: VoterSlotRecord, b: VoterSlotRecord) -> bool
 }
 
 // `VoterSlotTable::validate_operation`, after the names.
+#[tactic(auto, unfolding(crate::specs::Validation::validate_operation))]
 fn validate_operation(table: VoterSlotTable) -> Answer
     requires count_bound { table.count ≤ 9 }
     requires names_hold { NamesHold table.replacement.attestation }
@@ -347,6 +355,7 @@ fn validate_operation(table: VoterSlotTable) -> Answer
 }
 
 // The open request itself, after the names, and against the table's head.
+#[tactic(auto, unfolding(crate::specs::Validation::valid_operation, crate::specs::Validation::valid_attestation))]
 fn is_valid_operation(table: VoterSlotTable) -> bool
     requires { NamesHold table.replacement.attestation }
     ensures { result ≡ valid_operation table table.replacement }
@@ -377,6 +386,7 @@ fn is_valid_operation(table: VoterSlotTable) -> bool
 
 // The open request against the revision, the cluster and the count of the table, and its two
 // epochs.
+#[tactic(auto, unfolding(crate::specs::Validation::valid_operation_head))]
 fn is_valid_operation_head(table: VoterSlotTable) -> bool
     ensures { result ≡ valid_operation_head table table.replacement }
 {
@@ -396,6 +406,7 @@ fn is_valid_operation_head(table: VoterSlotTable) -> bool
 }
 
 // The table's epoch is the successor's in Uniform, and the predecessor's in each phase before it.
+#[tactic(auto, unfolding(crate::specs::Validation::is_current_epoch))]
 fn is_current_epoch(table: VoterSlotTable) -> bool
     ensures { result ≡ is_current_epoch table table.replacement }
 {
@@ -479,6 +490,7 @@ fn has_target(table: VoterSlotTable) -> bool
 
 // The slot that is being replaced, and its two members; the caller has compared it with both, and
 // its receipt with the request.
+#[tactic(auto, unfolding(crate::specs::Validation::validate_member))]
 fn validate_target(
     claims: Claims,
     current: bool,
@@ -522,6 +534,7 @@ fn is_other_request(claims: Claims, slot: VoterSlotRecord) -> bool
 }
 
 // The slot that is being replaced, after the tests of `validate_target`.
+#[tactic(auto, unfolding(crate::specs::Validation::valid_target))]
 fn is_valid_target(
     claims: Claims,
     slot: VoterSlotRecord,
@@ -545,6 +558,7 @@ fn is_valid_target(
 }
 
 // The member that is being replaced: the attested one, or one whose candidate was superseded.
+#[tactic(auto, unfolding(crate::specs::Validation::retired_member))]
 fn is_retired_member(claims: Claims, slot: VoterSlotRecord, predecessor: VoterSlotMember) -> bool
     ensures { result ≡ retired_member claims slot predecessor }
 {
