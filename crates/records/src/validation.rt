@@ -14,7 +14,6 @@ use crate::equality::*;
 use crate::evidence::{is_valid_evidence, is_valid_log_id};
 use crate::number::is_next;
 use crate::records::*;
-use crate::representable::is_representable;
 use identity::answer::{Answer, Refusal};
 use identity::identity::*;
 use identity::text::{MAX_VOTER_SPIFFE_ID_BYTES, is_name};
@@ -171,7 +170,7 @@ pub fn are_valid_times(
 pub fn validate_table(table: VoterSlotTable) -> Answer
     ensures { result ≡ validate table }
 {
-    if !is_representable(table) {
+    if !table.is_representable() {
         return Err(Refusal::Unrepresentable);
     }
     validate_representable(table)
