@@ -3,12 +3,13 @@
 -- Each name here is a step of a proof; what is right is said in Records.
 -- Assumes nothing.
 use Prim.Native.Nat.{ℕ, zero, suc, ◌+◌, ◌-◌, ◌<◌, ◌≤◌}
-use Rattle.std.specs.Prelude.{◌≡◌, refl, Bool, true, false, ◌&&◌, ◌||◌, leb, eqb, List, length, get_or, take}
+use Rattle.std.specs.Prelude.{◌≡◌, refl, Bool, true, false, cond, not, ◌&&◌, ◌||◌, leb, eqb, List, [], ◌∷◌, length, get_or, take}
 use Rattle.std.proofs.Common.{ap, ◌∙◌, add-one, le-leb, eqb-true}
 use Rattle.std.proofs.Math.Bool.{and-true, and-eq-true_iff}
 use native.Mathlib.Omega.{arith}
 use Rattle.std.proofs.lemmas.Bool.{lt-leb, eqb-false}
 use Rattle.std.proofs.lemmas.List.{get_or-take}
+use Rattle.std.specs.List.{position_or_len}
 use Rattle.records.specs.Records.{all_below, first_from}
 
 -- one more place
@@ -106,3 +107,21 @@ pub all_below-all : (p : ℕ → Bool) (n : ℕ) → ((i : ℕ) → i < n → p 
 unfolding all_below
 all_below-all p zero h = refl
 all_below-all p (suc n) h = rw (all_below-all p n (λ i l. h i (omega arith)), h n (omega arith))
+
+-- the first of the elements of a list
+pub first-position : {A : Type 0} (p : A → Bool) (d : A) (q : ℕ → Bool) (xs : List A) (i : ℕ)
+    → ((j : ℕ) → j < length xs → q (i + j) ≡ p (get_or xs j d)) → first_from q (length xs) i ≡ i + position_or_len p xs
+unfolding first_from
+first-position p d q [] i h = omega arith
+first-position p d q (x ∷ xs) i h =
+    rw (here, first-position p d q xs (i + 1) (λ j l. rest j l)) (by (p x))
+  where
+    here : q i ≡ p x
+    here = let e : i ≡ i + 0 = omega arith in ap q e ∙ h 0 (omega arith)
+
+    rest : (j : ℕ) → j < length xs → q (i + 1 + j) ≡ p (get_or xs j d)
+    rest j l = let e : i + 1 + j ≡ i + suc j = omega arith in ap q e ∙ h (suc j) (omega arith)
+
+    by : (b : Bool) → cond b i (i + 1 + position_or_len p xs) ≡ i + cond (not b) (1 + position_or_len p xs) 0
+    by true = omega arith
+    by false = omega arith

@@ -173,20 +173,15 @@ pub fn validate_table(table: VoterSlotTable) -> Answer
     if !table.is_representable() {
         return Err(Refusal::Unrepresentable);
     }
-    validate_representable(table)
+    table.validate()
 }
 
 // Validity of a table that has passed the representability check.
-#[tactic(auto, unfolding(crate::specs::Validation::validity))]
 pub fn validate_representable(table: VoterSlotTable) -> Answer
     requires { table.count ≤ 9 }
     ensures { result ≡ validity table }
 {
-    require(table.has_valid_slots())?;
-    if !table.has_replacement {
-        return require(all_voting(table.slots_in_use()));
-    }
-    table.validate_operation()
+    table.validate()
 }
 
 // With no request open every slot is voting.
@@ -260,6 +255,19 @@ fn has_target(slots: &[VoterSlotRecord], target: SlotId) -> bool
 }
 
 impl VoterSlotTable {
+    // `validate`, of a table that has passed the representability check.
+    #[tactic(auto, unfolding(crate::specs::Validation::validity))]
+    pub fn validate(&self) -> Answer
+        requires { self.now.count ≤ 9 }
+        ensures { result ≡ validity self.now }
+    {
+        require(self.has_valid_slots())?;
+        if !self.has_replacement {
+            return require(all_voting(self.slots_in_use()));
+        }
+        self.validate_operation()
+    }
+
     // `validate` up to the open request.
     #[tactic(auto, unfolding(crate::specs::Validation::valid_slots))]
     fn has_valid_slots(&self) -> bool
