@@ -11,7 +11,7 @@ ghost use Rattle.records.specs.Records.{all_below, slot_in};
 ghost use Rattle.records.specs.Successor.{own_receipt, or_regression, result_succeeds, slot_succeeds, request_succeeds, request_ended, slot_index, ended_succeeds, replacement_succeeds, head_succeeds, succession, validate_successor_of};
 
 use crate::equality::*;
-use crate::evidence::{evidence_retains, latest_cut, log_id_follows};
+use crate::evidence::log_id_follows;
 use crate::number::is_next;
 use crate::records::*;
 use identity::answer::{Answer, Refusal};
@@ -167,7 +167,7 @@ fn request_succeeds(new: &VoterReplacementRecord, old: &VoterReplacementRecord) 
     let same_attestation = same_lost_voter_attestation_v1(new.attestation, old.attestation);
     let same_predecessor = same_voter_configuration(new.predecessor, old.predecessor);
     let same_successor = same_voter_configuration(new.successor, old.successor);
-    let evidence_kept = evidence_retains(new.evidence, old.evidence, old.phase);
+    let evidence_kept = new.evidence.retains(&old.evidence, old.phase);
     (new.expected_revision == old.expected_revision)
         & (same_attestation
             & (same_predecessor & (same_successor & ((old.phase <= new.phase) & evidence_kept))))
@@ -197,7 +197,7 @@ fn request_ended(
 ) -> bool
     ensures { result ≡ request_ended epoch old.now receipt.now }
 {
-    let after = log_id_follows(receipt.terminal, latest_cut(old.evidence), false);
+    let after = log_id_follows(receipt.terminal, old.evidence.latest(), false);
     let own = is_next(old.attestation.expected_incarnation, receipt.incarnation);
     let told = is_own_receipt(epoch, old, receipt);
     (old.attestation.expected_incarnation < receipt.incarnation)

@@ -11,7 +11,7 @@ ghost use Rattle.records.specs.Records.{all_below, slot_in, member_in, voting};
 ghost use Rattle.records.specs.Validation.{require_of, valid_count, valid_configuration, valid_spiffe_id, valid_attestation, is_active, valid_result, valid_slot, distinct_results, valid_slots, target_phase, valid_operation_head, is_current_epoch, valid_operation, claims_of, superseded_receipt, retired_member, valid_target, other_request, validate_member, validate_members, validate_operation, validity, validate};
 
 use crate::equality::*;
-use crate::evidence::{is_valid_evidence, is_valid_log_id};
+use crate::evidence::is_valid_log_id;
 use crate::number::is_next;
 use crate::records::*;
 use identity::answer::{Answer, Refusal};
@@ -323,7 +323,7 @@ impl VoterSlotTable {
         if !operation.successor.is_valid() {
             return false;
         }
-        if !is_valid_evidence(operation.evidence, operation.phase) {
+        if !operation.evidence.is_valid(operation.phase) {
             return false;
         }
         self.is_valid_operation_head() & self.is_current_epoch()
@@ -425,14 +425,12 @@ impl Claims {
     fn of(operation: &VoterReplacementRecord) -> Claims
         ensures { result ≡ claims_of operation.now }
     {
-        let old_descriptor_digest = operation.attestation.old_descriptor_digest;
-        let candidate_key_digest = operation.attestation.candidate_key_digest;
         Claims {
             request_id: operation.attestation.request_id,
             slot: operation.attestation.slot,
             expected_incarnation: operation.attestation.expected_incarnation,
-            old_descriptor_digest,
-            candidate_key_digest,
+            old_descriptor_digest: operation.attestation.old_descriptor_digest,
+            candidate_key_digest: operation.attestation.candidate_key_digest,
             admission_generation: operation.attestation.admission_generation,
             phase: operation.phase,
             prepare: operation.evidence.prepare,
