@@ -60,7 +60,7 @@ pub const TIME_BOUND_LOSS: u8 = 2;
 
 // The name of a controller or a candidate: so many bytes, zero after them.
 #[repr(C)]
-#[derive(Clone, Copy)]
+#[derive(Clone, Copy, PartialEq, Eq)]
 pub struct SpiffeId {
     // Bytes in use, at most 2,048.
     pub len: usize,
@@ -70,7 +70,7 @@ pub struct SpiffeId {
 
 // The id of a snapshot: so many bytes, zero after them.
 #[repr(C)]
-#[derive(Clone, Copy)]
+#[derive(Clone, Copy, PartialEq, Eq)]
 pub struct SnapshotId {
     // Bytes in use, at most 256.
     pub len: usize,
@@ -80,7 +80,7 @@ pub struct SnapshotId {
 
 // A cut: a position in the log.
 #[repr(C)]
-#[derive(Clone, Copy)]
+#[derive(Clone, Copy, PartialEq, Eq)]
 pub struct VoterSlotLogId {
     // Engine leader term, retained without rewriting after replacement.
     pub term: u64,
@@ -90,7 +90,7 @@ pub struct VoterSlotLogId {
 
 // A cut that may be absent; it is 0, 0 then.
 #[repr(C)]
-#[derive(Clone, Copy)]
+#[derive(Clone, Copy, PartialEq, Eq)]
 pub struct OptionalLogId {
     // Whether the cut is present.
     pub is_some: bool,
@@ -100,7 +100,7 @@ pub struct OptionalLogId {
 
 // Public incarnation binding. No field establishes possession or authorization.
 #[repr(C)]
-#[derive(Clone, Copy)]
+#[derive(Clone, Copy, PartialEq, Eq)]
 pub struct VoterSlotMember {
     // Installation-scoped slot and incarnation.
     pub identity: VoterSlotIdentity,
@@ -114,7 +114,7 @@ pub struct VoterSlotMember {
 
 // One bounded per-slot receipt; floors still reject older attempts after pruning it.
 #[repr(C)]
-#[derive(Clone, Copy)]
+#[derive(Clone, Copy, PartialEq, Eq)]
 pub struct VoterReplacementResult {
     // Terminal request identity.
     pub request_id: ConsensusRequestId,
@@ -134,7 +134,7 @@ pub struct VoterReplacementResult {
 
 // Permanent retirement floor and bounded idempotency receipt for one manifest slot.
 #[repr(C)]
-#[derive(Clone, Copy)]
+#[derive(Clone, Copy, PartialEq, Eq)]
 pub struct VoterSlotRecord {
     // Currently selected incarnation and its public binding.
     pub member: VoterSlotMember,
@@ -150,7 +150,7 @@ pub struct VoterSlotRecord {
 
 // Exact artifact initially installed before adding the replacement learner.
 #[repr(C)]
-#[derive(Clone, Copy)]
+#[derive(Clone, Copy, PartialEq, Eq)]
 pub struct VoterSnapshotEvidence {
     // Full committed cut included by the artifact.
     pub cut: VoterSlotLogId,
@@ -162,7 +162,7 @@ pub struct VoterSnapshotEvidence {
 
 // Exact canonical configuration, sorted by immutable slot ordinal.
 #[repr(C)]
-#[derive(Clone, Copy)]
+#[derive(Clone, Copy, PartialEq, Eq)]
 pub struct VoterConfiguration {
     // Monotonic uniform configuration epoch.
     pub epoch: ConsensusConfigurationEpoch,
@@ -174,7 +174,7 @@ pub struct VoterConfiguration {
 
 // Bounded signed claims retained with a replacement (RFC 023, version 1): untrusted data.
 #[repr(C)]
-#[derive(Clone, Copy)]
+#[derive(Clone, Copy, PartialEq, Eq)]
 pub struct LostVoterAttestationV1 {
     // Caller-stable idempotency identity.
     pub request_id: ConsensusRequestId,
@@ -216,7 +216,7 @@ pub struct LostVoterAttestationV1 {
 
 // Retained full engine cuts. Optional continuation depends on activation family.
 #[repr(C)]
-#[derive(Clone, Copy)]
+#[derive(Clone, Copy, PartialEq, Eq)]
 pub struct VoterReplacementEvidence {
     // Committed retirement and reservation cut.
     pub prepare: VoterSlotLogId,
@@ -240,7 +240,7 @@ pub struct VoterReplacementEvidence {
 
 // One durable desired replacement; decode alone never establishes authorization.
 #[repr(C)]
-#[derive(Clone, Copy)]
+#[derive(Clone, Copy, PartialEq, Eq)]
 pub struct VoterReplacementRecord {
     // Exact table revision against which the reservation was submitted.
     pub expected_revision: u64,
@@ -258,7 +258,7 @@ pub struct VoterReplacementRecord {
 
 // Reserved durable incarnation metadata, atomically included in store snapshots.
 #[repr(C)]
-#[derive(Clone, Copy)]
+#[derive(Clone, Copy, PartialEq, Eq)]
 pub struct VoterSlotTable {
     // Installation identity, never derived solely from a reused display name.
     pub cluster_instance: ConsensusClusterId,
