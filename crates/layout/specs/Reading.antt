@@ -6,39 +6,8 @@
 use Rattle.std.specs.Prelude.{ℕ, Result, Ok, Err}
 use Rattle.format.specs.Res.{Res}
 use Rattle.format.specs.Res.Res.{ok, no}
-<<<<<<< HEAD
-use Rattle.identity.specs.Answer.{number_of, Answer, InvalidRecord}
-use Rattle.identity.specs.declared.identity.VoterSlotIdentity.{VoterSlotIdentity}
-use Rattle.records.specs.declared.records.VoterSlotLogId.{VoterSlotLogId}
-use Rattle.records.specs.declared.records.OptionalLogId.{OptionalLogId}
-use Rattle.layout.specs.declared.parts.ThreeCuts.{ThreeCuts}
-use Rattle.layout.specs.declared.parts.Times.{Times}
-use Rattle.layout.specs.declared.reading.Extent.{Extent}
-use Rattle.layout.specs.declared.reading.Extent.TheVariants as reading
-use Rattle.layout.specs.declared.reading.SizedRead.{SizedRead}
-use Rattle.layout.specs.declared.reading.SizedRead.TheVariants as sized-read
-use Rattle.layout.specs.declared.reading.U64Read.{U64Read}
-use Rattle.layout.specs.declared.reading.U64Read.TheVariants as u64-read
-use Rattle.layout.specs.declared.reading.U16Read.{U16Read}
-use Rattle.layout.specs.declared.reading.U16Read.TheVariants as u16-read
-use Rattle.layout.specs.declared.reading.U8Read.{U8Read}
-use Rattle.layout.specs.declared.reading.U8Read.TheVariants as u8-read
-use Rattle.layout.specs.declared.reading.BoolRead.{BoolRead}
-use Rattle.layout.specs.declared.reading.BoolRead.TheVariants as bool-read
-use Rattle.layout.specs.declared.reading.IdentityRead.{IdentityRead}
-use Rattle.layout.specs.declared.reading.IdentityRead.TheVariants as identity-read
-use Rattle.layout.specs.declared.reading.LogIdRead.{LogIdRead}
-use Rattle.layout.specs.declared.reading.LogIdRead.TheVariants as log-id-read
-use Rattle.layout.specs.declared.reading.OptionalLogIdRead.{OptionalLogIdRead}
-use Rattle.layout.specs.declared.reading.OptionalLogIdRead.TheVariants as optional-log-id-read
-use Rattle.layout.specs.declared.reading.ThreeCutsRead.{ThreeCutsRead}
-use Rattle.layout.specs.declared.reading.ThreeCutsRead.TheVariants as three-cuts-read
-use Rattle.layout.specs.declared.reading.TimesRead.{TimesRead}
-use Rattle.layout.specs.declared.reading.TimesRead.TheVariants as times-read
-=======
 use Rattle.identity.specs.Answer.{number_of_refusal}
 use Rattle.identity.specs.declared.answer.Refusal.{Refusal}
->>>>>>> 4a34dc09ca0a87684cec3890316f43374a38fe13
 
 -- how far was written, or the number of the refusal
 abbrev pub report : Result ℕ Refusal → Res (Unit {0})

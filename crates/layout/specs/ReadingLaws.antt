@@ -3,11 +3,11 @@
 -- Assumes nothing.
 use Rattle.std.specs.Prelude.{ℕ, ◌-◌, ◌≡◌, refl, Bool, ◌&&◌, List, [], ◌∷◌, drop, replicate, eqb}
 use Rattle.std.proofs.Common.{ap, ◌∙◌}
-use Rattle.format.specs.Combinators.{Codec, dep, check, via}
+use Rattle.format.specs.Combinators.{dep, check}
 use Rattle.format.specs.Num.{uint, raw}
 use Rattle.format.specs.Copy.{drop-replicate}
 use Rattle.format.specs.Reads.{reads, then_read, made_read, tested_read, reads_via, reads_check, reads_two, reads_pair, fused, same_then}
-use Rattle.records.specs.Equality.{eq_list, eq_bytes}
+use Rattle.records.specs.Equality.{eq_bytes}
 use Rattle.layout.specs.Layout.{magic, head_test, magic_and_version, table_head, slot_count, slots, replacement, table_front, table}
 use Rattle.layout.specs.Parts.{table_of}
 use Rattle.format.specs.List.{opt}
@@ -17,7 +17,6 @@ use lib.Pointwise.{pointwise}
 
 -- equality of bytes, as the library has it
 pub same_bytes : (a b : List ℕ) → pointwise eqb a b ≡ eq_bytes a b
-unfolding eq_list
 same_bytes [] [] = refl
 same_bytes [] (y ∷ b) = refl
 same_bytes (x ∷ a) [] = refl
