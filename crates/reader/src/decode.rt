@@ -309,7 +309,8 @@ impl<'a> Reader<'a> {
         let head = self.table_head()?;
         let count = self.count()?;
         let slots = self.slots(count)?;
-        if !self.flag()? {
+        let is_open = self.flag()?;
+        if !is_open {
             return Ok(idle_table_of(head, count, slots));
         }
         let replacement = self.replacement()?;
