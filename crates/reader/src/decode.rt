@@ -3,7 +3,7 @@
 // Ported from crates/opc-consensus/src/voter_slots/codec.rs of openpacketcore-sdk, commit
 // 717de332e7, Apache-2.0 (see NOTICE). Changed: groups of fields that stand together have a reader
 // of their own (layout's parts.rt); lists fill a place of nine.
-ghost use Rattle.std.specs.Prelude.{◌≡◌, ◌≤◌, length};
+ghost use Rattle.std.specs.Prelude.{◌≡◌, ◌≤◌, length, IfOk};
 ghost use Rattle.format.specs.List.{opt};
 ghost use Rattle.format.specs.Through.{whole, boxed};
 ghost use Rattle.format.specs.Reads.{reads};
@@ -302,13 +302,15 @@ impl<'a> Reader<'a> {
     // more.
     #[tactic(auto, using(layout::specs::ReadingLaws::reads_table, format::specs::Reads::reads_opt))]
     pub fn table(&mut self) -> Result<VoterSlotTable, Refusal>
-        ensures { told result self.new.bytes.now ≡ reads table self.old.bytes.now }
+        ensures form { told result self.new.bytes.now ≡ reads table self.old.bytes.now }
+        ensures small { IfOk result (λ table. table.count ≤ 9) }
     {
         self.magic_and_version()?;
         let head = self.table_head()?;
         let count = self.count()?;
         let slots = self.slots(count)?;
-        if !self.flag()? {
+        let is_open = self.flag()?;
+        if !is_open {
             return Ok(idle_table_of(head, count, slots));
         }
         let replacement = self.replacement()?;
