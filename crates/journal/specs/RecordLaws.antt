@@ -45,7 +45,7 @@ mark-at (a ∷ []) h = absurd (omega arith)
 mark-at (a ∷ b ∷ l) h = refl
 
 mark-none : (l : List ℕ) → length l < 2 → Unknown ≡ head_mark l
-unfolding mark_of eq_list
+unfolding mark_of
 mark-none [] h = refl
 mark-none (a ∷ []) h = simp and-false
 mark-none (a ∷ b ∷ l) h = absurd (omega arith)
