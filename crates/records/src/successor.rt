@@ -54,7 +54,7 @@ fn kept(yes: bool) -> Answer
 
 impl VoterSlotTable {
     // The check of two tables that are valid.
-    #[tactic(auto, unfolding(crate::specs::Successor::succession))]
+    #[tactic(auto, using(crate::proofs::InUse::succession_in_use), unfolding(crate::specs::Successor::succession))]
     fn validate_succession(&self, old: &VoterSlotTable) -> Answer
         requires { self.now.count ≤ 9 }
         ensures { result ≡ succession self.now old.now }
@@ -98,7 +98,7 @@ impl VoterSlotTable {
     }
 
     // The request that was open has ended.
-    #[tactic(auto, unfolding(crate::specs::Successor::ended_succeeds))]
+    #[tactic(auto, using(crate::proofs::InUse::slot_index_in_use), unfolding(crate::specs::Successor::ended_succeeds))]
     fn ended_succeeds(&self, old: &VoterReplacementRecord) -> Answer
         requires { self.now.count ≤ 9 }
         ensures { result ≡ ended_succeeds self.now old.now }

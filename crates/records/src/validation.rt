@@ -18,8 +18,8 @@ use identity::answer::{Answer, Refusal};
 use identity::identity::*;
 use identity::text::{MAX_VOTER_SPIFFE_ID_BYTES, is_name};
 
-// What the open request claims of the slots. The record has 6.3 KB, so the tests of a slot get
-// these alone: six fields of its attestation, its phase, and the cut of its prepare.
+// What the open request claims of the slots: six fields of its attestation, its phase, and the cut
+// of its prepare. The laws of a slot speak of these alone.
 #[derive(Clone, Copy)]
 pub struct Claims {
     // Caller-stable idempotency identity.
@@ -74,7 +74,8 @@ impl VoterConfiguration {
 
 // Each admission generation is above 0.
 //
-// This loop and those below have no early exit, so that several places are compared at a time.
+// This loop and those below have no early exit: in place of `all`, which leaves at the first no,
+// they let the compiler look at several places at a time.
 #[tactic(auto, unfolding(crate::specs::Records::all_below))]
 fn have_generations(members: &[VoterSlotMember]) -> bool
     ensures { result ≡ all_below (λ i. ltb 0 (member_in members.now i).admission_generation) (length members.now) }
@@ -261,7 +262,7 @@ impl VoterSlotTable {
         requires { self.now.count ≤ 9 }
         ensures { result ≡ validity self.now }
     {
-        require(self.has_valid_slots())?;
+        require(self.are_valid_slots())?;
         if !self.has_replacement {
             return require(all_voting(self.slots_in_use()));
         }
@@ -270,7 +271,7 @@ impl VoterSlotTable {
 
     // `validate` up to the open request.
     #[tactic(auto, unfolding(crate::specs::Validation::valid_slots))]
-    fn has_valid_slots(&self) -> bool
+    fn are_valid_slots(&self) -> bool
         ensures { result ≡ valid_slots self.now }
     {
         if !is_valid_count(self.count) {
