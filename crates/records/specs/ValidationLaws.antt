@@ -3,7 +3,7 @@
 -- Each name here is a step of a proof; what is right is said in Validation.
 -- Assumes nothing.
 use Prim.Native.Nat.{ℕ, zero, suc, ◌+◌, ◌-◌, ◌%◌, ◌<◌, ◌≤◌}
-use Rattle.std.specs.Prelude.{ℕ, ◌≡◌, refl, Ok, Err, Bool, true, false, not, ◌&&◌, eqb, leb, ltb}
+use Rattle.std.specs.Prelude.{ℕ, ◌≡◌, refl, Ok, Err, Bool, true, false, not, ◌&&◌, List, eqb, leb, ltb}
 use Rattle.std.proofs.Common.{sym, ap, ◌∙◌, add-one, leb-true, ltb-true}
 use Rattle.std.proofs.Math.Bool.{and-eq-true_iff, and-false}
 use native.Mathlib.Omega.{arith}
@@ -11,7 +11,7 @@ use Rattle.std.proofs.lemmas.Bool.{not-true, not-false}
 use Rattle.identity.specs.Answer.{is_accepted}
 use Rattle.identity.specs.Answer.{Answer}
 use Rattle.identity.specs.Answer.{Accepted, InvalidRecord}
-use Rattle.records.specs.Records.{all_below, slot_at, member_at}
+use Rattle.records.specs.Records.{all_below, slot_at, slot_in, member_at}
 use Rattle.records.specs.RecordsLaws.{all_below-all}
 use Rattle.records.specs.Equality.{same_voter_slot_member}
 use Rattle.records.specs.Validation.{require_of, valid_count, valid_spiffe_id, NamesHold, valid_attestation, valid_operation, distinct_results, claims_of, other_member, other_request, validate_member, validate_members, validate_operation}
@@ -63,9 +63,9 @@ controller-fails t h = rw (h, and-false (valid_spiffe_id t.replacement.attestati
 -- ---- the receipts
 
 -- a slot without a receipt is distinct from all others
-pub distinct_without : (t : VoterSlotTable) (i : ℕ) → (slot_at t i).has_last_result ≡ false
-    → all_below (λ j. distinct_results (slot_at t j) (slot_at t i)) i ≡ true
-distinct_without t i h = all_below-all (λ j. distinct_results (slot_at t j) (slot_at t i)) i (λ j l. rw (h, and-false (slot_at t j).has_last_result))
+pub distinct_without : (slots : List VoterSlotRecord) (i : ℕ) → (slot_in slots i).has_last_result ≡ false
+    → all_below (λ j. distinct_results (slot_in slots j) (slot_in slots i)) i ≡ true
+distinct_without slots i h = all_below-all (λ j. distinct_results (slot_in slots j) (slot_in slots i)) i (λ j l. rw (h, and-false (slot_in slots j).has_last_result))
 
 -- ---- the slots one by one
 

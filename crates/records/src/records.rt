@@ -4,6 +4,9 @@
 // 717de332e7, Apache-2.0 (see NOTICE). Changed: a `Vec` is nine places and a count, a `String` is
 // bytes and a length, an `Option` is a yes or no next to the record; what is after a count or a
 // length and what is absent is zero; enums that a table holds are numbers with names.
+ghost use Rattle.std.specs.Prelude.{◌≡◌, ◌≤◌, length};
+ghost use Rattle.records.specs.Records.{slots_in_use, members_in_use};
+
 use identity::identity::*;
 use identity::text::{MAX_VOTER_SNAPSHOT_ID_BYTES, MAX_VOTER_SPIFFE_ID_BYTES};
 
@@ -273,4 +276,26 @@ pub struct VoterSlotTable {
     pub has_replacement: bool,
     // At most one active replacement across the entire installation.
     pub replacement: VoterReplacementRecord,
+}
+
+impl VoterConfiguration {
+    // Its members, without the blanks.
+    pub fn members_in_use(&self) -> &[VoterSlotMember]
+        requires { self.now.count ≤ 9 }
+        ensures members { result.now ≡ members_in_use self.now }
+        ensures count { length result.now ≡ self.now.count }
+    {
+        &self.members[..self.count]
+    }
+}
+
+impl VoterSlotTable {
+    // Its slots, without the blanks.
+    pub fn slots_in_use(&self) -> &[VoterSlotRecord]
+        requires { self.now.count ≤ 9 }
+        ensures slots { result.now ≡ slots_in_use self.now }
+        ensures count { length result.now ≡ self.now.count }
+    {
+        &self.slots[..self.count]
+    }
 }
