@@ -100,7 +100,7 @@ NAMES = list(RECORDS)
 NINES = []
 # What the crates above compare by name: arrays of so many bytes, and records.
 SIZES = [16, 32]
-COMPARED_ABOVE = ['VoterSlotLogId', 'VoterSlotMember', 'VoterReplacementResult', 'VoterSnapshotEvidence', 'VoterConfiguration', 'LostVoterAttestationV1', 'VoterSlotTable']
+COMPARED_ABOVE = ['VoterSlotLogId', 'VoterSnapshotEvidence']
 for fields in RECORDS.values():
     for field in fields:
         if field.kind == 'nine' and field.struct not in NINES:
