@@ -8,10 +8,10 @@ ghost use Rattle.control.specs.Control.{begun, caught_up_recorded, continued, cu
 ghost use Rattle.control.specs.Judgement.{judge, judge_marker};
 ghost use Rattle.control.specs.Verdicts.{advance_in, begin_in, verdict_of};
 
-use crate::begin::{VoterBegin, begin_table, judge_begin};
+use crate::begin::{VoterBegin, judge_begin};
 use crate::control::*;
 use crate::judge::{Judged, judge_advance, judge_marker};
-use crate::make::*;
+use identity::answer::Refusal;
 use records::records::VoterSlotTable;
 
 // The Advance that a command holds.
@@ -40,7 +40,8 @@ pub fn begin_of(command: VoterCommand) -> VoterBegin
 }
 
 // The judge, by the kind.
-pub fn judge_command(table: VoterSlotTable, command: VoterCommand) -> Judged
+#[tactic(auto, unfolding(crate::specs::Judgement::judge))]
+pub fn judge_command(table: VoterSlotTable, command: VoterCommand) -> Result<Judged, Refusal>
     ensures { verdict_of result ≡ judge table command.control command.cut }
 {
     let kind = command.control.kind;
@@ -52,53 +53,10 @@ pub fn judge_command(table: VoterSlotTable, command: VoterCommand) -> Judged
 }
 
 // A Marker, by the name that the command holds.
-pub fn judge_named(table: VoterSlotTable, command: VoterCommand) -> Judged
+pub fn judge_named(table: VoterSlotTable, command: VoterCommand) -> Result<Judged, Refusal>
     ensures { verdict_of result ≡ judge_marker table command.control.request_id command.control.request_digest }
 {
     let request_id = command.control.request_id;
     let request_digest = command.control.request_digest;
     judge_marker(table, request_id, request_digest)
-}
-
-// The makers. Each requires what that of its kind does.
-pub fn make_snapshot(table: VoterSlotTable, command: VoterCommand) -> VoterSlotTable
-    requires { table.revision ≡ full → ⊥ }
-    ensures { result ≡ snapshot_recorded table command.control.step.snapshot }
-{
-    snapshot_table(table, advance_of(command))
-}
-
-pub fn make_caught_up(table: VoterSlotTable, command: VoterCommand) -> VoterSlotTable
-    requires { table.revision ≡ full → ⊥ }
-    ensures { result ≡ caught_up_recorded table command.control.step.caught_up }
-{
-    catch_up_table(table, advance_of(command))
-}
-
-pub fn make_continuation(table: VoterSlotTable, command: VoterCommand) -> VoterSlotTable
-    requires { table.revision ≡ full → ⊥ }
-    ensures { result ≡ continued table command.cut }
-{
-    continue_table(table, advance_of(command))
-}
-
-pub fn make_fence(table: VoterSlotTable, command: VoterCommand) -> VoterSlotTable
-    requires { table.revision ≡ full → ⊥ }
-    ensures { result ≡ fenced_at table command.cut }
-{
-    fence_table(table, advance_of(command))
-}
-
-pub fn make_finalize(table: VoterSlotTable, command: VoterCommand) -> VoterSlotTable
-    requires { (table.revision ≡ full → ⊥) × ((table.count ≤ 9) × (target_index table < table.count)) }
-    ensures { result ≡ finalized table command.cut }
-{
-    finalize_table(table, advance_of(command))
-}
-
-pub fn make_begin(table: VoterSlotTable, command: VoterCommand) -> VoterSlotTable
-    requires { (table.revision ≡ full → ⊥) × (((current_configuration table).epoch ≡ full → ⊥) × ((table.count ≤ 9) × (named_index table command.control.request < table.count))) }
-    ensures { result ≡ begun table command.control.request command.cut }
-{
-    begin_table(table, begin_of(command))
 }
