@@ -13,8 +13,7 @@ ghost use Rattle.control.specs.Control.{apply_control};
 ghost use Rattle.control.specs.Judgement.{judge_marker};
 ghost use Rattle.control.specs.Verdicts.{advance_outcome, answer_of, applied_of, checked_of, entry_verdict, paired, verdict_of};
 
-use crate::begin::begin_in_place;
-use crate::command::*;
+use crate::begin::{VoterBegin, begin_in_place};
 use crate::control::*;
 use crate::judge::*;
 use crate::make::*;
@@ -98,8 +97,8 @@ pub fn apply_in_place(table: &mut VoterSlotTable, command: VoterCommand) -> Answ
 {
     let kind = command.control.kind;
     match kind {
-        BEGIN => begin_in_place(table, begin_of(command)),
-        ADVANCE => advance_in_place(table, advance_of(command)),
+        BEGIN => begin_in_place(table, VoterBegin::from(command)),
+        ADVANCE => advance_in_place(table, VoterAdvance::from(command)),
         _ => mark(*table, command),
     }
 }

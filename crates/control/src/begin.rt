@@ -17,7 +17,7 @@ ghost use Rattle.control.specs.Judgement.{begin_test, judge_begin};
 ghost use Rattle.control.specs.Verdicts.{verdict_of};
 
 use crate::apply::Controlled;
-use crate::control::VoterReplacementRequest;
+use crate::control::{VoterCommand, VoterReplacementRequest};
 use crate::judge::*;
 use crate::request::*;
 use identity::answer::{Answer, Refusal};
@@ -33,6 +33,20 @@ pub struct VoterBegin {
     pub request: VoterReplacementRequest,
     // Engine cut of the command.
     pub cut: VoterSlotLogId,
+}
+
+// The Begin that a command holds.
+impl From<VoterCommand> for VoterBegin {
+    ghost use Rattle.std.specs.Prelude.{◌≡◌};
+    ghost use Rattle.control.specs.Verdicts.{begin_in};
+
+    ghost from_gives = { λ command begin. begin ≡ begin_in command.control command.cut };
+
+    fn from(command: VoterCommand) -> VoterBegin {
+        let request = command.control.request;
+        let cut = command.cut;
+        VoterBegin { request, cut }
+    }
 }
 
 // `begin`, up to the first change of the table.

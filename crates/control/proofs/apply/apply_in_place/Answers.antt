@@ -9,11 +9,11 @@ use Rattle.control.proofs.apply.apply_in_place.Goals as goal
 
 pub returns-in-0 : goal.returns-in-0
 returns-in-0 c =
-    c.begin_in_place.ensures ∙ (ap (begin_outcome c.args.table.now) c.begin_of.ensures ∙ applied-begin c.args.table.now c.args.command.control c.args.command.cut c.in-0.is)
+    c.begin_in_place.ensures ∙ (ap (begin_outcome c.args.table.now) c.from.ensures ∙ applied-begin c.args.table.now c.args.command.control c.args.command.cut c.in-0.is)
 
 pub returns-in-1 : goal.returns-in-1
 returns-in-1 c =
-    c.advance_in_place.ensures ∙ (ap (advance_outcome c.args.table.now) c.advance_of.ensures ∙ applied-advance c.args.table.now c.args.command.control c.args.command.cut c.in-1.is)
+    c.advance_in_place.ensures ∙ (ap (advance_outcome c.args.table.now) c.from-in-1.ensures ∙ applied-advance c.args.table.now c.args.command.control c.args.command.cut c.in-1.is)
 
 pub returns-in_default : goal.returns-in_default
 returns-in_default c =
