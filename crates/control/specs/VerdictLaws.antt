@@ -3,7 +3,14 @@
 -- Each name here is a step of a proof; what is right is said in Control, and how code decides it in
 -- Judgement.
 -- Assumes nothing.
-use Rattle.std.specs.Prelude.{ℕ, ◌<◌, ◌≤◌, ◌≡◌, Bool, not, ◌&&◌, ◌||◌, List}
+use Rattle.std.specs.Bool.{then_some}
+use Rattle.std.specs.Option.{ok_or}
+use Rattle.std.specs.Result.{result_and}
+use Rattle.std.specs.Prelude.{Result, Ok, Err, ℕ, ◌<◌, ◌≤◌, ◌≡◌, Bool, not, ◌&&◌, ◌||◌, List}
+use Rattle.identity.specs.declared.answer.Refusal.{Refusal}
+use Rattle.identity.specs.declared.answer.Refusal.TheVariants as refusal
+use Rattle.control.specs.declared.judge.Judged.{Judged}
+use Rattle.control.specs.declared.judge.Judged.TheVariants as code
 use Rattle.std.proofs.Math.Path.{refl}
 use Rattle.std.proofs.Common.{sym, ap, ◌∙◌, eq-eqb}
 use Rattle.std.proofs.Math.Bool.{cond, false, true, false≢true}
@@ -30,7 +37,7 @@ use Rattle.control.specs.Judgement.Move.{begins, records_snapshot, records_caugh
 use Rattle.control.specs.OpenLaws.{open-of-valid}
 use Rattle.records.specs.RepresentableLaws.{representable-count}
 use Rattle.control.specs.declared.control.VoterAdvance.{VoterAdvance}
-use Rattle.control.specs.Verdicts.{advance_in, advance_outcome, answer_of, applied_of, checked_of, entry_verdict, judge_of, paired, route_of, step_made}
+use Rattle.control.specs.Verdicts.{advance_in, advance_outcome, answer_of, applied_of, checked_of, entry_verdict, judge_of, paired, route_of, step_made, verdict_of}
 
 -- ---- what is made
 
@@ -178,6 +185,18 @@ module _ (t : VoterSlotTable) (c : VoterSlotControl) (cut : VoterSlotLogId) wher
   pub begin-begins : judge t c cut ≡ moves begins → judge_begin t c.request cut ≡ moves begins
   unfolding judge
   begin-begins e = begin-by (eqb c.kind begin_kind) (eqb c.kind advance_kind) e
+
+-- ---- what the code's picks come to
+
+-- a refusal, or else what comes next
+pub and-judged : (a : Answer) (next : Result Judged Refusal) → verdict_of (result_and a next) ≡ cond (is_accepted a) (verdict_of next) (refused a)
+and-judged (Ok nothing) next = refl
+and-judged (Err e) next = refl
+
+-- a Begin, or else 25
+pub change-judged : (b : Bool) → verdict_of (ok_or (then_some b code.Begin) refusal.InvalidTransition) ≡ cond b (moves begins) (refused InvalidTransition)
+change-judged true = refl
+change-judged false = refl
 
 -- ---- what a case of the code's verdict tells
 

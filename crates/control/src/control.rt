@@ -97,3 +97,24 @@ pub struct VoterCommand {
     // Engine cut of the command.
     pub cut: VoterSlotLogId,
 }
+
+// The Advance that a command holds.
+impl From<VoterCommand> for VoterAdvance {
+    ghost use Rattle.std.specs.Prelude.{◌≡◌};
+    ghost use Rattle.control.specs.Verdicts.{advance_in};
+
+    ghost from_gives = { λ command advance. advance ≡ advance_in command.control command.cut };
+
+    fn from(command: VoterCommand) -> VoterAdvance {
+        let request_id = command.control.request_id;
+        let request_digest = command.control.request_digest;
+        let step = command.control.step;
+        let cut = command.cut;
+        VoterAdvance {
+            request_id,
+            request_digest,
+            step,
+            cut,
+        }
+    }
+}
