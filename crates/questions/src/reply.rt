@@ -1,0 +1,47 @@
+// The replies to questions, and how they are printed.
+use identity::answer::{Answer, Refusal};
+use std::fmt;
+
+#[derive(Clone, Copy)]
+pub enum Reply {
+    YesNo(bool),
+    // An answer's number alone, with one number, and with two.
+    Number(u64),
+    Pair(u64, u64),
+    Triple(u64, u64, u64),
+    // A table that was read: its revision, the count of its bytes, their checksum, and the checksum
+    // of its raw form.
+    Table(u64, u64, u64, u64),
+    // The body is not of the question's form.
+    Malformed,
+}
+
+pub fn number(answer: Answer) -> u64 {
+    u64::from(identity::answer::number(answer))
+}
+
+impl From<bool> for Reply {
+    fn from(yes: bool) -> Reply {
+        Reply::YesNo(yes)
+    }
+}
+
+impl From<Answer> for Reply {
+    fn from(answer: Answer) -> Reply {
+        Reply::Number(number(answer))
+    }
+}
+
+impl fmt::Display for Reply {
+    fn fmt<W: fmt::Write>(&self, f: &mut fmt::Formatter<W>) -> fmt::Result {
+        match *self {
+            Reply::YesNo(true) => write!(f, "yes"),
+            Reply::YesNo(false) => write!(f, "no"),
+            Reply::Number(a) => write!(f, "{a}"),
+            Reply::Pair(a, b) => write!(f, "{a} {b}"),
+            Reply::Triple(a, b, c) => write!(f, "{a} {b} {c}"),
+            Reply::Table(a, b, c, d) => write!(f, "0 {a} {b} {c} {d}"),
+            Reply::Malformed => write!(f, "{}", Refusal::BadRecord as u8),
+        }
+    }
+}
