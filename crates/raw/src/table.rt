@@ -15,6 +15,13 @@ pub fn sparse_table(fields: &mut Fields) -> Option<VoterSlotTable> {
     table_of(&raw)
 }
 
+// Likewise, where nothing comes after it.
+pub fn last_table(mut fields: Fields) -> Option<VoterSlotTable> {
+    let table = sparse_table(&mut fields)?;
+    fields.end()?;
+    Some(table)
+}
+
 // The pieces are laid over zeros.
 fn lay_pieces(fields: &mut Fields) -> Option<[u8; TABLE_SIZE]> {
     let mut raw = [0; TABLE_SIZE];
