@@ -3,7 +3,8 @@
 // Ported from crates/opc-consensus/src/voter_slots/control.rs (`begin`) of openpacketcore-sdk,
 // commit 717de332e7, Apache-2.0 (see NOTICE). Changed: everything is judged before anything is
 // made, and the successor check of the table that is made stands here as a test of the cut. All
-// parts are judged before the first refusal is picked, as in judge.rt.
+// parts are judged before the first refusal is picked, as in judge.rt: so the answers are joined by
+// `and` in place of `?`.
 ghost use Rattle.std.specs.Prelude.{◌<◌, ◌≤◌, ◌≡◌, cond, map};
 ghost use Rattle.identity.specs.Answer.{is_accepted};
 ghost use Rattle.identity.specs.Answer.{Accepted, IdempotencyConflict};
