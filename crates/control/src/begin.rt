@@ -157,6 +157,7 @@ fn is_later(table: VoterSlotTable, cut: VoterSlotLogId) -> bool
 
 // The table with the request opened. No test is made again. The request is put together here: made
 // by a call of its own, the whole table would be copied once more.
+#[tactic(auto, unfolding(crate::specs::Control::begun_operation, crate::specs::BeginJudge::prepared_at))]
 pub fn begin_table(table: VoterSlotTable, begin: VoterBegin) -> VoterSlotTable
     requires { (table.revision ≡ full → ⊥) × (((current_configuration table).epoch ≡ full → ⊥) × ((table.count ≤ 9) × (named_index table begin.request < table.count))) }
     ensures { result ≡ begun table begin.request begin.cut }
