@@ -4,8 +4,8 @@
 // Ported from crates/opc-consensus/src/voter_slots/control.rs (`apply_control`) of
 // openpacketcore-sdk, commit 717de332e7, Apache-2.0 (see NOTICE). Changed: what a command does is
 // judged first, and then the next table is made, if there is one. It is neither validated nor
-// compared: that it would pass the successor check is proved (specs/SettleLaws.antt). A table goes
-// in by value and comes back with the answer, or it is lent, and a thin call changes it in place.
+// compared: that it would pass the successor check is proved (specs/SettleLaws.antt). A table is
+// lent, and a thin call changes it in place; or it goes in by value, and comes back with the answer.
 ghost use Rattle.std.specs.Prelude.{◌≡◌};
 ghost use Rattle.identity.specs.Answer.{Accepted};
 ghost use Rattle.records.specs.Validation.{validate};

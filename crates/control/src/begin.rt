@@ -3,7 +3,8 @@
 // Ported from crates/opc-consensus/src/voter_slots/control.rs (`begin`) of openpacketcore-sdk,
 // commit 717de332e7, Apache-2.0 (see NOTICE). Changed: everything is judged before anything is
 // made, and the successor check of the table that is made stands here as a test of the cut. All
-// parts are judged before the first refusal is picked, as in judge.rt.
+// parts are judged before the first refusal is picked, as in judge.rt: so the answers are joined by
+// `and` in place of `?`.
 ghost use Rattle.std.specs.Prelude.{◌<◌, ◌≤◌, ◌≡◌, cond, map};
 ghost use Rattle.identity.specs.Answer.{is_accepted};
 ghost use Rattle.identity.specs.Answer.{Accepted, IdempotencyConflict};
@@ -156,6 +157,7 @@ fn is_later(table: VoterSlotTable, cut: VoterSlotLogId) -> bool
 
 // The table with the request opened. No test is made again. The request is put together here: made
 // by a call of its own, the whole table would be copied once more.
+#[tactic(auto, unfolding(crate::specs::Control::begun_operation, crate::specs::BeginJudge::prepared_at))]
 pub fn begin_table(table: VoterSlotTable, begin: VoterBegin) -> VoterSlotTable
     requires { (table.revision ≡ full → ⊥) × (((current_configuration table).epoch ≡ full → ⊥) × ((table.count ≤ 9) × (named_index table begin.request < table.count))) }
     ensures { result ≡ begun table begin.request begin.cut }

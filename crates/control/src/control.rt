@@ -3,7 +3,8 @@
 // Ported from crates/opc-consensus/src/voter_slots/control.rs of openpacketcore-sdk, commit
 // 717de332e7, Apache-2.0 (see NOTICE). Changed: a command and a step are a kind with its parts as
 // fields, and parts that the kind does not use are zero; the caller supplies the request digest as
-// recomputed and the id of the current configuration.
+// recomputed and the id of the current configuration. Kinds stay numbers, and no enums: document 01
+// lets a caller hand in any number, and gives 30 for those that the Rust types cannot hold.
 use identity::identity::{ConsensusConfigurationId, ConsensusIdentity, ConsensusRequestId};
 use records::records::*;
 

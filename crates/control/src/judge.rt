@@ -24,7 +24,7 @@ use records::equality::*;
 use records::evidence::{is_in_order, is_valid_snapshot_id, log_id_follows};
 use records::records::*;
 
-// What a command that is accepted does to the table: nothing, or which change.
+// What a command that is not refused does to the table: nothing, or which change.
 #[derive(Clone, Copy)]
 pub enum Judged {
     Keep,

@@ -4,7 +4,9 @@
 // Ported from crates/opc-consensus/src/voter_slots/control.rs (`VoterReplacementRequest::validate`,
 // `begin`) of openpacketcore-sdk, commit 717de332e7, Apache-2.0 (see NOTICE). Changed: the caller
 // supplies the digest as recomputed and the id of the current configuration. Loops pass all nine
-// places, from the last to the first, and a place found later takes the place of one found before.
+// places, from the last to the first, and a place found later takes the place of one found before;
+// it is picked by `then_some` and `or`, since after an `if` in the loop the compiler copies the
+// request once more.
 ghost use Rattle.std.specs.Prelude.{◌≡◌};
 ghost use Rattle.records.specs.Successor.{first_refusal};
 ghost use Rattle.records.specs.Validation.{valid_attestation};
