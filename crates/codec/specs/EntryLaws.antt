@@ -1,6 +1,6 @@
 -- What the entry points' proofs use: each way that a reading, a writing and a restart can go.
 -- Assumes nothing.
-use Rattle.std.specs.Prelude.{ℕ, zero, suc, ◌+◌, ◌≤◌, ◌<◌, Result, Ok, Err, Bool, ◌≡◌, refl, List, ◌++◌, length, take, drop, leb, eqb}
+use Rattle.std.specs.Prelude.{ℕ, zero, suc, ◌≤◌, ◌<◌, Ok, Err, Bool, ◌≡◌, refl, List, ◌++◌, length, take, drop, leb, eqb}
 use Rattle.std.proofs.Common.{arith, zero-add, sym, ap, ap₂, ◌∙◌, length-append, le-leb}
 use Rattle.std.proofs.Math.Bool.{true, false}
 use Rattle.std.proofs.lemmas.Bool.{lt-leb}
