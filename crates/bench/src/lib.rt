@@ -8,7 +8,6 @@ ghost use Rattle.identity.specs.Text.{is_utf8, is_name, is_snapshot_id};
 
 use codec::codec::encode_voter_slot_table;
 use identity::answer::{Answer, Refusal, number};
-use layout::reading::Extent;
 use raw::table::table_of;
 use records::blank::blank_voter_slot_table;
 use records::records::VoterSlotTable;
@@ -104,20 +103,13 @@ pub extern "C" fn bench_encode(raw: &[u8], buffer: &mut [u8], turns: u64) -> u64
     let mut answers = 0;
     for i in 0..turns {
         let table = pick(i % 2 == 0, even, odd);
-        answers |= refusal_of(encode_voter_slot_table(buffer, table));
+        answers |= number_of(encode_voter_slot_table(buffer, table).and(Ok(())));
     }
     answers
 }
 
 fn number_of(answer: Answer) -> u64 {
     u64::from(number(answer))
-}
-
-fn refusal_of(written: Extent) -> u64 {
-    match written {
-        Extent::To(_) => 0,
-        Extent::Refused(answer) => number_of(answer),
-    }
 }
 
 // Two tables take turns, so that no call's result is kept for the next.
