@@ -8,7 +8,7 @@ ghost use Rattle.identity.specs.Text.{is_utf8, is_name, is_snapshot_id};
 
 use codec::codec::encode_voter_slot_table;
 use identity::answer::{Answer, Refusal, number};
-use raw::table::table_of;
+use raw::table::table_in;
 use records::blank::blank_voter_slot_table;
 use records::records::VoterSlotTable;
 use records::representable::is_representable;
@@ -135,6 +135,6 @@ fn representable_of(table: VoterSlotTable) -> u64 {
 fn table_of_bytes(bytes: &[u8]) -> VoterSlotTable {
     bytes
         .first_chunk()
-        .and_then(table_of)
+        .and_then(table_in)
         .unwrap_or(blank_voter_slot_table())
 }
