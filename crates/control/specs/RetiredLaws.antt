@@ -5,7 +5,7 @@
 -- `valid-yes`; and its number tells its cases apart: `number-tells`.
 -- Assumes nothing.
 use Rattle.identity.specs.AnswerLaws.{number-small, number-injective}
-use Rattle.std.specs.Prelude.{Ok, Err, ℕ, ◌<◌, ◌≤◌, ◌↔◌, refl, ◌≡◌, Bool, false, cond}
+use Rattle.std.specs.Prelude.{Ok, ℕ, ◌<◌, ◌≤◌, ◌↔◌, refl, ◌≡◌, Bool, false, cond}
 use Rattle.std.proofs.Common.{sym, ap, ◌∙◌, eq-eqb, le-leb}
 use Rattle.std.proofs.Math.Bool.{true, not}
 use native.Mathlib.Omega.{arith}

@@ -251,8 +251,8 @@ fn see(
 {
     let predecessor = table.replacement.predecessor;
     let successor = table.replacement.successor;
-    let before = ids_of(predecessor);
-    let after = ids_of(successor);
+    let before = ids_of(&predecessor);
+    let after = ids_of(&successor);
     let m = predecessor.count;
     let n = successor.count;
     let olds = &before[..];
@@ -420,7 +420,7 @@ fn judge_closed(
     requires { Supplied sets.now counts.now nodes.now × ((table.count ≤ 9) × (table.has_replacement ≡ false)) }
     ensures { verdict_of_observed result ≡ judge_closed table (split_sets sets.now counts.now) nodes.now }
 {
-    let ids = ids_of_slots(table);
+    let ids = ids_of_slots(&table);
     let count = table.count;
     let all = &ids[..];
     judge_members(&all[..count], sets, counts, nodes)
