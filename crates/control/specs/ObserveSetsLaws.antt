@@ -138,8 +138,8 @@ unfolding listed
 listed_more c ids i v h e f = rw (add-one, take-suc-set ids i v h, e, f)
 
 -- a phase and the one before it
-pub eqb-next : (p before at : ℕ) → before + 1 ≡ at → eqb p before ≡ eqb (p + 1) at
-eqb-next p before at h = by (eqb p before) refl
+pub eqb_next : (p before at : ℕ) → before + 1 ≡ at → eqb p before ≡ eqb (p + 1) at
+eqb_next p before at h = by (eqb p before) refl
   where
     by : (d : Bool) → eqb p before ≡ d → d ≡ eqb (p + 1) at
     by true e = let k = eqb-true p before e in sym (eq-eqb (p + 1) at (omega arith))

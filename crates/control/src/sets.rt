@@ -5,7 +5,7 @@
 // Ported from `observe_membership` of crates/opc-consensus/src/voter_slots/control.rs of
 // openpacketcore-sdk, commit 717de332e7, Apache-2.0 (see NOTICE). Changed: a BTreeSet is a slice
 // that rises strictly; a set is compared with the members' ids in any order, and nothing is sorted.
-ghost use Rattle.std.specs.Prelude.{◌+◌, ◌≤◌, ◌≡◌, cond, ◌&&◌, eqb, leb, length};
+ghost use Rattle.std.specs.Prelude.{◌+◌, ◌≤◌, ◌≡◌, true, ◌&&◌, eqb, leb, length};
 ghost use Rattle.identity.specs.Text.{every};
 ghost use Rattle.control.specs.Observation.{all_rising, contains, difference, is_held_node_id, is_rising, member_node, is_subset, split_sets, total, union_ids};
 ghost use Rattle.control.specs.ObserveSets.{are_two_sets, first_of, is_one_set, least_new, listed, no_id, slot_members};
@@ -17,6 +17,43 @@ use records::records::{
 
 // No id of a member or a node: those lie below 2^63.
 pub const NO_ID: ConsensusNodeId = u64::MAX;
+
+// An observed membership: sets of voters, and nodes. Each set rises, and so do the nodes.
+#[derive(Clone, Copy)]
+pub struct Membership<'a> {
+    // The sets, one after another.
+    pub sets: &'a [ConsensusNodeId],
+    // How many ids each of them has.
+    pub counts: &'a [usize],
+    // The nodes.
+    pub nodes: &'a [ConsensusNodeId],
+    pub ghost counted: { total counts.now ≡ length sets.now },
+    pub ghost held: { every is_held_node_id nodes.now ≡ true },
+    pub ghost rising: { all_rising (split_sets sets.now counts.now) ≡ true },
+    pub ghost nodes_rise: { is_rising nodes.now ≡ true },
+}
+
+impl Membership<'_> {
+    // Whether the sets are this one alone. Their number is tested first: ids are compared each with
+    // each.
+    pub fn is_one_set(&self, ids: &[ConsensusNodeId]) -> bool
+        ensures { result ≡ is_one_set self.now.sets.now self.now.counts.now ids.now }
+    {
+        (self.counts.len() == 1) && is_same(self.sets, ids)
+    }
+
+    // Whether the sets are these two.
+    #[tactic(auto, using(crate::specs::ObserveSetsLaws::first_count))]
+    pub fn are_two_sets(&self, old: &[ConsensusNodeId], new: &[ConsensusNodeId]) -> bool
+        ensures { result ≡ are_two_sets self.now.sets.now self.now.counts.now old.now new.now }
+    {
+        if self.counts.len() != 2 {
+            return false;
+        }
+        let (before, after) = self.sets.split_at(self.counts[0]);
+        is_same(before, old) & is_same(after, new)
+    }
+}
 
 // Whether the counts add up to the length. What is left of it is counted down, so that no sum
 // wraps.
@@ -134,32 +171,6 @@ pub fn least_new(old: &[ConsensusNodeId], new: &[ConsensusNodeId]) -> ConsensusN
         }
     }
     least
-}
-
-// Whether the sets are this one alone. Their number is tested first: ids are compared each with
-// each.
-pub fn is_one_set(sets: &[ConsensusNodeId], counts: &[usize], ids: &[ConsensusNodeId]) -> bool
-    ensures { result ≡ is_one_set sets.now counts.now ids.now }
-{
-    (counts.len() == 1) && is_same(sets, ids)
-}
-
-// Whether the sets are these two.
-#[tactic(auto, using(crate::specs::ObserveSetsLaws::first_count))]
-pub fn are_two_sets(
-    sets: &[ConsensusNodeId],
-    counts: &[usize],
-    old: &[ConsensusNodeId],
-    new: &[ConsensusNodeId],
-) -> bool
-    requires { total counts.now ≤ length sets.now }
-    ensures { result ≡ are_two_sets sets.now counts.now old.now new.now }
-{
-    if counts.len() != 2 {
-        return false;
-    }
-    let (before, after) = sets.split_at(counts[0]);
-    is_same(before, old) & is_same(after, new)
 }
 
 // Whether a length is at most one more than another. No sum is made, so that none can overflow.
