@@ -22,7 +22,6 @@ use Rattle.records.specs.declared.records.VoterConfiguration.{VoterConfiguration
 use Rattle.records.specs.declared.records.VoterReplacementRecord.{VoterReplacementRecord}
 use Rattle.records.specs.declared.records.VoterSlotMember.{VoterSlotMember}
 use Rattle.records.specs.declared.records.VoterSlotTable.{VoterSlotTable}
-use Rattle.records.specs.Equality.{eq_list}
 use Rattle.records.specs.EqualityLaws.{eq_bytes-true}
 use Rattle.records.specs.Records.{joint, member_at, uniform}
 use Rattle.records.specs.TestLaws.{cond-false, cond-true, either_way}

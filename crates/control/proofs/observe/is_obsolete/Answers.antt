@@ -13,7 +13,7 @@ pub returns-then-predecessor-at : goal.returns-then-predecessor-at
 unfolding is_obsolete
 returns-then-predecessor-at c =
     let a = c.args in
-    let op = a.table.replacement in
+    let op = a.operation.now in
     let p = op.predecessor in
     let m = c.member_index-at in
     let e : ltb (member_index p op.attestation.slot) p.count ≡ false = ap (λ (k : ℕ). ltb k p.count) (sym m.ensures) ∙ le-ltb m.result p.count (omega arith) in
@@ -28,7 +28,7 @@ pub returns : goal.returns
 unfolding is_obsolete
 returns c =
     let a = c.args in
-    let op = a.table.replacement in
+    let op = a.operation.now in
     let p = op.predecessor in
     let m = c.member_index-at in
     let e : ltb m.result p.count ≡ true = lt-ltb m.result p.count (omega arith) in

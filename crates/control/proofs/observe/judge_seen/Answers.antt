@@ -16,16 +16,16 @@ pub returns-then-table-at : goal.returns-then-table-at
 returns-then-table-at c =
     let a = c.args in
     let i = c.slot_place-at in
-    let e : ltb (target_index a.table) a.table.count ≡ false = ap (λ (k : ℕ). ltb k a.table.count) (sym i.ensures) ∙ le-ltb i.result a.table.count (omega arith) in
-    sym (ap (λ (b : Bool). cond b (judge_known a.table (sight_of a.seen) a.cut) (refused InvalidTransition)) e)
+    let e : ltb (target_index a.table.now) a.table.now.count ≡ false = ap (λ (k : ℕ). ltb k a.table.now.count) (sym i.ensures) ∙ le-ltb i.result a.table.now.count (omega arith) in
+    sym (ap (λ (b : Bool). cond b (judge_known a.table.now (sight_of a.seen) a.cut) (refused InvalidTransition)) e)
 
 pub judge_known-requires : goal.judge_known-requires
 judge_known-requires c =
-    ap (λ (k : ℕ). (slot_at c.args.table k).phase) (sym c.slot_place-at.ensures) ∙ sym c.phase_at-phase.ensures
+    ap (λ (k : ℕ). (slot_at c.args.table.now k).phase) (sym c.slot_place-at.ensures)
 
 pub returns : goal.returns
 returns c =
     let a = c.args in
     let i = c.slot_place-at in
-    let e : ltb (target_index a.table) a.table.count ≡ true = ap (λ (k : ℕ). ltb k a.table.count) (sym i.ensures) ∙ lt-ltb i.result a.table.count (omega arith) in
-    c.judge_known.ensures ∙ sym (ap (λ (b : Bool). cond b (judge_known a.table (sight_of a.seen) a.cut) (refused InvalidTransition)) e)
+    let e : ltb (target_index a.table.now) a.table.now.count ≡ true = ap (λ (k : ℕ). ltb k a.table.now.count) (sym i.ensures) ∙ lt-ltb i.result a.table.now.count (omega arith) in
+    c.judge_known.ensures ∙ sym (ap (λ (b : Bool). cond b (judge_known a.table.now (sight_of a.seen) a.cut) (refused InvalidTransition)) e)

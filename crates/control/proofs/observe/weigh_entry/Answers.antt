@@ -11,15 +11,15 @@ use Rattle.control.proofs.observe.weigh_entry.Goals as goal
 pub returns-then-not-is_representable : goal.returns-then-not-is_representable
 returns-then-not-is_representable c =
     let a = c.args in
-    sym (ap (λ (b : Bool). cond b (confirmed (is_accepted (validity a.table)) (weighed a.table a.sets.now a.counts.now a.nodes.now a.cut)) (refused Unrepresentable)) (sym c.is_representable.ensures ∙ c.if-not-is_representable.true))
+    sym (ap (λ (b : Bool). cond b (confirmed (is_accepted (validity a.table.now)) (weighed a.table.now a.sets.now a.counts.now a.nodes.now a.cut)) (refused Unrepresentable)) (sym c.is_representable.ensures ∙ c.if-not-is_representable.true))
 
 pub confirm-requires : goal.confirm-requires
-confirm-requires c = representable-count c.args.table (sym c.is_representable.ensures ∙ c.if-not-is_representable.false)
+confirm-requires c = representable-count c.args.table.now (sym c.is_representable.ensures ∙ c.if-not-is_representable.false)
 
 pub returns : goal.returns
 returns c =
     let a = c.args in
-    let v = is_accepted (validity a.table) in
+    let v = is_accepted (validity a.table.now) in
     c.confirm.ensures
-    ∙ (ap (confirmed v) c.weigh-judged.ensures
-    ∙ sym (ap (λ (b : Bool). cond b (confirmed v (weighed a.table a.sets.now a.counts.now a.nodes.now a.cut)) (refused Unrepresentable)) (sym c.is_representable.ensures ∙ c.if-not-is_representable.false)))
+    ∙ (ap (confirmed v) c.weigh_lent-judged.ensures
+    ∙ sym (ap (λ (b : Bool). cond b (confirmed v (weighed a.table.now a.sets.now a.counts.now a.nodes.now a.cut)) (refused Unrepresentable)) (sym c.is_representable.ensures ∙ c.if-not-is_representable.false)))
