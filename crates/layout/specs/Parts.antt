@@ -257,6 +257,10 @@ table_head_of t =
 -- ---- lengths that the fields hold, which the representability check has tested: names of at most
 -- 2,048 bytes, snapshot ids of at most 256, counts of at most nine
 
+-- of an attestation
+abbrev pub NamesFit : LostVoterAttestationV1 → Type 0
+NamesFit a = (a.candidate_spiffe_id.len ≤ 2048) × (a.controller_spiffe_id.len ≤ 2048)
+
 -- of an open request
 pub record ReplacementFits (r : VoterReplacementRecord) : Type 0 where
   pub candidate : r.attestation.candidate_spiffe_id.len ≤ 2048

@@ -8,7 +8,7 @@
 // takes it.
 ghost use Rattle.std.specs.Prelude.{false, ◌≡◌};
 ghost use Rattle.records.specs.Blank.{blank_voter_replacement_record};
-ghost use Rattle.layout.specs.Parts.{blank_binding, blank_result_head, blank_slot_member, blank_claims_request, blank_claims_slot, blank_claims_names, blank_claims_end, blank_change, blank_table_head, blank_voter_slot_members, blank_voter_slot_records, member_of, result_of, attestation_of, evidence_of, early_cuts, late_cuts, replacement_of, table_of};
+ghost use Rattle.layout.specs.Parts.{blank_voter_slot_members, blank_voter_slot_records, member_of, result_of, attestation_of, evidence_of, early_cuts, late_cuts, replacement_of, table_of};
 
 use identity::identity::*;
 use records::blank::*;
@@ -110,110 +110,6 @@ pub struct TableHead {
     pub manifest_digest: [u8; 32],
     pub revision: u64,
     pub configuration_epoch: ConsensusConfigurationEpoch,
-}
-
-// The blank of each group, all zero.
-pub fn blank_binding() -> Binding
-    ensures { result ≡ blank_binding }
-{
-    Binding {
-        key_digest: [0; 32],
-        descriptor_digest: [0; 32],
-        admission_generation: 0,
-    }
-}
-
-pub fn blank_result_head() -> ResultHead
-    ensures { result ≡ blank_result_head }
-{
-    ResultHead {
-        request_id: [0; 16],
-        request_digest: [0; 32],
-        incarnation: 0,
-        revision: 0,
-    }
-}
-
-pub fn blank_slot_member() -> SlotMember
-    ensures { result ≡ blank_slot_member }
-{
-    let member = blank_voter_slot_member();
-    SlotMember {
-        member,
-        retired_through: 0,
-    }
-}
-
-pub fn blank_claims_request() -> ClaimsRequest
-    ensures { result ≡ blank_claims_request }
-{
-    ClaimsRequest {
-        request_id: [0; 16],
-        request_digest: [0; 32],
-    }
-}
-
-pub fn blank_claims_slot() -> ClaimsSlot
-    ensures { result ≡ blank_claims_slot }
-{
-    let identity = blank_voter_slot_identity();
-    ClaimsSlot {
-        cluster_instance: [0; 32],
-        identity,
-        old_descriptor_digest: [0; 32],
-        candidate_key_digest: [0; 32],
-    }
-}
-
-pub fn blank_claims_names() -> ClaimsNames
-    ensures { result ≡ blank_claims_names }
-{
-    let spiffe_id = blank_spiffe_id();
-    ClaimsNames {
-        admission_generation: 0,
-        candidate_spiffe_id: spiffe_id,
-        controller_spiffe_id: spiffe_id,
-        signing_key_digest: [0; 32],
-    }
-}
-
-pub fn blank_claims_end() -> ClaimsEnd
-    ensures { result ≡ blank_claims_end }
-{
-    let times = Times {
-        observation_start_ms: 0,
-        decision_ms: 0,
-        issued_ms: 0,
-        expires_ms: 0,
-    };
-    ClaimsEnd {
-        reason: 0,
-        policy_digest: [0; 32],
-        times,
-        signature: [0; 64],
-    }
-}
-
-pub fn blank_change() -> Change
-    ensures { result ≡ blank_change }
-{
-    let configuration = blank_voter_configuration();
-    Change {
-        predecessor: configuration,
-        successor: configuration,
-        phase: 0,
-    }
-}
-
-pub fn blank_table_head() -> TableHead
-    ensures { result ≡ blank_table_head }
-{
-    TableHead {
-        cluster_instance: [0; 32],
-        manifest_digest: [0; 32],
-        revision: 0,
-        configuration_epoch: 0,
-    }
 }
 
 // The nine places, all blank.
@@ -338,29 +234,23 @@ pub fn evidence_of(
 }
 
 // The six cuts of the evidence, in two threes.
-pub fn early_cuts(evidence: VoterReplacementEvidence) -> ThreeCuts
-    ensures { result ≡ early_cuts evidence }
+pub fn early_cuts(evidence: &VoterReplacementEvidence) -> ThreeCuts
+    ensures { result ≡ early_cuts evidence.now }
 {
-    let first = evidence.learner;
-    let second = evidence.caught_up;
-    let third = evidence.continuation;
     ThreeCuts {
-        first,
-        second,
-        third,
+        first: evidence.learner,
+        second: evidence.caught_up,
+        third: evidence.continuation,
     }
 }
 
-pub fn late_cuts(evidence: VoterReplacementEvidence) -> ThreeCuts
-    ensures { result ≡ late_cuts evidence }
+pub fn late_cuts(evidence: &VoterReplacementEvidence) -> ThreeCuts
+    ensures { result ≡ late_cuts evidence.now }
 {
-    let first = evidence.fence;
-    let second = evidence.joint;
-    let third = evidence.uniform;
     ThreeCuts {
-        first,
-        second,
-        third,
+        first: evidence.fence,
+        second: evidence.joint,
+        third: evidence.uniform,
     }
 }
 
