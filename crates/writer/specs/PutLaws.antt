@@ -1,7 +1,7 @@
 -- What the bytes of a form are, as a `Writer` writes them: what the proofs of the writers use.
 -- `writing` has what nearly all of them do.
 -- Assumes nothing.
-use Rattle.std.specs.Prelude.{ℕ, zero, suc, ◌+◌, ◌-◌, ◌≤◌, ◌<◌, ◌≡◌, Bool, true, false, List, ◌∷◌, length, take, get_or, cond}
+use Rattle.std.specs.Prelude.{ℕ, zero, suc, ◌+◌, ◌-◌, ◌≤◌, ◌<◌, ◌≡◌, Bool, true, false, List, length, take, get_or}
 use Rattle.std.proofs.Common.{arith, add-one, zero-add, suc-add, sub-add_cancel, sym, ◌∙◌, subst, length-append, length-take-le, take-take, get_or-take}
 use Rattle.std.proofs.Math.Path.{refl, ap, ap₂}
 use mathlib.Core.List.{List, [], ◌++◌, append-nil}
@@ -89,7 +89,6 @@ pub of_boxed : (a : LostVoterAttestationV1) → (boxed attestation 8192).enc a �
 unfolding attestation check
 of_boxed a = boxed-bytes attestation 8192 a
 
-
 -- a cut, or none
 pub of_optional_log_id : (o : OptionalLogId) → optional_log_id.enc o ≡ (opt log_id blank_voter_slot_log_id).enc (o.is_some, o.cut)
 unfolding optional_log_id via
@@ -157,7 +156,7 @@ unfolding slots padded via vec firsts
 of_slots n l h = firsts_any slot blank_voter_slot_record no_slot_record n l h ∙ firsts_front slot no_slot_record n l h
 
 pub ruleset writing =
-  (writes_two, writes_three, writes_four, of_slot_id, of_incarnation, of_epoch, of_slot_count, of_choice, of_version, of_head, of_spiffe_id, of_snapshot_id, raw_same, length-take-le, put_next, length-put, length-append)
+    (writes_two, writes_three, writes_four, of_slot_id, of_incarnation, of_epoch, of_slot_count, of_choice, of_version, of_head, of_spiffe_id, of_snapshot_id, raw_same, length-take-le, put_next, length-put, length-append)
 
 pub ruleset optional = (of_optional_log_id, of_yes, of_some, of_none, flag_first, writing)
 

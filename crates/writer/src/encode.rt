@@ -404,12 +404,12 @@ fn attestation_size(claims: &LostVoterAttestationV1) -> usize
 
 // the slots in use,
 #[tactic(auto, using(crate::specs::SizeLaws::sizes), unfolding(crate::specs::Size::slots_size))]
-fn slots_size(slots: &[VoterSlotRecord]) -> usize
-    requires { length slots.now ≤ 9 }
-    ensures { result ≡ slots_size slots.now (length slots.now) }
+fn slots_size(slots: &[VoterSlotRecord; MAX_FIXED_VOTER_SLOTS], count: usize) -> usize
+    requires { count ≤ 9 }
+    ensures { result ≡ slots_size slots.now count }
 {
     let mut size = 0;
-    for slot in slots {
+    for slot in &slots[..count] {
         size += if slot.has_last_result {
             FULL_SLOT_SIZE
         } else {
@@ -474,11 +474,12 @@ fn replacement_size(operation: &VoterReplacementRecord) -> usize
 }
 
 // and a table.
+#[tactic(auto, using(crate::specs::SizeLaws::sizes))]
 pub fn table_size(table: VoterSlotTable) -> usize
     requires { TableFits table }
     ensures { result ≡ length ((layout.table).enc table) }
 {
-    let front = TABLE_SIZE + slots_size(&table.slots[..table.count]);
+    let front = TABLE_SIZE + slots_size(&table.slots, table.count);
     if table.has_replacement {
         return front + replacement_size(&table.replacement);
     }
