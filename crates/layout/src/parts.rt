@@ -4,8 +4,7 @@
 //
 // The original has no such groups. The two constants are those of
 // crates/opc-consensus/src/voter_slots/records.rs and codec.rs of openpacketcore-sdk, commit
-// 717de332e7, Apache-2.0 (see NOTICE). Changed: the version is a number of 64 bits, as `put_be`
-// takes it.
+// 717de332e7, Apache-2.0 (see NOTICE). Changed: the version is a number of 64 bits.
 ghost use Rattle.std.specs.Prelude.{false, ◌≡◌};
 ghost use Rattle.records.specs.Blank.{blank_voter_replacement_record};
 ghost use Rattle.layout.specs.Parts.{blank_voter_slot_members, blank_voter_slot_records, member_of, result_of, attestation_of, evidence_of, early_cuts, late_cuts, replacement_of, table_of};
@@ -233,7 +232,8 @@ pub fn evidence_of(
     }
 }
 
-// The six cuts of the evidence, in two threes.
+// The six cuts of the evidence, in two threes. They are no one function: each names three fields of
+// its own, and choosing by a flag would say the six names as well.
 pub fn early_cuts(evidence: &VoterReplacementEvidence) -> ThreeCuts
     ensures { result ≡ early_cuts evidence.now }
 {

@@ -159,7 +159,8 @@ impl<'a> Writer<'a> {
         self.log_id(res.terminal);
     }
 
-    // A receipt, or none.
+    // A receipt, or none. The three optional parts here are no one function: each has a `requires` of
+    // its own, which a closure or a trait would have to hand through.
     #[tactic(auto, using(crate::specs::PutLaws::optional))]
     fn optional_result(&mut self, is_some: bool, res: &VoterReplacementResult)
         requires { HasRoom ((opt layout.replacement_result blank_voter_replacement_result).enc (is_some, res.now)) self.old }
