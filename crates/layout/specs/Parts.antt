@@ -4,6 +4,7 @@
 -- The order of the fields is that of codec.rs.
 -- Assumes nothing.
 use Rattle.std.specs.Prelude.{ℕ, ◌≤◌, Bool, List, replicate}
+use Rattle.format.specs.Copy.{zeros}
 use Rattle.identity.specs.declared.identity.VoterSlotIdentity.{VoterSlotIdentity}
 use Rattle.records.specs.Blank.{blank_voter_slot_member, blank_voter_slot_record}
 use Rattle.records.specs.declared.records.LostVoterAttestationV1.{LostVoterAttestationV1}
@@ -200,6 +201,10 @@ table_head_of t =
 
 -- ---- lengths that the fields hold, which the representability check has tested: names of at most
 -- 2,048 bytes, snapshot ids of at most 256, counts of at most nine
+
+-- of an attestation
+abbrev pub NamesFit : LostVoterAttestationV1 → Type 0
+NamesFit a = (a.candidate_spiffe_id.len ≤ 2048) × (a.controller_spiffe_id.len ≤ 2048)
 
 -- of an open request
 pub record ReplacementFits (r : VoterReplacementRecord) : Type 0 where

@@ -5,8 +5,7 @@
 //
 // The original has no such groups. The two constants are those of
 // crates/opc-consensus/src/voter_slots/records.rs and codec.rs of openpacketcore-sdk, commit
-// 717de332e7, Apache-2.0 (see NOTICE). Changed: the version is a number of 64 bits, as `put_be`
-// takes it.
+// 717de332e7, Apache-2.0 (see NOTICE). Changed: the version is a number of 64 bits.
 ghost use Rattle.std.specs.Prelude.{◌≡◌};
 ghost use Rattle.layout.specs.Parts.{blank_voter_slot_members, member_of, result_of, evidence_of, early_cuts, late_cuts};
 
@@ -112,7 +111,7 @@ pub struct TableHead {
     pub configuration_epoch: ConsensusConfigurationEpoch,
 }
 
-// The nine places of a configuration, all blank.
+// 717de332e7, Apache-2.0 (see NOTICE). Changed: the version is a number of 64 bits.
 pub fn blank_voter_slot_members() -> [VoterSlotMember; MAX_FIXED_VOTER_SLOTS]
     ensures { result ≡ blank_voter_slot_members }
 {
@@ -185,29 +184,24 @@ pub fn evidence_of(
     }
 }
 
-// The six cuts of the evidence, in two threes.
-pub fn early_cuts(evidence: VoterReplacementEvidence) -> ThreeCuts
-    ensures { result ≡ early_cuts evidence }
+// The six cuts of the evidence, in two threes. They are no one function: each names three fields of
+// its own, and choosing by a flag would say the six names as well.
+pub fn early_cuts(evidence: &VoterReplacementEvidence) -> ThreeCuts
+    ensures { result ≡ early_cuts evidence.now }
 {
-    let first = evidence.learner;
-    let second = evidence.caught_up;
-    let third = evidence.continuation;
     ThreeCuts {
-        first,
-        second,
-        third,
+        first: evidence.learner,
+        second: evidence.caught_up,
+        third: evidence.continuation,
     }
 }
 
-pub fn late_cuts(evidence: VoterReplacementEvidence) -> ThreeCuts
-    ensures { result ≡ late_cuts evidence }
+pub fn late_cuts(evidence: &VoterReplacementEvidence) -> ThreeCuts
+    ensures { result ≡ late_cuts evidence.now }
 {
-    let first = evidence.fence;
-    let second = evidence.joint;
-    let third = evidence.uniform;
     ThreeCuts {
-        first,
-        second,
-        third,
+        first: evidence.fence,
+        second: evidence.joint,
+        third: evidence.uniform,
     }
 }
