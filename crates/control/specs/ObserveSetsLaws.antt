@@ -2,7 +2,7 @@
 -- (`drop`).
 -- Each name here is a step of a proof; what is right is said in Observation.
 -- Assumes nothing.
-use Rattle.std.specs.Prelude.{ℕ, zero, suc, ◌+◌, ◌-◌, ◌<◌, ◌≤◌, refl, ◌≡◌, Bool, true, false, cond, not, ◌&&◌, ◌||◌, List, ◌∷◌, [], ◌++◌, eqb, leb, ltb, length, take, drop, get_or, set}
+use Rattle.std.specs.Prelude.{Some, ℕ, zero, suc, ◌+◌, ◌-◌, ◌<◌, ◌≤◌, refl, ◌≡◌, Bool, true, false, cond, not, ◌&&◌, ◌||◌, List, ◌∷◌, [], ◌++◌, eqb, leb, ltb, length, take, drop, get_or, set}
 use Rattle.std.proofs.Common.{sym, ap, ◌∙◌, add-one, arith, take-suc, take-suc-set, eqb-true, eq-eqb, ne_eqb, leb-true, leb-false}
 use Rattle.std.proofs.Math.Bool.{or_assoc, or-false, and_assoc, and-true}
 use Rattle.std.proofs.Math.Seq.{drop-cons}
@@ -93,7 +93,7 @@ module _ (s old new : List ℕ) (i : ℕ) (h : i < length s) where
   unfolding difference
   outside_passed e = rw (add-one, drop-cons s i 0 h, contains-union (get_or s i 0) old new, e)
 
-  pub outside_found : (contains (get_or s i 0) old || contains (get_or s i 0) new) ≡ false → first_of (difference (drop i s) (union_ids old new)) ≡ get_or s i 0
+  pub outside_found : (contains (get_or s i 0) old || contains (get_or s i 0) new) ≡ false → first_of (difference (drop i s) (union_ids old new)) ≡ Some (get_or s i 0)
   unfolding difference first_of
   outside_found e = rw (drop-cons s i 0 h, contains-union (get_or s i 0) old new, e)
 

@@ -3,7 +3,7 @@
 -- Definitions for the contracts of `observe`; what is right is said in Observation and Judgement,
 -- and ObserveSightLaws and ObserveLaws say that this is the same.
 -- Assumes nothing.
-use Rattle.std.specs.Prelude.{Result, Ok, Err, ℕ, ◌+◌, ◌<◌, ◌≤◌, ◌≡◌, Bool, cond, false, not, true, ◌&&◌, ◌||◌, List, ◌∷◌, [], eqb, leb, ltb, length}
+use Rattle.std.specs.Prelude.{Option, Some, None, is_none, Result, Ok, Err, ℕ, ◌+◌, ◌<◌, ◌≤◌, ◌≡◌, Bool, cond, false, not, true, ◌&&◌, ◌||◌, List, ◌∷◌, [], eqb, leb, ltb, length}
 use Rattle.identity.specs.Conditions.{◌and◌}
 use Rattle.identity.specs.Identity.{from_node_id}
 use Rattle.identity.specs.Answer.{is_accepted, Answer, Accepted, InvalidTransition, NotRising, RevisionExhausted, Unrepresentable}
@@ -86,15 +86,16 @@ tests_of phase old new ids counts nodes known lingers =
     }
 
 -- a node that neither has, or none, may stay
-abbrev pub lingers_as : VoterReplacementRecord → ℕ → Bool
-lingers_as op node = eqb node no_id || is_obsolete op (from_node_id node)
+abbrev pub lingers_as : VoterReplacementRecord → Option ℕ → Bool
+lingers_as op None = true
+lingers_as op (Some node) = is_obsolete op (from_node_id node)
 
 -- the whole, where `old` and `new` are the ids of the members of the predecessor and of the
 -- successor
 abbrev pub seen_of : VoterReplacementRecord → (old new ids counts nodes : List ℕ) → Sight
 seen_of op old new ids counts nodes =
     let outside = first_of (difference nodes (union_ids old new)) in
-    seen_by op.phase (tests_of op.phase old new ids counts nodes (eqb outside no_id) (lingers_as op outside))
+    seen_by op.phase (tests_of op.phase old new ids counts nodes (is_none outside) (lingers_as op outside))
 
 -- ---- what the tests of the sets ask for
 

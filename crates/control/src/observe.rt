@@ -177,6 +177,7 @@ fn member_index(configuration: &VoterConfiguration, slot: SlotId) -> usize
 
 // The identity is a superseded candidate's: of the slot being replaced, after the predecessor's
 // incarnation, and not after the attested one.
+#[tactic(auto, unfolding(crate::specs::Observation::is_obsolete))]
 fn is_obsolete(operation: &VoterReplacementRecord, identity: VoterSlotIdentity) -> bool
     requires { operation.now.predecessor.count ≤ 9 }
     ensures { result ≡ is_obsolete operation.now (Ok identity) }
@@ -195,16 +196,14 @@ fn is_obsolete(operation: &VoterReplacementRecord, identity: VoterSlotIdentity) 
 
 // Whether the node of neither configuration, if there is one, is a superseded candidate.
 #[tactic(auto, unfolding(crate::specs::Observation::is_obsolete))]
-fn may_linger(operation: &VoterReplacementRecord, node: ConsensusNodeId) -> bool
+fn may_linger(operation: &VoterReplacementRecord, node: Option<ConsensusNodeId>) -> bool
     requires { operation.now.predecessor.count ≤ 9 }
     ensures { result ≡ lingers_as operation.now node }
 {
-    if node == NO_ID {
-        return true;
-    }
-    match VoterSlotIdentity::from_node_id(node) {
-        Ok(identity) => is_obsolete(operation, identity),
-        Err(_) => false,
+    match node.map(VoterSlotIdentity::from_node_id) {
+        None => true,
+        Some(Ok(identity)) => is_obsolete(operation, identity),
+        Some(Err(_)) => false,
     }
 }
 
@@ -227,7 +226,7 @@ fn see_ids(
         new,
         membership,
         operation.phase,
-        outside == NO_ID,
+        outside.is_none(),
         lingers,
     );
     see_by(operation.phase, tests)

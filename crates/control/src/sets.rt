@@ -142,21 +142,21 @@ pub fn is_same(set: &[ConsensusNodeId], ids: &[ConsensusNodeId]) -> bool
     is_subset(set, ids) & is_subset(ids, set)
 }
 
-// The first id of the set that neither of the others has, or none.
+// The first id of the set that neither of the others has, if there is one.
 #[tactic(auto, using(crate::specs::ObserveSetsLaws::outside_passed, crate::specs::ObserveSetsLaws::outside_found, crate::specs::ObserveSetsLaws::outside_none), unfolding(crate::specs::ObserveSets::first_of))]
 pub fn first_outside(
     set: &[ConsensusNodeId],
     old: &[ConsensusNodeId],
     new: &[ConsensusNodeId],
-) -> ConsensusNodeId
+) -> Option<ConsensusNodeId>
     ensures { result ≡ first_of (difference set.now (union_ids old.now new.now)) }
 {
     for id in set {
         if !(contains(old, *id) | contains(new, *id)) {
-            return *id;
+            return Some(*id);
         }
     }
-    NO_ID
+    None
 }
 
 // The least of the new ids that is not an old one, or none.

@@ -1,15 +1,14 @@
 -- `control::observe::judge_closed` meets its contract: the ids of the slots in use are the front of the nine places (`idle-is`). Assumes nothing.
-use mathlib.Core.Path.{◌≡◌, sym, ap, ◌∙◌}
+use mathlib.Core.Path.{sym, ap, ◌∙◌}
 use mathlib.Core.Bool.{Bool, cond}
 use mathlib.Core.List.{List}
-use Prim.Native.Nat.{ℕ, ◌≤◌}
-use native.Mathlib.Omega.{arith}
-use lib.ListN.{length, take, length-take}
+use Prim.Native.Nat.{ℕ}
+use lib.ListN.{take}
 use Rattle.identity.specs.Answer.{InvalidTransition}
 use Rattle.control.specs.Judgement.Verdict.{refused, kept}
 use Rattle.control.specs.ObserveSets.{slot_members}
 use Rattle.control.specs.ObserveSight.{Supplied, judge_members}
-use Rattle.control.specs.ObserveSightLaws.{front-listed, idle-is, length-listed}
+use Rattle.control.specs.ObserveSightLaws.{front-listed, idle-is}
 use Rattle.control.proofs.observe.judge_closed.Goals as goal
 use Rattle.control.proofs.observe.judge_closed.Goals.{After-judge_members}
 
@@ -17,15 +16,6 @@ supplied : (c : After-judge_members) → Supplied c.args.membership.now.sets.now
 supplied c =
     let m = c.args.membership.now in
     record { counted = m.counted; held = m.held; rising = m.rising; nodes-rise = m.nodes_rise }
-
-pub slice_bounds-judge_members-end : goal.slice_bounds-judge_members-end
-slice_bounds-judge_members-end c =
-    let t = c.args.table.now in
-    let ids = c.ids_of_slots-ids.result in
-    let n : length ids ≡ 9 = ap length c.ids_of_slots-ids.ensures ∙ length-listed (slot_members t) 9 in
-    let l : t.count ≤ 9 = c.requires.0 in
-    let k : t.count ≡ length (take t.count ids) = simp length-take (omega arith) in
-    k
 
 pub returns : goal.returns
 returns c =

@@ -1,11 +1,9 @@
 -- `control::observe::see` meets its contract: the ids of the members in use are the front of the nine places, and `see-is` says that
 -- this is the definition. Assumes nothing.
-use mathlib.Core.Path.{◌≡◌, sym, ap, ◌∙◌}
-use Prim.Native.Nat.{◌≤◌}
-use native.Mathlib.Omega.{arith}
-use lib.ListN.{length, take, length-take}
+use mathlib.Core.Path.{sym, ap, ◌∙◌}
+use lib.ListN.{take}
 use Rattle.control.specs.ObserveSight.{Supplied, seen_of}
-use Rattle.control.specs.ObserveSightLaws.{front-listed, length-listed, see-is}
+use Rattle.control.specs.ObserveSightLaws.{front-listed, see-is}
 use Rattle.control.proofs.observe.see.Goals as goal
 use Rattle.control.proofs.observe.see.Goals.{After-see_ids}
 
@@ -13,24 +11,6 @@ supplied : (c : After-see_ids) → Supplied c.args.membership.now.sets.now c.arg
 supplied c =
     let m = c.args.membership.now in
     record { counted = m.counted; held = m.held; rising = m.rising; nodes-rise = m.nodes_rise }
-
-pub slice_bounds-see_ids-end : goal.slice_bounds-see_ids-end
-slice_bounds-see_ids-end c =
-    let c₀ = c.args.operation.now.predecessor in
-    let ids = c.ids_of-before.result in
-    let n : length ids ≡ 9 = ap length c.ids_of-before.ensures ∙ length-listed c₀ 9 in
-    let l : c₀.count ≤ 9 = c.requires.0 in
-    let k : c₀.count ≡ length (take c₀.count ids) = simp length-take (omega arith) in
-    k
-
-pub slice_bounds-see_ids-end-2 : goal.slice_bounds-see_ids-end-2
-slice_bounds-see_ids-end-2 c =
-    let c₀ = c.args.operation.now.successor in
-    let ids = c.ids_of-after.result in
-    let n : length ids ≡ 9 = ap length c.ids_of-after.ensures ∙ length-listed c₀ 9 in
-    let l : c₀.count ≤ 9 = c.requires.1 in
-    let k : c₀.count ≡ length (take c₀.count ids) = simp length-take (omega arith) in
-    k
 
 pub returns : goal.returns
 returns c =
