@@ -15,15 +15,15 @@ ghost use Rattle.journal.specs.Step.{HoldsAdvance, HoldsBegin, Makes, answer_of_
 use crate::bodies::*;
 use crate::observation::*;
 use control::begin::{VoterBegin, begin_table, judge_begin};
-use control::control::VoterAdvance;
+use control::control::*;
 use control::judge::*;
 use control::make::*;
 use control::observe::*;
 use control::representable::{is_representable_request, is_representable_step};
 use identity::answer::{Answer, Refusal};
-use layout::reading::LogIdRead;
-use reader::reader::read_log_id;
-use records::blank::blank_voter_slot_log_id;
+use reader::reader::Reader;
+use identity::identity::ConsensusIdentity;
+use records::blank::*;
 use records::evidence::is_valid_log_id;
 use records::records::{VoterSlotLogId, VoterSlotTable};
 
@@ -95,13 +95,11 @@ pub fn judge_marker_body(table: VoterSlotTable, body: &[u8]) -> Judged
     requires { validate table ≡ Accepted }
     ensures { numbered (verdict_of result) ≡ command_verdict table (asking Mk body.now) }
 {
-    let read = read_marker(body);
-    let cut = read.value.cut;
-    let request_id = read.value.request_id;
-    let request_digest = read.value.request_digest;
-    let judged = judge_marker(table, request_id, request_digest);
-    let checked = check_call(true, cut, judged);
-    refuse_if(!read.formed, Err(Refusal::BadRecord), checked)
+    let Some(marker) = read_marker(body) else {
+        return Judged::Refuse(Err(Refusal::BadRecord));
+    };
+    let judged = judge_marker(table, marker.request_id, marker.request_digest);
+    check_call(true, marker.cut, judged)
 }
 
 // an AD;
@@ -109,14 +107,12 @@ pub fn judge_advance_body(table: VoterSlotTable, body: &[u8]) -> Judged
     requires { validate table ≡ Accepted }
     ensures { numbered (verdict_of result) ≡ command_verdict table (asking Ad body.now) }
 {
-    let read = read_advance(body);
-    let advance = read.value;
-    let cut = advance.cut;
-    let step = advance.step;
+    let Some(advance) = read_advance(body) else {
+        return Judged::Refuse(Err(Refusal::BadRecord));
+    };
     let judged = judge_advance(table, advance);
-    let fits = is_representable_step(step);
-    let checked = check_call(fits, cut, judged);
-    refuse_if(!read.formed, Err(Refusal::BadRecord), checked)
+    let fits = is_representable_step(advance.step);
+    check_call(fits, advance.cut, judged)
 }
 
 // a BG, with its attestation's own number before 30;
@@ -124,18 +120,13 @@ pub fn judge_begin_body(table: VoterSlotTable, body: &[u8]) -> Judged
     requires { validate table ≡ Accepted }
     ensures { numbered (verdict_of result) ≡ command_verdict table (asking Bg body.now) }
 {
-    let read = read_begin(body);
-    let asks = read.asks;
-    let begin = read.value;
-    match asks {
-        Asks::Bad => Judged::Refuse(Err(Refusal::BadRecord)),
-        Asks::Refused(answer) => Judged::Refuse(answer),
-        Asks::Begin => {
-            let cut = begin.cut;
-            let request = begin.request;
+    match read_begin(body) {
+        None => Judged::Refuse(Err(Refusal::BadRecord)),
+        Some(Err(refusal)) => Judged::Refuse(Err(refusal)),
+        Some(Ok(begin)) => {
             let judged = judge_begin(table, begin);
-            let fits = is_representable_request(request);
-            check_call(fits, cut, judged)
+            let fits = is_representable_request(begin.request);
+            check_call(fits, begin.cut, judged)
         }
     }
 }
@@ -150,10 +141,9 @@ pub fn judge_observation_body(
     requires { (validate table ≡ Accepted) × (length body.now ≤ 65535) }
     ensures { numbered (verdict_of_observed result) ≡ observation_verdict table (asking Ob body.now) }
 {
-    let read = read_observation(body, ids, counts);
-    if !read.formed {
+    let Some(read) = read_observation(body, ids, counts) else {
         return Observed::Refuse(Err(Refusal::BadRecord));
-    }
+    };
     weigh_read(table, read, ids, counts)
 }
 
@@ -167,16 +157,12 @@ pub fn weigh_read(
     requires { (read.ids + read.nodes ≤ length ids.now) × (read.sets ≤ length counts.now) }
     ensures { verdict_of_observed result ≡ weighed table (take read.ids ids.now) (take read.sets counts.now) (take read.nodes (drop read.ids ids.now)) read.cut }
 {
-    let set_ids = read.ids;
-    let sets = read.sets;
-    let end = set_ids + read.nodes;
-    let cut = read.cut;
     weigh(
         table,
-        &ids[..set_ids],
-        &counts[..sets],
-        &ids[set_ids..end],
-        cut,
+        &ids[..read.ids],
+        &counts[..read.sets],
+        &ids[read.ids..read.ids + read.nodes],
+        read.cut,
     )
 }
 
@@ -206,25 +192,56 @@ pub fn make_record(table: VoterSlotTable, body: &[u8], called: Called) -> VoterS
 pub fn advance_in(body: &[u8]) -> VoterAdvance
     ensures { HoldsAdvance body.now result }
 {
-    let read = read_advance(body);
-    read.value
+    read_advance(body).unwrap_or(blank_advance())
 }
 
 // The Begin.
 pub fn begin_in(body: &[u8]) -> VoterBegin
     ensures { HoldsBegin body.now result }
 {
-    let read = read_begin(body);
-    read.value
+    match read_begin(body) {
+        Some(Ok(begin)) => begin,
+        _ => blank_begin(),
+    }
 }
 
 // The cut that a body begins with.
 pub fn cut_in(body: &[u8]) -> VoterSlotLogId
     ensures { result ≡ cut_at body.now }
 {
-    let read = read_log_id(body);
-    match read {
-        LogIdRead::Read(cut, _) => cut,
-        LogIdRead::Refused(_) => blank_voter_slot_log_id(),
+    Reader::new(body)
+        .log_id()
+        .unwrap_or(blank_voter_slot_log_id())
+}
+
+// What is made of no body: a judged one is of its form, so nobody looks at them.
+fn blank_advance() -> VoterAdvance {
+    VoterAdvance {
+        request_id: [0; 16],
+        request_digest: [0; 32],
+        step: VoterReplacementStep {
+            kind: RECORD_SNAPSHOT,
+            snapshot: blank_voter_snapshot_evidence(),
+            caught_up: blank_voter_slot_log_id(),
+        },
+        cut: blank_voter_slot_log_id(),
+    }
+}
+
+fn blank_begin() -> VoterBegin {
+    VoterBegin {
+        request: VoterReplacementRequest {
+            expected_revision: 0,
+            expected_configuration: ConsensusIdentity {
+                cluster_id: [0; 32],
+                configuration_id: [0; 32],
+                configuration_epoch: 0,
+            },
+            candidate: blank_voter_slot_member(),
+            attestation: blank_lost_voter_attestation_v1(),
+            supplied_request_digest: [0; 32],
+            supplied_configuration_id: [0; 32],
+        },
+        cut: blank_voter_slot_log_id(),
     }
 }
