@@ -100,7 +100,7 @@ NAMES = list(RECORDS)
 NINES = []
 # What the crates above compare by name: arrays of so many bytes, and records.
 SIZES = [16, 32]
-COMPARED_ABOVE = ['VoterSlotLogId', 'VoterSlotMember', 'VoterReplacementResult', 'VoterSnapshotEvidence', 'VoterConfiguration', 'LostVoterAttestationV1', 'VoterSlotTable']
+COMPARED_ABOVE = ['VoterSlotLogId', 'VoterSnapshotEvidence']
 for fields in RECORDS.values():
     for field in fields:
         if field.kind == 'nine' and field.struct not in NINES:
@@ -528,6 +528,9 @@ use Rattle.std.specs.Prelude.{false, replicate}
     code = ['''
 // The blank of each record, all zero: what stands where a record is absent or was refused.
 // %s
+//
+// A derived `Default` is as fast, and of an array it says only that each element is a default: the
+// layers above rest on the whole value, which these clauses name.
 ghost use Rattle.std.specs.Prelude.{◌≡◌};
 ghost use Rattle.records.specs.Blank.{%s};
 %s%s''' % (BY, all_of('blank_'), use_rattle(NAMES), LENGTHS)]

@@ -51,7 +51,7 @@ class Source:
     def __init__(self, crates):
         self.structs, self.enums, self.aliases, self.constants, self.values = {}, {}, {}, {}, {}
         self.signatures, self.functions, self.texts, self.scope = {}, [], {}, {}
-        self.public, self.whole = {}, []
+        self.public, self.whole, self.homes = {}, [], {}
         for crate in crates:
             folder = f'crates/{crate}/src'
             for name in sorted(os.listdir(folder)):
@@ -60,6 +60,10 @@ class Source:
         for scope, module in self.whole:
             for name in self.public.get(module, []):
                 scope.setdefault(name, name)
+        # a method has its name from the module that declares its type, wherever its `impl` stands
+        for f in self.functions:
+            if (f.crate, f.owner) in self.homes:
+                f.full = f'{self.homes[f.crate, f.owner]}::{f.owner}::{f.name}'
         self.calls = {}
         for crate in crates:
             self.calls.update(reaches([f for f in self.functions if f.crate == crate]))
@@ -92,6 +96,7 @@ class Source:
                 i = self.constant_or_alias(prefix, tokens, i, scope)
             elif word in ('struct', 'enum'):
                 name, begin = tokens[i + 1].text, i + 2
+                self.homes[crate, name] = prefix
                 while tokens[begin].text not in '({;':
                     begin += 1
                 end = closing(tokens, begin) if tokens[begin].text != ';' else begin

@@ -1,13 +1,12 @@
 -- What the entry points' proofs use: each way that a reading, a writing and a restart can go.
 -- Assumes nothing.
-use Rattle.std.specs.Prelude.{ℕ, zero, suc, ◌+◌, ◌≤◌, ◌<◌, Result, Ok, Err, Bool, ◌≡◌, refl, List, ◌++◌, length, take, drop, leb, eqb}
+use Rattle.std.specs.Prelude.{ℕ, zero, suc, ◌≤◌, ◌<◌, Ok, Err, Bool, ◌≡◌, refl, List, ◌++◌, length, take, drop, leb, eqb}
 use Rattle.std.proofs.Common.{arith, zero-add, sym, ap, ap₂, ◌∙◌, length-append, le-leb}
 use Rattle.std.proofs.Math.Bool.{true, false}
 use Rattle.std.proofs.lemmas.Bool.{lt-leb}
-use Rattle.identity.specs.Answer.{number_of, number_of_refusal}
+use Rattle.identity.specs.Answer.{number_of, number_of_refusal, Accepted}
 use Rattle.identity.specs.AnswerLaws.{accepted-is-0}
 use Rattle.identity.specs.declared.answer.Refusal.{Refusal}
-use Rattle.identity.specs.Answer.{Accepted}
 use Rattle.format.specs.Combinators.{gate}
 use Rattle.format.specs.Fill.{gate-refused}
 use Rattle.format.specs.Num.{pick}

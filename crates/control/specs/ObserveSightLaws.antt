@@ -157,7 +157,7 @@ difference-same (x ∷ a) b c s = λ i. cond (s x i) (difference-same a b c s i)
 -- ---- the sets that are supplied
 
 split_one : (ids counts set : List ℕ) → total counts ≡ length ids → eq_sets (split_sets ids counts) (set ∷ []) ≡ (eqb (length counts) 1 && eq_ids ids set)
-unfolding split_sets total eq_list
+unfolding split_sets total
 split_one ids [] set h = refl
 split_one ids (n ∷ []) set h =
     and-true (eq_ids (take n ids) set)
@@ -168,7 +168,7 @@ split_one ids (n ∷ (m ∷ l)) set h =
 split-two : (ids counts a b : List ℕ) → total counts ≡ length ids
     → eq_sets (split_sets ids counts) (a ∷ (b ∷ []))
     ≡ (eqb (length counts) 2 && (eq_ids (take (get_or counts 0 0) ids) a && eq_ids (drop (get_or counts 0 0) ids) b))
-unfolding split_sets total eq_list
+unfolding split_sets total
 split-two ids [] a b h = refl
 split-two ids (n ∷ []) a b h =
     and-false (eq_ids (take n ids) a) ∙ sym (ap (λ (t : Bool). t && (eq_ids (take n ids) a && eq_ids (drop n ids) b)) (ne_eqb (length (n ∷ [])) 2 (λ e. omega arith)))

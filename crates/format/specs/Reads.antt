@@ -217,3 +217,25 @@ module _ {A B C D Z : Type 0} (F : Codec A) (G : A → Codec B) (H : A × B → 
   reads_four =
       reads_three (dep F G) H I f g same bs
       ∙ reads_pair F G bs (λ p r. then_read {B = Z} (reads (H p) r) (λ c t. made_read (λ d. f ((p, c), d)) (reads (I (p, c)) t)))
+
+-- the same three or four forms, with more to read after them
+module _ {A B C Y Z : Type 0} (F : Codec A) (G : A → Codec B) (H : A × B → Codec C) (f : (A × B) × C → Y) (g : Y → (A × B) × C)
+    (same : (p : (A × B) × C) → (dep (dep F G) H).Good p → g (f p) ≡ p) (bs : List ℕ) (h : Y → List ℕ → Reading Z) where
+  pub then_three : then_read {B = Z} (reads (via (dep (dep F G) H) f g same) bs) h
+      ≡ then_read {B = Z} (reads F bs) (λ a r. then_read {B = Z} (reads (G a) r) (λ b s. then_read {B = Z} (reads (H (a, b)) s) (λ c t. h (f ((a, b), c)) t)))
+  then_three =
+      ap (λ x. then_read {B = Z} x h) (reads_via (dep (dep F G) H) f g same bs)
+      ∙ made_then f (reads (dep (dep F G) H) bs) h
+      ∙ reads_pair (dep F G) H bs (λ p t. h (f p) t)
+      ∙ reads_pair F G bs (λ p s. then_read {B = Z} (reads (H p) s) (λ c t. h (f (p, c)) t))
+
+module _ {A B C D Y Z : Type 0} (F : Codec A) (G : A → Codec B) (H : A × B → Codec C) (I : (A × B) × C → Codec D) (f : ((A × B) × C) × D → Y) (g : Y → ((A × B) × C) × D)
+    (same : (p : ((A × B) × C) × D) → (dep (dep (dep F G) H) I).Good p → g (f p) ≡ p) (bs : List ℕ) (h : Y → List ℕ → Reading Z) where
+  pub then_four : then_read {B = Z} (reads (via (dep (dep (dep F G) H) I) f g same) bs) h
+      ≡ then_read {B = Z} (reads F bs) (λ a r. then_read {B = Z} (reads (G a) r) (λ b s. then_read {B = Z} (reads (H (a, b)) s) (λ c t. then_read {B = Z} (reads (I ((a, b), c)) t) (λ d u. h (f (((a, b), c), d)) u))))
+  then_four =
+      ap (λ x. then_read {B = Z} x h) (reads_via (dep (dep (dep F G) H) I) f g same bs)
+      ∙ made_then f (reads (dep (dep (dep F G) H) I) bs) h
+      ∙ reads_pair (dep (dep F G) H) I bs (λ p u. h (f p) u)
+      ∙ reads_pair (dep F G) H bs (λ p t. then_read {B = Z} (reads (I p) t) (λ d u. h (f (p, d)) u))
+      ∙ reads_pair F G bs (λ p s. then_read {B = Z} (reads (H p) s) (λ c t. then_read {B = Z} (reads (I (p, c)) t) (λ d u. h (f ((p, c), d)) u)))

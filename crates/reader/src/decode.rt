@@ -7,9 +7,10 @@ ghost use Rattle.std.specs.Prelude.{◌≡◌, ◌≤◌, length, IfOk};
 ghost use Rattle.format.specs.List.{opt};
 ghost use Rattle.format.specs.Through.{whole, boxed};
 ghost use Rattle.format.specs.Reads.{reads};
-ghost use Rattle.records.specs.Blank.{blank_voter_replacement_result, blank_voter_snapshot_evidence};
-ghost use Rattle.layout.specs.Told.{told, told_whole};
-ghost use Rattle.layout.specs.Layout.{binding, member, members, configuration, result_head, replacement_result, slot_member, slot, slots, claims_request, claims_slot, claims_names, claims_end, claims, attestation, snapshot, evidence, change, replacement, table_head, table};
+ghost use Rattle.records.specs.Blank.{blank_voter_replacement_result, blank_voter_snapshot_evidence, blank_lost_voter_attestation_v1, blank_voter_replacement_record, blank_voter_slot_table};
+ghost use Rattle.layout.specs.Parts.{blank_voter_slot_records};
+ghost use Rattle.layout.specs.Told.{told, told_at, told_whole_at};
+ghost use Rattle.layout.specs.Layout.{binding, member, members, configuration, result_head, replacement_result, slot_member, slot, slots, claims_request, claims_slot, claims_end, claims, attestation, snapshot, evidence, replacement, table_head, table};
 
 use crate::reader::Reader;
 use identity::answer::Refusal;
@@ -139,17 +140,21 @@ impl<'a> Reader<'a> {
         })
     }
 
-    // The first so many of the nine places; blanks after them.
-    #[tactic(auto, using(format::specs::ReadsMore::filled_none, format::specs::ReadsMore::filled_next, format::specs::ReadsMore::padded_refused, format::specs::ReadsMore::padded_filled), unfolding(layout::specs::Layout::slots, layout::specs::Parts::blank_voter_slot_records))]
-    fn slots(&mut self, count: usize) -> Result<[VoterSlotRecord; MAX_FIXED_VOTER_SLOTS], Refusal>
-        requires { count ≤ 9 }
-        ensures { told result self.new.bytes.now ≡ reads (slots count) self.old.bytes.now }
+    // The first so many of the nine places, which are blank; the others stay so.
+    #[tactic(auto, using(format::specs::ReadsMore::filled_none, format::specs::ReadsMore::padded_refused), unfolding(layout::specs::Layout::slots, layout::specs::Parts::blank_voter_slot_records))]
+    fn slots(
+        &mut self,
+        count: usize,
+        places: &mut [VoterSlotRecord; MAX_FIXED_VOTER_SLOTS],
+    ) -> Result<(), Refusal>
+        requires few { count ≤ 9 }
+        requires blank { places.old ≡ blank_voter_slot_records }
+        ensures { told_at result places.new self.new.bytes.now ≡ reads (slots count) self.old.bytes.now }
     {
-        let mut value = blank_voter_slot_records();
         for i in 0..count {
-            value[i] = self.slot()?;
+            places[i] = self.slot()?;
         }
-        Ok(value)
+        Ok(())
     }
 
     // The groups of an attestation.
@@ -176,17 +181,6 @@ impl<'a> Reader<'a> {
         })
     }
 
-    #[tactic(auto, using(format::specs::Reads::reads_four), unfolding(layout::specs::Layout::claims_names))]
-    fn claims_names(&mut self) -> Result<ClaimsNames, Refusal>
-        ensures { told result self.new.bytes.now ≡ reads claims_names self.old.bytes.now }
-    {
-        Ok(ClaimsNames {
-            admission_generation: self.u64()?,
-            candidate_spiffe_id: self.spiffe_id()?,
-            controller_spiffe_id: self.spiffe_id()?,
-            signing_key_digest: self.array()?,
-        })
-    }
 
     #[tactic(auto, using(format::specs::Reads::reads_four), unfolding(layout::specs::Layout::claims_end))]
     fn claims_end(&mut self) -> Result<ClaimsEnd, Refusal>
@@ -200,24 +194,51 @@ impl<'a> Reader<'a> {
         })
     }
 
-    // The fields of an attestation; anything may come after them.
-    #[tactic(auto, using(format::specs::Reads::reads_four), unfolding(layout::specs::Layout::claims))]
-    pub fn attestation(&mut self) -> Result<LostVoterAttestationV1, Refusal>
-        ensures { told result self.new.bytes.now ≡ reads claims self.old.bytes.now }
+    // The fields of an attestation, into a place that is blank; anything may come after them.
+    #[tactic(auto, using(layout::specs::ReadingLaws::reads_claims, layout::specs::ReadingLaws::blank_candidate, layout::specs::ReadingLaws::blank_controller))]
+    pub fn attestation(&mut self, place: &mut LostVoterAttestationV1) -> Result<(), Refusal>
+        requires { place.old ≡ blank_lost_voter_attestation_v1 }
+        ensures { told_at result place.new self.new.bytes.now ≡ reads claims self.old.bytes.now }
     {
         let request = self.claims_request()?;
+        let request_id = request.request_id;
+        let request_digest = request.request_digest;
+        place.request_id = request_id;
+        place.request_digest = request_digest;
         let slot = self.claims_slot()?;
-        let names = self.claims_names()?;
+        let cluster_instance = slot.cluster_instance;
+        let old_descriptor_digest = slot.old_descriptor_digest;
+        let candidate_key_digest = slot.candidate_key_digest;
+        place.cluster_instance = cluster_instance;
+        place.slot = slot.identity.slot;
+        place.expected_incarnation = slot.identity.incarnation;
+        place.old_descriptor_digest = old_descriptor_digest;
+        place.candidate_key_digest = candidate_key_digest;
+        place.admission_generation = self.u64()?;
+        self.spiffe_id(&mut place.candidate_spiffe_id)?;
+        self.spiffe_id(&mut place.controller_spiffe_id)?;
+        let signing_key_digest = self.array()?;
+        place.signing_key_digest = signing_key_digest;
         let end = self.claims_end()?;
-        Ok(attestation_of(request, slot, names, end))
+        let policy_digest = end.policy_digest;
+        let signature = end.signature;
+        place.reason = end.reason;
+        place.policy_digest = policy_digest;
+        place.observation_start_ms = end.times.observation_start_ms;
+        place.decision_ms = end.times.decision_ms;
+        place.issued_ms = end.times.issued_ms;
+        place.expires_ms = end.times.expires_ms;
+        place.signature = signature;
+        Ok(())
     }
 
     // `sized_bytes(MAX_LOST_VOTER_ATTESTATION_BYTES)`, and the attestation in them.
     #[tactic(auto, using(format::specs::ReadsMore::reads_boxed), unfolding(layout::specs::Layout::sized))]
-    fn boxed_attestation(&mut self) -> Result<LostVoterAttestationV1, Refusal>
-        ensures { told result self.new.bytes.now ≡ reads (boxed attestation 8192) self.old.bytes.now }
+    fn boxed_attestation(&mut self, place: &mut LostVoterAttestationV1) -> Result<(), Refusal>
+        requires { place.old ≡ blank_lost_voter_attestation_v1 }
+        ensures { told_at result place.new self.new.bytes.now ≡ reads (boxed attestation 8192) self.old.bytes.now }
     {
-        read_whole_attestation(self.sized_bytes(MAX_LOST_VOTER_ATTESTATION_BYTES)?)
+        read_whole_attestation(self.sized_bytes(MAX_LOST_VOTER_ATTESTATION_BYTES)?, place)
     }
 
     // The evidence of a snapshot.
@@ -255,33 +276,20 @@ impl<'a> Reader<'a> {
         Ok(evidence_of(prepare, has_snapshot, snapshot, early, late))
     }
 
-    // What an open request changes, and how far it is.
-    #[tactic(auto, using(format::specs::Reads::reads_three), unfolding(layout::specs::Layout::change))]
-    fn change(&mut self) -> Result<Change, Refusal>
-        ensures { told result self.new.bytes.now ≡ reads change self.old.bytes.now }
-    {
-        Ok(Change {
-            predecessor: self.configuration()?,
-            successor: self.configuration()?,
-            phase: self.choice(PREPARED, UNIFORM)?,
-        })
-    }
 
-    // An open request.
-    #[tactic(auto, using(format::specs::Reads::reads_four), unfolding(layout::specs::Layout::replacement))]
-    fn replacement(&mut self) -> Result<VoterReplacementRecord, Refusal>
-        ensures { told result self.new.bytes.now ≡ reads replacement self.old.bytes.now }
+    // An open request, into a place that is blank.
+    #[tactic(auto, using(layout::specs::ReadingLaws::reads_replacement, layout::specs::ReadingLaws::blank_attestation))]
+    fn replacement(&mut self, place: &mut VoterReplacementRecord) -> Result<(), Refusal>
+        requires { place.old ≡ blank_voter_replacement_record }
+        ensures { told_at result place.new self.new.bytes.now ≡ reads replacement self.old.bytes.now }
     {
-        let expected_revision = self.u64()?;
-        let attestation = self.boxed_attestation()?;
-        let change = self.change()?;
-        let evidence = self.evidence()?;
-        Ok(replacement_of(
-            expected_revision,
-            attestation,
-            change,
-            evidence,
-        ))
+        place.expected_revision = self.u64()?;
+        self.boxed_attestation(&mut place.attestation)?;
+        place.predecessor = self.configuration()?;
+        place.successor = self.configuration()?;
+        place.phase = self.choice(PREPARED, UNIFORM)?;
+        place.evidence = self.evidence()?;
+        Ok(())
     }
 
     // The front of a table.
@@ -297,37 +305,49 @@ impl<'a> Reader<'a> {
         })
     }
 
-    // The fields of a table; anything may come after them. The table is made here, where its cursor
-    // is known: passed on by a reader of the open request's end, its 8 KB would be copied once
-    // more.
-    #[tactic(auto, using(layout::specs::ReadingLaws::reads_table, format::specs::Reads::reads_opt))]
-    pub fn table(&mut self) -> Result<VoterSlotTable, Refusal>
-        ensures form { told result self.new.bytes.now ≡ reads table self.old.bytes.now }
-        ensures small { IfOk result (λ table. table.count ≤ 9) }
+    // The fields of a table, into a place that is blank; anything may come after them. The table is
+    // filled where it stands: a `Result` that has it would copy its 8 KB at each `?`.
+    #[tactic(auto, using(layout::specs::ReadingLaws::reads_table, format::specs::Reads::reads_opt, layout::specs::ReadingLaws::blank_slots, layout::specs::ReadingLaws::blank_replacement))]
+    pub fn table(&mut self, place: &mut VoterSlotTable) -> Result<(), Refusal>
+        requires { place.old ≡ blank_voter_slot_table }
+        ensures form { told_at result place.new self.new.bytes.now ≡ reads table self.old.bytes.now }
+        ensures small { IfOk result (λ nothing. place.new.count ≤ 9) }
     {
         self.magic_and_version()?;
         let head = self.table_head()?;
+        let cluster_instance = head.cluster_instance;
+        let manifest_digest = head.manifest_digest;
+        place.cluster_instance = cluster_instance;
+        place.manifest_digest = manifest_digest;
+        place.revision = head.revision;
+        place.configuration_epoch = head.configuration_epoch;
         let count = self.count()?;
-        let slots = self.slots(count)?;
+        place.count = count;
+        self.slots(count, &mut place.slots)?;
         let is_open = self.flag()?;
+        place.has_replacement = is_open;
         if !is_open {
-            return Ok(idle_table_of(head, count, slots));
+            return Ok(());
         }
-        let replacement = self.replacement()?;
-        Ok(table_of_parts(head, count, slots, true, replacement))
+        self.replacement(&mut place.replacement)
     }
 }
 
-// All of the bytes are one attestation, of the rule of validation.rs.
+// All of the bytes are one attestation, of the rule of validation.rs. It is read into a place that
+// is blank.
 #[tactic(auto, using(format::specs::ReadsMore::reads_whole, format::specs::Reads::reads_check), unfolding(layout::specs::Layout::attestation, format::specs::Num::pick))]
-pub fn read_whole_attestation(bytes: &[u8]) -> Result<LostVoterAttestationV1, Refusal>
-    ensures { told_whole result (length bytes.now) ≡ whole attestation bytes.now }
+pub fn read_whole_attestation(
+    bytes: &[u8],
+    place: &mut LostVoterAttestationV1,
+) -> Result<(), Refusal>
+    requires { place.old ≡ blank_lost_voter_attestation_v1 }
+    ensures { told_whole_at result place.new (length bytes.now) ≡ whole attestation bytes.now }
 {
     let mut input = Reader::new(bytes);
-    let attestation = input.attestation()?;
+    input.attestation(place)?;
     input.finish()?;
-    if !is_valid_attestation(attestation) {
+    if !is_valid_attestation(*place) {
         return Err(Refusal::InvalidRecord);
     }
-    Ok(attestation)
+    Ok(())
 }

@@ -12,7 +12,9 @@ ghost use Rattle.identity.specs.Answer.{Accepted, InvalidRecord};
 ghost use Rattle.format.specs.Num.{uint, raw, pick};
 ghost use Rattle.format.specs.List.{flag};
 ghost use Rattle.format.specs.Reads.{reads, made_read};
-ghost use Rattle.layout.specs.Told.{told, told_bytes, told_sized};
+ghost use Rattle.layout.specs.Told.{told, told_at, told_beside, told_bytes, told_sized};
+ghost use Rattle.format.specs.Copy.{zeros};
+ghost use Rattle.records.specs.Blank.{blank_spiffe_id};
 ghost use Rattle.layout.specs.Layout.{slot_id, incarnation, epoch, slot_count, choice, log_id, optional_log_id, three_cuts, identity, times, version, magic_and_version, sized, string, placed, spiffe_id, snapshot_id};
 
 use identity::answer::Refusal;
@@ -228,35 +230,38 @@ impl<'a> Reader<'a> {
         self.take(count)
     }
 
-    // `string`: how many bytes, and a place that has them and zeros after them.
+    // `string`, into a place of zeros: how many bytes; zeros stay after them.
     #[tactic(auto, using(format::specs::Reads::reads_check, layout::specs::ReadingLaws::rest_of_zeros), unfolding(layout::specs::Layout::string, format::specs::Num::pick))]
-    fn string<const N: usize>(&mut self) -> Result<(usize, [u8; N]), Refusal>
-        ensures { told result self.new.bytes.now ≡ made_read (λ p. (p.0, placed N p)) (reads (string N) self.old.bytes.now) }
+    pub fn string<const N: usize>(&mut self, place: &mut [u8; N]) -> Result<usize, Refusal>
+        requires { place.old ≡ zeros N }
+        ensures { told_beside result place.new self.new.bytes.now ≡ made_read (λ p. (p.0, placed N p)) (reads (string N) self.old.bytes.now) }
     {
         let bytes = self.sized_bytes(N)?;
         if !is_utf8(bytes) {
             return Err(Refusal::InvalidRecord);
         }
-        let mut place = [0; N];
         place[..bytes.len()].copy_from_slice(bytes);
-        Ok((bytes.len(), place))
+        Ok(bytes.len())
     }
 
-    // `identity_string`
-    #[tactic(auto, using(format::specs::Reads::reads_via), unfolding(layout::specs::Layout::spiffe_id))]
-    pub fn spiffe_id(&mut self) -> Result<SpiffeId, Refusal>
-        ensures { told result self.new.bytes.now ≡ reads spiffe_id self.old.bytes.now }
+    // `identity_string`, into a place that is blank: returned, its 2 KB would be copied at each
+    // step.
+    #[tactic(auto, using(format::specs::Reads::reads_via, layout::specs::ReadingLaws::blank_bytes), unfolding(layout::specs::Layout::spiffe_id))]
+    pub fn spiffe_id(&mut self, place: &mut SpiffeId) -> Result<(), Refusal>
+        requires { place.old ≡ blank_spiffe_id }
+        ensures { told_at result place.new self.new.bytes.now ≡ reads spiffe_id self.old.bytes.now }
     {
-        let (len, bytes) = self.string::<MAX_VOTER_SPIFFE_ID_BYTES>()?;
-        Ok(SpiffeId { len, bytes })
+        place.len = self.string(&mut place.bytes)?;
+        Ok(())
     }
 
     // `string(MAX_VOTER_SNAPSHOT_ID_BYTES)`
-    #[tactic(auto, using(format::specs::Reads::reads_via), unfolding(layout::specs::Layout::snapshot_id))]
+    #[tactic(auto, using(format::specs::Reads::reads_via), unfolding(layout::specs::Layout::snapshot_id, format::specs::Copy::zeros))]
     pub fn snapshot_id(&mut self) -> Result<SnapshotId, Refusal>
         ensures { told result self.new.bytes.now ≡ reads snapshot_id self.old.bytes.now }
     {
-        let (len, bytes) = self.string::<MAX_VOTER_SNAPSHOT_ID_BYTES>()?;
+        let mut bytes = [0; MAX_VOTER_SNAPSHOT_ID_BYTES];
+        let len = self.string(&mut bytes)?;
         Ok(SnapshotId { len, bytes })
     }
 

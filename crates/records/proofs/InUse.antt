@@ -1,6 +1,6 @@
 -- The slots in use, as the code has them, are those of the table, as Successor speaks of them.
 -- Assumes nothing.
-use Rattle.std.proofs.Common.{ℕ, ◌+◌, ◌<◌, ◌≡◌, get_or, ◌∙◌, List, length, eqb, not, ap, sym, arith}
+use Rattle.std.proofs.Common.{ℕ, ◌+◌, ◌<◌, ◌≡◌, get_or, ◌∙◌, List, length, eqb, not, ap, refl, sym, arith}
 use Rattle.std.proofs.lemmas.Grind.{common_steps}
 use Rattle.std.proofs.lemmas.List.Sums.{prefix_len-le-length}
 use Rattle.std.specs.List.{position, position_or_len}
@@ -35,3 +35,12 @@ module _ (t : VoterSlotTable) (used : List VoterSlotRecord) (e : used ≡ slots_
   in-use-succeed old =
       rw h
       (all_below-same _ _ t.count (λ i l. ap (λ (s : VoterSlotRecord). slot_succeeds s (slot_at old i)) (front-at no_slot_record t.slots used t.count e h i l)))
+
+-- the same for `grind`, which finds the list that is in use by itself
+pub slot_index_in_use : (t : VoterSlotTable) (slot : ℕ) → length (slots_in_use t) ≡ t.count
+    → slot_index t slot ≡ position_or_len (λ s. eqb s.member.identity.slot slot) (slots_in_use t)
+slot_index_in_use t slot h = place-in-use t (slots_in_use t) refl h slot
+
+pub succession_in_use : (t old : VoterSlotTable) → length (slots_in_use t) ≡ t.count
+    → all_below (λ i. slot_succeeds (slot_at t i) (slot_at old i)) t.count ≡ all_below (λ i. slot_succeeds (slot_in (slots_in_use t) i) (slot_at old i)) (length (slots_in_use t))
+succession_in_use t old h = sym (in-use-succeed t (slots_in_use t) refl h old)

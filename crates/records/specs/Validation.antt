@@ -41,8 +41,8 @@ valid_configuration c =
 abbrev pub valid_spiffe_id : SpiffeId → Bool
 valid_spiffe_id s = leb s.len max_spiffe_id_bytes && is_name (take s.len s.bytes)
 
--- Both names of an attestation are valid. No rule of its own: it is what the inner function
--- `validate_operation` requires, since its caller looks at the names.
+-- Both names of an attestation are valid. No rule of its own: with it the numbers alone decide
+-- (`names-hold` of ValidationLaws).
 pub record NamesHold (a : LostVoterAttestationV1) : Type 0 where
   pub candidate : valid_spiffe_id a.candidate_spiffe_id ≡ true
   pub controller : valid_spiffe_id a.controller_spiffe_id ≡ true

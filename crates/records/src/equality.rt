@@ -5,7 +5,7 @@
 // (see NOTICE). What it answers is the definition of specs/Equality.antt: a function that compares
 // names that definition, and those below it, in its attribute.
 ghost use Rattle.std.specs.Prelude.{◌≡◌};
-ghost use Rattle.records.specs.Equality.{eq_bytes, same_voter_slot_log_id, same_voter_slot_member, same_voter_replacement_result, same_voter_snapshot_evidence, same_voter_configuration, same_lost_voter_attestation_v1, same_voter_slot_table};
+ghost use Rattle.records.specs.Equality.{eq_bytes, same_voter_slot_log_id, same_voter_snapshot_evidence};
 
 use crate::records::*;
 
@@ -28,44 +28,9 @@ pub fn same_voter_slot_log_id(a: VoterSlotLogId, b: VoterSlotLogId) -> bool
     a == b
 }
 
-#[tactic(auto, unfolding(crate::specs::Equality::all_true, crate::specs::Equality::same_voter_slot_member, crate::specs::Equality::same_voter_slot_identity))]
-pub fn same_voter_slot_member(a: VoterSlotMember, b: VoterSlotMember) -> bool
-    ensures { result ≡ same_voter_slot_member a b }
-{
-    a == b
-}
-
-#[tactic(auto, unfolding(crate::specs::Equality::all_true, crate::specs::Equality::same_voter_replacement_result, crate::specs::Equality::same_voter_slot_log_id))]
-pub fn same_voter_replacement_result(a: VoterReplacementResult, b: VoterReplacementResult) -> bool
-    ensures { result ≡ same_voter_replacement_result a b }
-{
-    a == b
-}
-
 #[tactic(auto, unfolding(crate::specs::Equality::all_true, crate::specs::Equality::same_voter_snapshot_evidence, crate::specs::Equality::same_voter_slot_log_id, crate::specs::Equality::same_snapshot_id))]
 pub fn same_voter_snapshot_evidence(a: VoterSnapshotEvidence, b: VoterSnapshotEvidence) -> bool
     ensures { result ≡ same_voter_snapshot_evidence a b }
-{
-    a == b
-}
-
-#[tactic(auto, unfolding(crate::specs::Equality::all_true, crate::specs::Equality::same_voter_configuration, crate::specs::Equality::same_voter_slot_member, crate::specs::Equality::same_voter_slot_identity))]
-pub fn same_voter_configuration(a: VoterConfiguration, b: VoterConfiguration) -> bool
-    ensures { result ≡ same_voter_configuration a b }
-{
-    a == b
-}
-
-#[tactic(auto, unfolding(crate::specs::Equality::all_true, crate::specs::Equality::same_lost_voter_attestation_v1, crate::specs::Equality::same_spiffe_id))]
-pub fn same_lost_voter_attestation_v1(a: LostVoterAttestationV1, b: LostVoterAttestationV1) -> bool
-    ensures { result ≡ same_lost_voter_attestation_v1 a b }
-{
-    a == b
-}
-
-#[tactic(auto, unfolding(crate::specs::Equality::all_true, crate::specs::Equality::same_voter_slot_table, crate::specs::Equality::same_voter_slot_record, crate::specs::Equality::same_voter_slot_member, crate::specs::Equality::same_voter_slot_identity, crate::specs::Equality::same_voter_replacement_result, crate::specs::Equality::same_voter_slot_log_id, crate::specs::Equality::same_voter_replacement_record, crate::specs::Equality::same_lost_voter_attestation_v1, crate::specs::Equality::same_spiffe_id, crate::specs::Equality::same_voter_configuration, crate::specs::Equality::same_voter_replacement_evidence, crate::specs::Equality::same_voter_snapshot_evidence, crate::specs::Equality::same_snapshot_id, crate::specs::Equality::same_optional_log_id))]
-pub fn same_voter_slot_table(a: VoterSlotTable, b: VoterSlotTable) -> bool
-    ensures { result ≡ same_voter_slot_table a b }
 {
     a == b
 }

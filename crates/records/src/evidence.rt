@@ -8,7 +8,6 @@
 ghost use Rattle.std.specs.Prelude.{◌≡◌};
 ghost use Rattle.records.specs.Evidence.{valid_log_id, follows, valid_stage, stage_or, snapshot_cut, valid_stages, in_order, valid_continuation, valid_snapshot_id, valid_evidence, retains_cut, retains_marker, retains_cuts, retains, later_of, latest};
 
-use crate::equality::{same_voter_slot_log_id, same_voter_snapshot_evidence};
 use crate::records::*;
 use identity::text::{MAX_VOTER_SNAPSHOT_ID_BYTES, is_snapshot_id};
 
@@ -20,12 +19,12 @@ pub fn is_valid_log_id(cut: VoterSlotLogId) -> bool
 }
 
 // `VoterSlotLogId::follows`.
-#[tactic(auto, unfolding(crate::specs::Evidence::follows))]
+#[tactic(auto, unfolding(crate::specs::Equality::all_true, crate::specs::Equality::same_voter_slot_log_id, crate::specs::Evidence::follows))]
 pub fn log_id_follows(cut: VoterSlotLogId, older: VoterSlotLogId, allow_equal: bool) -> bool
     ensures { result ≡ follows cut older allow_equal }
 {
     if cut.index == older.index {
-        return allow_equal & same_voter_slot_log_id(cut, older);
+        return allow_equal & (cut == older);
     }
     (older.index < cut.index) & (older.term <= cut.term)
 }
@@ -101,12 +100,12 @@ impl VoterReplacementEvidence {
     }
 
     // `retains`.
-    #[tactic(auto, unfolding(crate::specs::Evidence::retains))]
+    #[tactic(auto, unfolding(crate::specs::Equality::all_true, crate::specs::Equality::same_voter_slot_log_id, crate::specs::Equality::same_voter_snapshot_evidence, crate::specs::Equality::same_snapshot_id, crate::specs::Evidence::retains))]
     pub fn retains(&self, old: &VoterReplacementEvidence, old_phase: u8) -> bool
         ensures { result ≡ retains self.now old.now old_phase }
     {
-        let same_prepare = same_voter_slot_log_id(self.prepare, old.prepare);
-        let same_snapshot = same_voter_snapshot_evidence(self.snapshot, old.snapshot);
+        let same_prepare = self.prepare == old.prepare;
+        let same_snapshot = self.snapshot == old.snapshot;
         let marker_kept = self.caught_up.retains_marker(&old.caught_up, old_phase);
         let cuts_kept = self.retains_cuts(old);
         same_prepare
@@ -194,20 +193,20 @@ impl OptionalLogId {
     }
 
     // A cut that was present is the same still.
-    #[tactic(auto, unfolding(crate::specs::Evidence::retains_cut))]
+    #[tactic(auto, unfolding(crate::specs::Equality::all_true, crate::specs::Equality::same_voter_slot_log_id, crate::specs::Evidence::retains_cut))]
     fn retains(&self, old: &OptionalLogId) -> bool
         ensures { result ≡ retains_cut self.now old.now }
     {
-        let same = same_voter_slot_log_id(self.cut, old.cut);
+        let same = self.cut == old.cut;
         !old.is_some | (self.is_some & same)
     }
 
     // A mark that was present is the same still or, before the fence, a later one.
-    #[tactic(auto, unfolding(crate::specs::Evidence::retains_marker))]
+    #[tactic(auto, unfolding(crate::specs::Equality::all_true, crate::specs::Equality::same_voter_slot_log_id, crate::specs::Evidence::retains_marker))]
     fn retains_marker(&self, old: &OptionalLogId, old_phase: u8) -> bool
         ensures { result ≡ retains_marker self.now old.now old_phase }
     {
-        let same = same_voter_slot_log_id(self.cut, old.cut);
+        let same = self.cut == old.cut;
         let later = log_id_follows(self.cut, old.cut, false);
         !old.is_some | (self.is_some & (same | ((old_phase < FENCED) & later)))
     }

@@ -7,10 +7,10 @@
 ghost use Rattle.std.specs.Prelude.{◌≡◌, ◌+◌, ◌≤◌, eqb, length};
 ghost use Rattle.identity.specs.Answer.{Accepted};
 ghost use Rattle.std.specs.List.{position};
+ghost use Rattle.records.specs.Equality.{same_voter_slot_table};
 ghost use Rattle.records.specs.Records.{all_below, slot_in};
 ghost use Rattle.records.specs.Successor.{own_receipt, or_regression, result_succeeds, slot_succeeds, request_succeeds, request_ended, slot_index, ended_succeeds, replacement_succeeds, head_succeeds, succession, validate_successor_of};
 
-use crate::equality::*;
 use crate::evidence::log_id_follows;
 use crate::number::is_next;
 use crate::records::*;
@@ -53,15 +53,23 @@ fn kept(yes: bool) -> Answer
 }
 
 impl VoterSlotTable {
+    // Whether the two tables are equal.
+    #[tactic(auto, unfolding(crate::specs::Equality::all_true, crate::specs::Equality::same_voter_slot_table, crate::specs::Equality::same_voter_slot_record, crate::specs::Equality::same_voter_slot_member, crate::specs::Equality::same_voter_slot_identity, crate::specs::Equality::same_voter_replacement_result, crate::specs::Equality::same_voter_slot_log_id, crate::specs::Equality::same_voter_replacement_record, crate::specs::Equality::same_lost_voter_attestation_v1, crate::specs::Equality::same_spiffe_id, crate::specs::Equality::same_voter_configuration, crate::specs::Equality::same_voter_replacement_evidence, crate::specs::Equality::same_voter_snapshot_evidence, crate::specs::Equality::same_snapshot_id, crate::specs::Equality::same_optional_log_id))]
+    fn equals(&self, other: &VoterSlotTable) -> bool
+        ensures { result ≡ same_voter_slot_table self.now other.now }
+    {
+        *self == *other
+    }
+
     // The check of two tables that are valid.
-    #[tactic(auto, unfolding(crate::specs::Successor::succession))]
+    #[tactic(auto, using(crate::proofs::InUse::succession_in_use), unfolding(crate::specs::Successor::succession))]
     fn validate_succession(&self, old: &VoterSlotTable) -> Answer
         requires { self.now.count ≤ 9 }
         ensures { result ≡ succession self.now old.now }
     {
         kept(self.head_succeeds(old))?;
         if self.revision == old.revision {
-            return kept(same_voter_slot_table(*self, *old));
+            return kept(self.equals(old));
         }
         kept(slots_succeed(self.slots_in_use(), &old.slots))?;
         self.replacement_succeeds(old)
@@ -72,8 +80,8 @@ impl VoterSlotTable {
     fn head_succeeds(&self, old: &VoterSlotTable) -> bool
         ensures { result ≡ head_succeeds self.now old.now }
     {
-        let same_cluster = same32(self.cluster_instance, old.cluster_instance);
-        let same_manifest = same32(self.manifest_digest, old.manifest_digest);
+        let same_cluster = self.cluster_instance == old.cluster_instance;
+        let same_manifest = self.manifest_digest == old.manifest_digest;
         same_cluster
             & (same_manifest
                 & ((old.revision <= self.revision)
@@ -91,14 +99,14 @@ impl VoterSlotTable {
             return Ok(());
         }
         let request = self.replacement.attestation.request_id;
-        if self.has_replacement & same16(request, old.replacement.attestation.request_id) {
+        if self.has_replacement & (request == old.replacement.attestation.request_id) {
             return kept(request_succeeds(&self.replacement, &old.replacement));
         }
         self.ended_succeeds(&old.replacement)
     }
 
     // The request that was open has ended.
-    #[tactic(auto, unfolding(crate::specs::Successor::ended_succeeds))]
+    #[tactic(auto, using(crate::proofs::InUse::slot_index_in_use), unfolding(crate::specs::Successor::ended_succeeds))]
     fn ended_succeeds(&self, old: &VoterReplacementRecord) -> Answer
         requires { self.now.count ≤ 9 }
         ensures { result ≡ ended_succeeds self.now old.now }
@@ -129,11 +137,11 @@ fn slots_succeed(new: &[VoterSlotRecord], old: &[VoterSlotRecord; MAX_FIXED_VOTE
 
 // Floor and incarnation do not fall. Of the same incarnation the member stays and the phase does
 // not fall; a later one has a greater generation. A receipt stays, or a later one takes its place.
-#[tactic(auto, unfolding(crate::specs::Successor::slot_succeeds))]
+#[tactic(auto, unfolding(crate::specs::Equality::all_true, crate::specs::Equality::same_voter_slot_member, crate::specs::Equality::same_voter_slot_identity, crate::specs::Successor::slot_succeeds))]
 fn slot_succeeds(new: &VoterSlotRecord, old: &VoterSlotRecord) -> bool
     ensures { result ≡ slot_succeeds new.now old.now }
 {
-    let same = same_voter_slot_member(new.member, old.member);
+    let same = new.member == old.member;
     let later = result_succeeds(&new.last_result, &old.last_result);
     let mine = new.member.identity.incarnation;
     let theirs = old.member.identity.incarnation;
@@ -147,11 +155,11 @@ fn slot_succeeds(new: &VoterSlotRecord, old: &VoterSlotRecord) -> bool
 }
 
 // The receipt is the old one, or has a greater revision and incarnation, and no lower epoch.
-#[tactic(auto, unfolding(crate::specs::Successor::result_succeeds))]
+#[tactic(auto, unfolding(crate::specs::Equality::all_true, crate::specs::Equality::same_voter_replacement_result, crate::specs::Equality::same_voter_slot_log_id, crate::specs::Successor::result_succeeds))]
 fn result_succeeds(new: &VoterReplacementResult, old: &VoterReplacementResult) -> bool
     ensures { result ≡ result_succeeds new.now old.now }
 {
-    let same = same_voter_replacement_result(*new, *old);
+    let same = *new == *old;
     (old.revision <= new.revision)
         & ((old.incarnation <= new.incarnation)
             & ((old.configuration_epoch <= new.configuration_epoch)
@@ -160,13 +168,13 @@ fn result_succeeds(new: &VoterReplacementResult, old: &VoterReplacementResult) -
 }
 
 // The same request stays open.
-#[tactic(auto, unfolding(crate::specs::Successor::request_succeeds))]
+#[tactic(auto, unfolding(crate::specs::Equality::all_true, crate::specs::Equality::same_lost_voter_attestation_v1, crate::specs::Equality::same_spiffe_id, crate::specs::Equality::same_voter_configuration, crate::specs::Equality::same_voter_slot_member, crate::specs::Equality::same_voter_slot_identity, crate::specs::Successor::request_succeeds))]
 fn request_succeeds(new: &VoterReplacementRecord, old: &VoterReplacementRecord) -> bool
     ensures { result ≡ request_succeeds new.now old.now }
 {
-    let same_attestation = same_lost_voter_attestation_v1(new.attestation, old.attestation);
-    let same_predecessor = same_voter_configuration(new.predecessor, old.predecessor);
-    let same_successor = same_voter_configuration(new.successor, old.successor);
+    let same_attestation = new.attestation == old.attestation;
+    let same_predecessor = new.predecessor == old.predecessor;
+    let same_successor = new.successor == old.successor;
     let evidence_kept = new.evidence.retains(&old.evidence, old.phase);
     (new.expected_revision == old.expected_revision)
         & (same_attestation
@@ -213,8 +221,8 @@ fn is_own_receipt(
 ) -> bool
     ensures { result ≡ own_receipt epoch old.now receipt.now }
 {
-    let same_id = same16(receipt.request_id, old.attestation.request_id);
-    let same_digest = same32(receipt.request_digest, old.attestation.request_digest);
+    let same_id = receipt.request_id == old.attestation.request_id;
+    let same_digest = receipt.request_digest == old.attestation.request_digest;
     let completed = receipt.kind == COMPLETED;
     same_id
         & (same_digest

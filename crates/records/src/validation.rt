@@ -10,7 +10,6 @@ ghost use Rattle.identity.specs.Answer.{Accepted};
 ghost use Rattle.records.specs.Records.{all_below, slot_in, member_in, voting};
 ghost use Rattle.records.specs.Validation.{require_of, valid_count, valid_configuration, valid_spiffe_id, valid_attestation, is_active, valid_result, valid_slot, distinct_results, valid_slots, target_phase, valid_operation_head, is_current_epoch, valid_operation, claims_of, superseded_receipt, retired_member, valid_target, other_request, validate_member, validate_members, validate_operation, validity, validate};
 
-use crate::equality::*;
 use crate::evidence::is_valid_log_id;
 use crate::number::is_next;
 use crate::records::*;
@@ -18,8 +17,8 @@ use identity::answer::{Answer, Refusal};
 use identity::identity::*;
 use identity::text::{MAX_VOTER_SPIFFE_ID_BYTES, is_name};
 
-// What the open request claims of the slots. The record has 6.3 KB, so the tests of a slot get
-// these alone: six fields of its attestation, its phase, and the cut of its prepare.
+// What the open request claims of the slots: six fields of its attestation, its phase, and the cut
+// of its prepare. The laws of a slot speak of these alone.
 #[derive(Clone, Copy)]
 pub struct Claims {
     // Caller-stable idempotency identity.
@@ -74,7 +73,8 @@ impl VoterConfiguration {
 
 // Each admission generation is above 0.
 //
-// This loop and those below have no early exit, so that several places are compared at a time.
+// This loop and those below have no early exit: in place of `all`, which leaves at the first no,
+// they let the compiler look at several places at a time.
 #[tactic(auto, unfolding(crate::specs::Records::all_below))]
 fn have_generations(members: &[VoterSlotMember]) -> bool
     ensures { result ≡ all_below (λ i. ltb 0 (member_in members.now i).admission_generation) (length members.now) }
@@ -238,7 +238,7 @@ fn is_distinct_from(slot: &VoterSlotRecord, earlier: &[VoterSlotRecord]) -> bool
 fn are_distinct_results(a: &VoterSlotRecord, b: &VoterSlotRecord) -> bool
     ensures { result ≡ distinct_results a.now b.now }
 {
-    let same = same16(a.last_result.request_id, b.last_result.request_id);
+    let same = a.last_result.request_id == b.last_result.request_id;
     !(a.has_last_result & (b.has_last_result & same))
 }
 
@@ -261,7 +261,7 @@ impl VoterSlotTable {
         requires { self.now.count ≤ 9 }
         ensures { result ≡ validity self.now }
     {
-        require(self.has_valid_slots())?;
+        require(self.are_valid_slots())?;
         if !self.has_replacement {
             return require(all_voting(self.slots_in_use()));
         }
@@ -270,7 +270,7 @@ impl VoterSlotTable {
 
     // `validate` up to the open request.
     #[tactic(auto, unfolding(crate::specs::Validation::valid_slots))]
-    fn has_valid_slots(&self) -> bool
+    fn are_valid_slots(&self) -> bool
         ensures { result ≡ valid_slots self.now }
     {
         if !is_valid_count(self.count) {
@@ -336,10 +336,7 @@ impl VoterSlotTable {
         ensures { result ≡ valid_operation_head self.now self.now.replacement }
     {
         let operation = &self.replacement;
-        let same_cluster = same32(
-            operation.attestation.cluster_instance,
-            self.cluster_instance,
-        );
+        let same_cluster = operation.attestation.cluster_instance == self.cluster_instance;
         let next_epoch = is_next(operation.predecessor.epoch, operation.successor.epoch);
         (0 < operation.expected_revision)
             & ((operation.expected_revision < self.revision)
@@ -438,7 +435,7 @@ impl Claims {
     }
 
     // One slot and its two members.
-    #[tactic(auto, unfolding(crate::specs::Validation::validate_member))]
+    #[tactic(auto, unfolding(crate::specs::Equality::all_true, crate::specs::Equality::same_voter_slot_member, crate::specs::Equality::same_voter_slot_identity, crate::specs::Validation::validate_member))]
     fn validate_member(
         &self,
         slot: &VoterSlotRecord,
@@ -447,7 +444,7 @@ impl Claims {
     ) -> Answer
         ensures { result ≡ validate_member self.now slot.now predecessor.now successor.now }
     {
-        let current = same_voter_slot_member(slot.member, *successor);
+        let current = slot.member == *successor;
         require(current & (predecessor.identity.slot == successor.identity.slot))?;
         let other = self.is_other_request(slot);
         if slot.member.identity.slot == self.slot {
@@ -456,7 +453,7 @@ impl Claims {
             }
             return require(self.is_valid_target(slot, predecessor, successor) & other);
         }
-        let unchanged = same_voter_slot_member(*predecessor, *successor);
+        let unchanged = *predecessor == *successor;
         require((unchanged & (slot.phase == VOTING)) & other)
     }
 
@@ -464,7 +461,7 @@ impl Claims {
     fn is_other_request(&self, slot: &VoterSlotRecord) -> bool
         ensures { result ≡ other_request self.now slot.now }
     {
-        let same = same16(slot.last_result.request_id, self.request_id);
+        let same = slot.last_result.request_id == self.request_id;
         !slot.has_last_result | !same
     }
 
@@ -480,7 +477,7 @@ impl Claims {
     {
         let expected = self.expected_incarnation;
         let next = is_next(expected, successor.identity.incarnation);
-        let same_key = same32(successor.key_digest, self.candidate_key_digest);
+        let same_key = successor.key_digest == self.candidate_key_digest;
         let phase = target_phase(self.phase);
         let retired = self.is_retired_member(slot, predecessor);
         (next
@@ -496,16 +493,17 @@ impl Claims {
         ensures { result ≡ retired_member self.now slot.now predecessor.now }
     {
         if predecessor.identity.incarnation == self.expected_incarnation {
-            return same32(predecessor.descriptor_digest, self.old_descriptor_digest);
+            return predecessor.descriptor_digest == self.old_descriptor_digest;
         }
         self.is_superseded_receipt(slot)
     }
 
     // The receipt that the superseded candidate's request has left.
+    #[tactic(auto, unfolding(crate::specs::Equality::all_true, crate::specs::Equality::same_voter_slot_log_id))]
     fn is_superseded_receipt(&self, slot: &VoterSlotRecord) -> bool
         ensures { result ≡ superseded_receipt slot.now self.now }
     {
-        let same = same_voter_slot_log_id(slot.last_result.terminal, self.prepare);
+        let same = slot.last_result.terminal == self.prepare;
         slot.has_last_result
             & ((slot.last_result.incarnation == self.expected_incarnation)
                 & ((slot.last_result.kind == SUPERSEDED) & same))

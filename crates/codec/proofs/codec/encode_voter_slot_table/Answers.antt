@@ -1,7 +1,7 @@
 -- `codec::codec::encode_voter_slot_table` meets its contract. Assumes nothing.
-use Rattle.std.specs.Prelude.{◌≤◌, ◌≡◌, length}
+use Rattle.std.specs.Prelude.{◌≡◌, length}
 use Rattle.std.proofs.Common.{arith, rules, zero-add, sym, ap, ◌∙◌}
-use Rattle.format.specs.Res.Res.{ok, no}
+use Rattle.format.specs.Res.Res.{ok}
 use Rattle.identity.specs.Answer.{Accepted}
 use Rattle.records.specs.ValidParts.{valid-parts}
 use Rattle.records.specs.Validation.{validate}

@@ -5,20 +5,6 @@ use Rattle.records.specs.Successor.{ended_succeeds}
 use Rattle.records.proofs.InUse.{place-in-use}
 use Rattle.records.proofs.records.VoterSlotTable.ended_succeeds.Goals as goal
 
-pub returns-in_err-i : goal.returns-in_err-i
-unfolding ended_succeeds
-returns-in_err-i c =
-    let u = c.slots_in_use-slots in
-    let e = place-in-use c.args.self.now u.result.now u.ensures.slots u.ensures.count c.args.old.now.attestation.slot in
-    grind (arith, common_steps, e)
-
-pub returns-then-old-eq-MAX_VOTER_INCARNATION : goal.returns-then-old-eq-MAX_VOTER_INCARNATION
-unfolding ended_succeeds
-returns-then-old-eq-MAX_VOTER_INCARNATION c =
-    let u = c.slots_in_use-slots in
-    let e = place-in-use c.args.self.now u.result.now u.ensures.slots u.ensures.count c.args.old.now.attestation.slot in
-    grind (arith, common_steps, e)
-
 pub returns : goal.returns
 unfolding ended_succeeds
 returns c =

@@ -1,10 +1,10 @@
--- `records::records::VoterSlotTable::has_valid_slots` meets its contract: the slots in use are those of the table. Assumes nothing.
+-- `records::records::VoterSlotTable::are_valid_slots` meets its contract: the slots in use are those of the table. Assumes nothing.
 use Rattle.std.proofs.Common.{◌∙◌, ltb, arith}
 use Rattle.std.proofs.lemmas.Grind.{common_steps}
 use Rattle.records.specs.Records.{no_slot_record}
 use Rattle.records.specs.RecordsLaws.{front-each, front-neighbours, front-before}
 use Rattle.records.specs.Validation.{valid_slot, is_active, distinct_results, valid_slots}
-use Rattle.records.proofs.records.VoterSlotTable.has_valid_slots.Goals as goal
+use Rattle.records.proofs.records.VoterSlotTable.are_valid_slots.Goals as goal
 
 pub returns : goal.returns
 unfolding valid_slots
