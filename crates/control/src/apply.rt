@@ -11,7 +11,7 @@ ghost use Rattle.identity.specs.Answer.{Accepted};
 ghost use Rattle.records.specs.Validation.{validate};
 ghost use Rattle.control.specs.Control.{apply_control};
 ghost use Rattle.control.specs.Judgement.{judge_marker};
-ghost use Rattle.control.specs.Verdicts.{advance_outcome, answer_of, applied_of, checked_of, entry_verdict, paired, verdict_of};
+ghost use Rattle.control.specs.Verdicts.{advance_outcome, answer_of, applied_of, checked_of};
 
 use crate::begin::{VoterBegin, begin_in_place};
 use crate::control::*;

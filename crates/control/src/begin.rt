@@ -6,7 +6,6 @@
 // parts are judged before the first refusal is picked, as in judge.rt: so the answers are joined by
 // `and` in place of `?`.
 ghost use Rattle.std.specs.Prelude.{◌<◌, ◌≤◌, ◌≡◌, cond, map};
-ghost use Rattle.identity.specs.Answer.{is_accepted};
 ghost use Rattle.identity.specs.Answer.{Accepted, IdempotencyConflict};
 ghost use Rattle.records.specs.Equality.{eq_bytes};
 ghost use Rattle.records.specs.Successor.{first_refusal};

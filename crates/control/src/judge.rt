@@ -8,12 +8,10 @@
 // another question each, a judge makes all its tests before it picks the first refusal: a call
 // after many early returns counts as cold to the compiler, which then copies the table for it.
 ghost use Rattle.std.specs.Prelude.{◌≡◌, cond, false, not, ◌||◌};
-ghost use Rattle.identity.specs.Answer.{InvalidTransition};
 ghost use Rattle.records.specs.Equality.{eq_bytes};
 ghost use Rattle.records.specs.Evidence.{follows, in_order};
 ghost use Rattle.records.specs.With.{present};
 ghost use Rattle.control.specs.Control.{is_completed, is_receipt_of};
-ghost use Rattle.control.specs.Judgement.Verdict.{kept, refused};
 ghost use Rattle.control.specs.Judgement.{judge_advance, judge_caught_up, judge_continuation, judge_fence, judge_finalize, judge_marker, judge_open, judge_snapshot, judge_step};
 ghost use Rattle.control.specs.Verdicts.{answer_of, route_of, verdict_of};
 
