@@ -24,7 +24,7 @@ use Rattle.control.specs.Judgement.Move.{begins, records_snapshot, records_caugh
 use Rattle.control.specs.Judgement.Verdict.{kept, moves}
 use Rattle.control.specs.Judgement.Verdict.{refused as refuses}
 use Rattle.control.specs.ObserveSight.{answer_of_observed, verdict_of_observed, weighed}
-use Rattle.control.specs.Verdicts.{answer_of, entry_verdict, route_of, verdict_of}
+use Rattle.control.specs.Verdicts.{answer_of, entry_verdict, verdict_of}
 use Rattle.journal.specs.declared.replay.Mark.{Mark}
 use Rattle.journal.specs.declared.replay.Mark.TheVariants.{Ad, Bg, Ob}
 use Rattle.journal.specs.declared.step.Called.{Called}
@@ -64,12 +64,6 @@ observation_verdict t (asks (observation ids counts nodes cut)) = numbered (weig
 -- the tests of the entry point on a valid table: 30, and 25 for a zero in the cut
 abbrev pub checked_call : Bool → VoterSlotLogId → Verdict Move → Verdict Move
 checked_call fits cut v = cond fits (cond (valid_log_id cut) v (refuses InvalidTransition)) (refuses Unrepresentable)
-
--- a BG by what its reader says: 33, the reader's number, or the verdict
-abbrev pub begin_verdict : VoterSlotTable → Option (Result VoterBegin Refusal) → Verdict Move
-begin_verdict t None = refuses BadRecord
-begin_verdict t (Some (Err e)) = refuses (Err e)
-begin_verdict t (Some (Ok b)) = checked_call (representable_request b.request) b.cut (judge_begin t b.request b.cut)
 
 -- ---- what was judged
 
@@ -153,20 +147,6 @@ HoldsAdvance body a = (o : Option VoterAdvance) × ((advance_asking o ≡ asking
 -- the same of a Begin
 abbrev pub HoldsBegin : List ℕ → VoterBegin → Type 0
 HoldsBegin body b = (o : Option (Result VoterBegin Refusal)) × ((begin_asking o ≡ asking Bg body) × IfSome o (λ r. IfOk r (λ a. a ≡ b)))
-
--- the number by which the code chooses the maker, 0 for none: 1 to 6 for commands (`route_of`), 7 to
--- 9 for observations
-abbrev pub route_of_observation : Verdict Addition → ℕ
-route_of_observation (refuses answer) = 0
-route_of_observation kept = 0
-route_of_observation (moves adds_learner) = 7
-route_of_observation (moves adds_joint) = 8
-route_of_observation (moves adds_uniform) = 9
-
--- of either
-abbrev pub route_of_called : Called → ℕ
-route_of_called (Command judged) = route_of (verdict_of judged)
-route_of_called (Observation observed) = route_of_observation (verdict_of_observed observed)
 
 -- whether the table changes
 abbrev pub is_made : {M : Type 0} → Verdict M → Bool
