@@ -1,7 +1,7 @@
 -- Laws of the makers: what each asks for, and that the one that the verdict names makes the table of
 -- what was judged.
 -- Assumes nothing.
-use Rattle.std.specs.Prelude.{ℕ, ◌<◌, ◌≤◌, ◌≡◌, refl, Bool, true, false, List, Result, Ok, Err}
+use Rattle.std.specs.Prelude.{ℕ, ◌<◌, ◌≤◌, ◌≡◌, refl, true, List, Result, Ok, Err}
 use Rattle.std.specs.Result.{result_unwrap_or}
 use Rattle.std.proofs.Math.Path.{sym}
 use Rattle.std.proofs.Common.{arith, ap, ◌∙◌, subst}
@@ -21,13 +21,17 @@ use Rattle.control.specs.Control.{begun, current_configuration, full, named_inde
 use Rattle.control.specs.Judgement.{Addition, Move, Verdict, added, made}
 use Rattle.control.specs.Judgement.Move.{begins, records_snapshot, records_caught_up, continues, fences, finalizes}
 use Rattle.control.specs.Judgement.Verdict.{moves}
-use Rattle.control.specs.ObserveSight.{Room}
-use Rattle.control.specs.Verdicts.{step_made}
+use Rattle.control.specs.ObserveSight.{Room, verdict_of_observed}
+use Rattle.control.specs.Verdicts.{step_made, verdict_of}
+use Rattle.control.specs.declared.judge.Judged.{Judged}
+use Rattle.control.specs.declared.observe.Observed.{Observed}
+use Rattle.journal.specs.declared.step.Called.{Called}
+use Rattle.journal.specs.declared.step.Called.TheVariants.{Command, Observation}
 use Rattle.control.specs.VerdictLaws.{is_step, room_as, target-as}
 use Rattle.journal.specs.declared.replay.Mark.{Mark}
 use Rattle.journal.specs.declared.replay.Mark.TheVariants.{Ad, Bg}
 use Rattle.journal.specs.Replay.{asking}
-use Rattle.journal.specs.Step.{HoldsAdvance, HoldsBegin, MakesCommand, MakesObservation, command_in, command_verdict, cut_at, cut_by, made_by_command, made_by_observation, mark_of_move}
+use Rattle.journal.specs.Step.{HoldsAdvance, HoldsBegin, Makes, MakesCommand, MakesObservation, made_by, command_in, command_verdict, cut_at, cut_by, made_by_command, made_by_observation, mark_of_move}
 use Rattle.journal.specs.Step.Numbered.{moves_by}
 use Rattle.journal.proofs.StepLaws.{AdvanceNeed, BeginNeed, advance_need, begin_need, cut_is, observation_room}
 
@@ -82,6 +86,21 @@ module _ (t : VoterSlotTable) (body : List ℕ) where
     addition_makes k f =
         f
         ∙ (ap (λ (x : VoterSlotLogId). added t x m) (k ∙ cut_is t body m (g m e)) ∙ ap (made_by_observation t body) (sym e))
+
+-- what was judged of a body may be made of it, and what is made is the table afterwards: a command
+module _ (t : VoterSlotTable) (body : List ℕ) {called : Called} (g : Makes t body called) where
+  pub command_of : {judged : Result Judged Refusal} → called ≡ Command judged → MakesCommand t body (verdict_of judged)
+  command_of e = subst (Makes t body) e g
+
+  pub command_made : {judged : Result Judged Refusal} {u : VoterSlotTable} → called ≡ Command judged → u ≡ made_by_command t body (verdict_of judged) → u ≡ made_by t body called
+  command_made e f = f ∙ sym (ap (made_by t body) e)
+
+  -- and an observation
+  pub observation_of : {observed : Observed} → called ≡ Observation observed → MakesObservation t body (verdict_of_observed observed)
+  observation_of e = subst (Makes t body) e g
+
+  pub observation_made : {observed : Observed} {u : VoterSlotTable} → called ≡ Observation observed → u ≡ made_by_observation t body (verdict_of_observed observed) → u ≡ made_by t body called
+  observation_made e f = f ∙ sym (ap (made_by t body) e)
 
 -- the cut that a body begins with, as the cursor reads it
 pub cut_taken : (r : Result VoterSlotLogId Refusal) (body rest : List ℕ) → told r rest ≡ reads log_id body → result_unwrap_or r blank_voter_slot_log_id ≡ cut_at body

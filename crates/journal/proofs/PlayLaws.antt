@@ -7,7 +7,7 @@ use Rattle.std.proofs.Math.Nat.{div-add-mod'}
 use Rattle.std.specs.Prelude.{◌≡◌, Bool, ◌&&◌, ◌||◌, drop, eqb, leb, ltb, Result, Ok, Err, IfOk, is_ok}
 use Rattle.std.specs.Result.{result_and, result_unwrap_or}
 use Rattle.std.proofs.Math.Path.{refl, sym, ap, ap₂, subst}
-use Rattle.std.proofs.Common.{◌∙◌, Fits, w8, length-take, length-append, drop-drop, lit<}
+use Rattle.std.proofs.Common.{◌∙◌, Fits, w8, length-take, length-append, drop-drop}
 use Rattle.std.proofs.Math.Bool.{true, false, cond, not}
 use Rattle.std.proofs.lemmas.Bool.{false≢true}
 use mathlib.Core.List.{List, [], ◌∷◌, ◌++◌, append_assoc, append-nil}
@@ -37,7 +37,7 @@ use Rattle.journal.specs.declared.record.Record.{Record}
 use Rattle.journal.specs.declared.replay.Mark.{Mark}
 use Rattle.journal.specs.declared.replay.Mark.TheVariants.{Unknown}
 use Rattle.journal.specs.Records.{frame, is_known_mark, mark_of, sized_bytes}
-use Rattle.journal.specs.Replay.{Entry, Standing, asking, called, bad_record, ended, line_of, line, lines, opened, opening, revision_of, run, shown_mark, step, turn}
+use Rattle.journal.specs.Replay.{Entry, Standing, asking, called, ended, line_of, line, lines, opened, opening, revision_of, run, shown_mark, step, turn}
 use Rattle.journal.specs.Replay.Entry.{framed, broken}
 use Rattle.journal.specs.Replay.Standing.{absent, stands}
 use Rattle.journal.specs.ReplayLaws.{decimal-long, ended-append, frame-cut, frame-got, frame-short, frame-sizeless, frame-takes, frame-unknown, head_mark, head_size, lines-append, mark-long, run-append, run_long}

@@ -9,7 +9,7 @@ use Rattle.std.proofs.Math.Bool.{Bool, true, false, cond}
 use Rattle.std.specs.Prelude.{◌&&◌, drop, Option, Some, None, Result, Ok, Err, IfSome, IfOk}
 use Rattle.std.proofs.lemmas.Bool.{false≢true}
 use mathlib.Core.List.{List}
-use Rattle.identity.specs.Answer.{is_accepted, number_of, Answer, Accepted, BadRecord, InvalidTransition, Unrepresentable}
+use Rattle.identity.specs.Answer.{is_accepted, number_of, Answer, Accepted, InvalidTransition, Unrepresentable}
 use Rattle.format.specs.Combinators.{dec_seq, dep, mapped, via}
 use Rattle.format.specs.Res.{Res, and_then, began, ok-value}
 use Rattle.format.specs.Res.Res.{ok, no}

@@ -6,7 +6,7 @@ use Rattle.std.proofs.Common.{arith, sym, ap, ◌∙◌, eqb-true, leb-true, leb
 use Rattle.std.proofs.lemmas.List.{length-replicate, replicate-append-replicate, take-append-le}
 use Rattle.std.proofs.Math.Seq.{take-append-add}
 use Rattle.format.specs.Copy.{drop-replicate}
-use Rattle.format.specs.Res.{Res, malformed}
+use Rattle.format.specs.Res.{malformed}
 use Rattle.format.specs.Res.Res.{ok, no}
 use Rattle.format.specs.Combinators.{Codec, always}
 use Rattle.format.specs.List.{either}
@@ -21,7 +21,6 @@ use Rattle.records.specs.declared.records.VoterSnapshotEvidence.{VoterSnapshotEv
 use Rattle.layout.specs.Layout.{choice, log_id}
 use Rattle.control.specs.Control.{record_snapshot_kind, record_caught_up_kind, finalize_kind}
 use Rattle.control.specs.declared.control.VoterReplacementStep.{VoterReplacementStep}
-use Rattle.journal.specs.declared.bodies.BeginHead.{BeginHead}
 use Rattle.journal.specs.declared.bodies.MarkerBody.{MarkerBody}
 use Rattle.journal.specs.declared.replay.Mark.TheVariants.{Mk, Ad, Bg}
 use Rattle.journal.specs.Bodies.{partless, advance_by, attested_asking}
@@ -87,7 +86,7 @@ cut_read (Reading.refused k) = refl
 
 pub snapshot_read : (bs : List ℕ) → made_read snapshot_of (reads snapshot_part bs)
     ≡ then_read (reads log_id bs) (λ cut r. then_read {B = VoterSnapshotEvidence} (made_read snapshot_id_of (reads sized_bytes r))
-        (λ id s. made_read (λ d. record { cut = cut; snapshot_id = id; digest = d }) (reads (raw 32) s)))
+    (λ id s. made_read (λ d. record { cut = cut; snapshot_id = id; digest = d }) (reads (raw 32) s)))
 unfolding snapshot_part
 snapshot_read bs = ap (made_read snapshot_of) (reads_three log_id (λ a. sized_bytes) (λ a. raw 32) _ _ _ bs) ∙ cut_read (reads log_id bs)
 
@@ -135,9 +134,9 @@ kind_read kind r = by (eqb kind record_snapshot_kind) (eqb kind record_caught_up
   where
     by : (t u : Bool) → eqb kind record_snapshot_kind ≡ t → eqb kind record_caught_up_kind ≡ u
         → made_read step_of (then_read (reads (either t snapshot_part (always no_snapshot_part)) r)
-            (λ s q. made_read (made_step kind s) (reads (either u log_id (always blank_voter_slot_log_id)) q)))
+        (λ s q. made_read (made_step kind s) (reads (either u log_id (always blank_voter_slot_log_id)) q)))
         ≡ cond t (made_read (λ v. step_parts kind v blank_voter_slot_log_id) (made_read snapshot_of (reads snapshot_part r)))
-            (cond u (made_read (step_parts kind blank_voter_snapshot_evidence) (reads log_id r)) (Reading.read (partless kind) r))
+        (cond u (made_read (step_parts kind blank_voter_snapshot_evidence) (reads log_id r)) (Reading.read (partless kind) r))
     by true true p q = absurd (let z = eqb-true kind record_snapshot_kind p in let y = eqb-true kind record_caught_up_kind q in omega arith)
     by true false p q = with_snapshot kind (reads snapshot_part r)
     by false true p q = with_cut kind (reads log_id r)
@@ -150,8 +149,8 @@ kinds_read (Reading.refused k) = refl
 pub step_read : (bs : List ℕ) → made_read step_of (reads step_body bs)
     ≡ then_read (reads (choice record_snapshot_kind finalize_kind) bs)
     (λ kind r.
-      cond (eqb kind record_snapshot_kind) (made_read {B = VoterReplacementStep} (λ v. record { kind = kind; snapshot = v; caught_up = blank_voter_slot_log_id }) (made_read snapshot_of (reads snapshot_part r)))
-      (cond (eqb kind record_caught_up_kind) (made_read {B = VoterReplacementStep} (λ c. record { kind = kind; snapshot = blank_voter_snapshot_evidence; caught_up = c }) (reads log_id r)) (Reading.read (partless kind) r)))
+    cond (eqb kind record_snapshot_kind) (made_read {B = VoterReplacementStep} (λ v. record { kind = kind; snapshot = v; caught_up = blank_voter_slot_log_id }) (made_read snapshot_of (reads snapshot_part r)))
+    (cond (eqb kind record_caught_up_kind) (made_read {B = VoterReplacementStep} (λ c. record { kind = kind; snapshot = blank_voter_snapshot_evidence; caught_up = c }) (reads log_id r)) (Reading.read (partless kind) r)))
 unfolding step_body
 step_read bs =
     ap (made_read step_of) (reads_three (choice record_snapshot_kind finalize_kind) _ _ _ _ _ bs)
@@ -210,7 +209,7 @@ advance_read body =
 pub begin_read : (body : List ℕ) → asking Bg body
     ≡ ended_asking attested_asking
     (then_read (reads begin_head body) (λ h r. then_read (reads sized_bytes r) (λ l s. then_read (reads (raw 32) s)
-        (λ d t. made_read {B = BeginBody} (λ c. record { head = h; attestation = l; supplied_request_digest = d; supplied_configuration_id = c }) (reads (raw 32) t)))))
+    (λ d t. made_read {B = BeginBody} (λ c. record { head = h; attestation = l; supplied_request_digest = d; supplied_configuration_id = c }) (reads (raw 32) t)))))
 unfolding asking begin_body
 begin_read body =
     formed_read begin_body attested_asking body

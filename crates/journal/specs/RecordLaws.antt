@@ -8,7 +8,7 @@ use Rattle.std.proofs.Math.Path.{ap, ap₂}
 use Rattle.std.proofs.Math.Bool.{true, false, and-false}
 use Rattle.std.proofs.Math.ListN.{length-drop}
 use Rattle.std.proofs.lemmas.Bool.{lt-leb}
-use Rattle.format.specs.Res.Res.{ok, no}
+use Rattle.format.specs.Res.Res.{no}
 use Rattle.format.specs.Combinators.{rest}
 use Rattle.format.specs.Num.{raw}
 use Rattle.format.specs.Reads.{Reading, left_of, reads, reads_raw, reads_raw_short}
@@ -138,8 +138,10 @@ module _ (bs : List ℕ) (at : ℕ) (last : Bool) where
         where
           f : Reading.read body rest ≡ left_of (drop 2 part) (sized_bytes.dec (drop 2 part))
           f = e ∙ sized_at
+
           d : length (drop 2 part) ≡ length part - 2
           d = length-drop 2 part
+
           by : (a : Bool) → leb 4 (length part) ≡ a → (b : Bool) → leb (4 + head_size part) (length part) ≡ b → Whole × (length body ≡ head_size part)
           by false p b q =
               let h = leb-false 4 (length part) p in

@@ -1,19 +1,19 @@
 -- Laws of the sets and the nodes of an observation: one id more, one set more, what refuses the
 -- reading, and what the whole body asks.
 -- Assumes nothing.
-use Rattle.std.specs.Prelude.{ℕ, zero, suc, ◌+◌, ◌*◌, ◌-◌, ◌≤◌, ◌<◌, ◌≡◌, Bool, length, take, drop, set, eqb, leb, Ok}
+use Rattle.std.specs.Prelude.{ℕ, ◌+◌, ◌≤◌, ◌<◌, ◌≡◌, Bool, length, take, drop, set, eqb, leb, Ok}
 use native.Mathlib.Omega.{arith}
 use Rattle.std.proofs.Common.{add-one, ap₂, ◌∙◌, length-take-le, take-add, take-suc-set, leb-true, leb-false, length-set}
 use Rattle.std.proofs.Math.Path.{refl, sym, ap}
 use Rattle.std.proofs.Math.Bool.{true, false, cond}
-use mathlib.Core.List.{List, [], ◌∷◌, ◌++◌, append_assoc, append-nil, flatten, map, map-append}
+use mathlib.Core.List.{List, [], ◌∷◌, ◌++◌, append_assoc, append-nil, flatten, map-append}
 use Rattle.std.proofs.Math.ListN.{length-drop}
 use Rattle.std.proofs.lemmas.List.{drop-set-add, take-set-le}
 use Rattle.format.specs.Combinators.{Codec}
 use Rattle.format.specs.Res.{Res}
 use Rattle.format.specs.Res.Res.{ok, no}
 use Rattle.format.specs.List.{vec, vec-start}
-use Rattle.format.specs.Num.{raw, uint, val}
+use Rattle.format.specs.Num.{uint, val}
 use Rattle.format.specs.Reads.{Reading, left_of, reads, then_read, made_read, reads_raw, reads_raw_short, reads_uint, reads_two, reads_three}
 use Rattle.format.specs.ReadsMore.{reads_vec_more, reads_vec_refused}
 use Rattle.layout.specs.Layout.{log_id}

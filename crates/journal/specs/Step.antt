@@ -3,8 +3,8 @@
 -- From document 01, section "Replay program": 33; the attestation reader's number; 30; 31; the
 -- call.
 -- Assumes nothing.
-use Rattle.std.specs.Prelude.{ℕ, ◌≡◌, Bool, true, false, cond, List, Option, Some, None, Result, Ok, Err, IfSome, IfOk}
-use Rattle.identity.specs.Answer.{number_of, Answer, Accepted, BadRecord, InvalidTransition, Unrepresentable}
+use Rattle.std.specs.Prelude.{ℕ, ◌≡◌, Bool, true, false, cond, List, Option, Result, IfSome, IfOk}
+use Rattle.identity.specs.Answer.{number_of, Answer, Accepted, InvalidTransition, Unrepresentable}
 use Rattle.identity.specs.declared.answer.Refusal.{Refusal}
 use Rattle.format.specs.Res.{Res}
 use Rattle.format.specs.Res.Res.{ok, no}
@@ -17,9 +17,7 @@ use Rattle.records.specs.declared.records.VoterSlotTable.{VoterSlotTable}
 use Rattle.control.specs.declared.begin.VoterBegin.{VoterBegin}
 use Rattle.control.specs.declared.control.VoterAdvance.{VoterAdvance}
 use Rattle.control.specs.declared.control.VoterSlotControl.{VoterSlotControl}
-use Rattle.control.specs.Control.{representable_request}
-use Rattle.control.specs.Judgement.{Addition, Move, Verdict, added, judge_begin, made}
-use Rattle.control.specs.Judgement.Addition.{adds_learner, adds_joint, adds_uniform}
+use Rattle.control.specs.Judgement.{Addition, Move, Verdict, added, made}
 use Rattle.control.specs.Judgement.Move.{begins, records_snapshot, records_caught_up, continues, fences, finalizes}
 use Rattle.control.specs.Judgement.Verdict.{kept, moves}
 use Rattle.control.specs.Judgement.Verdict.{refused as refuses}

@@ -219,12 +219,7 @@ pub fn read_begin(body: &[u8]) -> Option<Result<VoterBegin, Refusal>>
     let configuration_id = input.array().ok()?;
     input.finish().ok()?;
     Some(match read_lost_voter_attestation(attestation) {
-        Ok(attestation) => Ok(begin_by(
-            head,
-            attestation,
-            request_digest,
-            configuration_id,
-        )),
+        Ok(attestation) => Ok(begin_by(head, attestation, request_digest, configuration_id)),
         Err(refusal) => Err(refusal),
     })
 }

@@ -11,6 +11,7 @@ returns-in_err-count c =
 pub loop-i-preserved : goal.loop-i-preserved
 loop-i-preserved c =
     let l = c.loop-i in
-    let s = c.in_ok-count.ensures in
-    (sets_more _ _ _ _ _ _ _ l.invariant.0 _ _ s (omega (arith, c.requires, l.invariant, l.invariant.0.few, s.few)) (omega (arith, c.requires, l.invariant)),
-    (search rules, length-set l.counts l.i c.in_ok-count.count ∙ l.invariant.1.1))
+    let s = c.in_ok-count.ensures in (
+      sets_more _ _ _ _ _ _ _ l.invariant.0 _ _ s (omega (arith, c.requires, l.invariant, l.invariant.0.few, s.few)) (omega (arith, c.requires, l.invariant)),
+      (search rules, length-set l.counts l.i c.in_ok-count.count ∙ l.invariant.1.1),
+    )

@@ -1,7 +1,6 @@
 -- `journal::play::open_log` meets its contract. Assumes nothing.
-use Prim.Native.Nat.{◌<◌}
 use native.Mathlib.Omega.{arith}
-use mathlib.Core.Path.{◌≡◌, sym, ap, ◌∙◌, subst}
+use mathlib.Core.Path.{◌≡◌, sym, ◌∙◌, subst}
 use mathlib.Core.Bool.{Bool, false}
 use lib.ListN.{length}
 use Rattle.identity.specs.Answer.{number_of}
@@ -59,7 +58,7 @@ loop-place-preserved c =
     let answer = c.and-answer.result in
     let stands = c.is_ok-stands.result in
     let table = c.unwrap_or-table.result in
-    let j = brought l.table c.open_record-opened.result c.open_record-opened.ensures.1 c.and-answer.ensures c.is_ok-stands.ensures c.unwrap_or-table.ensures in
+    let j = brought l.table c.open_record-opened.result c.open_record-opened.ensures.1 c.and-answer.ensures c.is_ok-stands.ensures.value c.unwrap_or-table.ensures in
     let steps : step (standing_in o) (framed r.asks (body_in input r)) ≡ (number_of answer, standing stands table) =
     opens o r.asks (body_in input r) left.1 ∙ (sym c.open_record-opened.ensures.0 ∙ sym j.0) in
     let keeps : stands ≡ false → (l.stands ≡ false) × (table ≡ l.table) = λ k. (left.1, j.1.1.0 k) in

@@ -1,5 +1,5 @@
 -- `journal::record::record_at` meets its contract. Assumes nothing.
-use Rattle.std.proofs.Common.{arith, rules, length-take-le, length-drop}
+use Rattle.std.proofs.Common.{arith, rules}
 use Rattle.journal.specs.RecordLaws.{record_within}
 use Rattle.journal.proofs.record.record_at.Goals as goal
 
