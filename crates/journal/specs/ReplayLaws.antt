@@ -15,7 +15,6 @@ use Rattle.format.specs.Res.Res.{ok, no}
 use Rattle.format.specs.Combinators.{Codec, Bytes, dep, check, via, held, dec_seq, mapped, checked, dep-ok, dep-no-1, dep-no-2, checked-ok, checked-no, checked-bad, via-ok, via-no, back-and-there}
 use Rattle.format.specs.Num.{uint, raw, val, dec_uint, uint-ok, uint-no, raw-is, raw-got, raw-not, pick}
 use Rattle.format.specs.Through.{whole, whole_is, whole-there}
-use Rattle.records.specs.Equality.{eq_list}
 use Rattle.records.specs.Held.{AllOf}
 use Rattle.layout.specs.Layout.{require}
 use Rattle.codec.specs.Codec.{decode_lost_voter_attestation}
