@@ -2,8 +2,8 @@
 -- (`drop`).
 -- Each name here is a step of a proof; what is right is said in Observation.
 -- Assumes nothing.
-use Rattle.std.specs.Prelude.{Some, ℕ, zero, suc, ◌+◌, ◌-◌, ◌<◌, ◌≤◌, refl, ◌≡◌, Bool, true, false, cond, not, ◌&&◌, ◌||◌, List, ◌∷◌, [], ◌++◌, eqb, leb, ltb, length, take, drop, get_or, set}
-use Rattle.std.proofs.Common.{sym, ap, ◌∙◌, add-one, arith, take-suc, take-suc-set, eqb-true, eq-eqb, ne_eqb, leb-true, leb-false}
+use Rattle.std.specs.Prelude.{Some, ℕ, zero, suc, ◌+◌, ◌-◌, ◌<◌, ◌≤◌, refl, ◌≡◌, Bool, true, false, cond, not, ◌&&◌, ◌||◌, List, ◌∷◌, [], ◌++◌, eqb, ltb, length, take, drop, get_or, set}
+use Rattle.std.proofs.Common.{sym, ap, ◌∙◌, add-one, arith, take-suc, take-suc-set, eqb-true, eq-eqb, ne_eqb}
 use Rattle.std.proofs.Math.Bool.{or_assoc, or-false, and_assoc, and-true}
 use Rattle.std.proofs.Math.Seq.{drop-cons}
 use Rattle.std.proofs.lemmas.Bool.{eqb-false}
@@ -25,14 +25,6 @@ total_end [] zero h = refl
 total_end [] (suc i) h = refl
 total_end (x ∷ l) zero h = absurd (omega arith)
 total_end (x ∷ l) (suc i) h = total_end l i (omega arith)
-
--- what is left of a length is nothing where the counts add up to it
-pub left-none : (a b left : ℕ) → a + left ≡ b → eqb left 0 ≡ eqb a b
-left-none a b left h = by (eqb a b) refl
-  where
-    by : (d : Bool) → eqb a b ≡ d → eqb left 0 ≡ d
-    by true e = let k = eqb-true a b e in eq-eqb left 0 (omega arith)
-    by false e = let k = eqb-false a b e in ne_eqb left 0 (λ z. k (omega arith))
 
 -- ---- what a list holds
 
@@ -117,13 +109,6 @@ least_end old (x ∷ l) zero least h = absurd (omega arith)
 least_end old (x ∷ l) (suc i) least h = least_end old l i least (omega arith)
 
 -- ---- lengths
-
-pub one_more : (n m : ℕ) → m < n → eqb (n - m) 1 ≡ leb n (m + 1)
-one_more n m h = by (leb n (m + 1)) refl
-  where
-    by : (d : Bool) → leb n (m + 1) ≡ d → eqb (n - m) 1 ≡ d
-    by true e = let k = leb-true n (m + 1) e in eq-eqb (n - m) 1 (omega arith)
-    by false e = let k = leb-false n (m + 1) e in ne_eqb (n - m) 1 (λ z. omega arith)
 
 -- the first of two counts
 pub first_count : (ids counts : List ℕ) → total counts ≤ length ids → 0 < length counts → get_or counts 0 0 ≤ length ids
