@@ -3,8 +3,9 @@
 -- Each name here is a step of a proof; what is right is said in Observation.
 -- Assumes nothing.
 use Rattle.std.specs.Prelude.{Some, ℕ, zero, suc, ◌+◌, ◌-◌, ◌<◌, ◌≤◌, refl, ◌≡◌, Bool, true, false, cond, not, ◌&&◌, ◌||◌, List, ◌∷◌, [], ◌++◌, eqb, ltb, length, take, drop, get_or, set}
-use Rattle.std.proofs.Common.{sym, ap, ◌∙◌, add-one, arith, take-suc, take-suc-set, eqb-true, eq-eqb, ne_eqb}
-use Rattle.std.proofs.Math.Bool.{or_assoc, or-false, and_assoc, and-true}
+use Rattle.std.proofs.Common.{sym, ap, ◌∙◌, add-one, arith, take-suc-set, eqb-true, eq-eqb, ne_eqb}
+use Rattle.std.specs.List.{list_any}
+use Rattle.std.proofs.Math.Bool.{or_assoc, and_assoc, and-true}
 use Rattle.std.proofs.Math.Seq.{drop-cons}
 use Rattle.std.proofs.lemmas.Bool.{eqb-false}
 use Rattle.records.specs.declared.records.VoterConfiguration.{VoterConfiguration}
@@ -33,10 +34,18 @@ unfolding contains
 contains-append x [] b = refl
 contains-append x (y ∷ a) b = ap (λ (t : Bool). eqb x y || t) (contains-append x a b) ∙ sym (or_assoc (eqb x y) (contains x a) (contains x b))
 
-pub contains_more : (x : ℕ) (l : List ℕ) (i : ℕ) → i < length l → contains x (take (i + 1) l) ≡ (contains x (take i l) || eqb x (get_or l i 0))
+eqb-swap : (x y : ℕ) → eqb x y ≡ eqb y x
+eqb-swap x y = by (eqb y x) refl
+  where
+    by : (d : Bool) → eqb y x ≡ d → eqb x y ≡ d
+    by true e = eq-eqb x y (sym (eqb-true y x e))
+    by false e = ne_eqb x y (λ z. eqb-false y x e (sym z))
+
+-- by the library's words
+pub contains_any : (x : ℕ) (l : List ℕ) → contains x l ≡ list_any (λ y. eqb y x) l
 unfolding contains
-contains_more x l i h =
-    rw (add-one, take-suc l i 0 h) (contains-append x (take i l) (get_or l i 0 ∷ []) ∙ ap (λ (t : Bool). contains x (take i l) || t) (or-false (eqb x (get_or l i 0))))
+contains_any x [] = refl
+contains_any x (y ∷ l) = λ i. eqb-swap x y i || contains_any x l i
 
 -- ---- rising
 
