@@ -3,7 +3,7 @@
 -- `observes-as` and `observes-valid` say so of the whole call; `weighed-room` is what a maker asks
 -- for.
 -- Assumes nothing.
-use Rattle.std.specs.Prelude.{ℕ, ◌≤◌, ◌≡◌, Bool, not, ◌&&◌, ◌||◌, List, ◌∷◌, [], leb, length}
+use Rattle.std.specs.Prelude.{ℕ, ◌≡◌, Bool, not, ◌&&◌, ◌||◌, List, ◌∷◌, [], leb, length}
 use Rattle.std.proofs.Math.Path.{refl, sym, ap}
 use Rattle.std.proofs.Common.{◌∙◌}
 use Rattle.std.proofs.Math.Bool.{true, false, cond}
@@ -17,7 +17,7 @@ use Rattle.records.specs.declared.records.VoterSlotLogId.{VoterSlotLogId}
 use Rattle.records.specs.declared.records.VoterSlotTable.{VoterSlotTable}
 use Rattle.records.specs.Representable.{representable, representable_replacement}
 use Rattle.records.specs.RepresentableParts.{configuration-is, replacement-is, table_is}
-use Rattle.records.specs.TestLaws.{and_both, cond-false, cond-true, says, then-says}
+use Rattle.records.specs.TestLaws.{and_both, cond-false, cond-true, says}
 use Rattle.records.specs.Blank.{blank_voter_replacement_record}
 use Rattle.records.specs.Equality.{same_voter_replacement_record}
 use Rattle.records.specs.declared.records.VoterReplacementRecord.{VoterReplacementRecord}
@@ -188,16 +188,6 @@ module _ (t : VoterSlotTable) (ids counts nodes : List ℕ) (cut : VoterSlotLogI
       weighed-room (confirmed-change v (weighed t ids counts nodes cut) (changes (representable t) (confirmed v (weighed t ids counts nodes cut)) (refused Unrepresentable) refl h).1)
 
 -- ---- what the code's tests tell
-
-pub few-count : (t : VoterSlotTable) → few_members t ≡ true → t.count ≤ 9
-few-count t h = leb-true t.count 9 (and_left (leb t.count 9) _ h)
-
-pub few-open : (t : VoterSlotTable) → few_members t ≡ true → t.has_replacement ≡ true → (t.replacement.predecessor.count ≤ 9) × (t.replacement.successor.count ≤ 9)
-few-open t h e =
-    let old = t.replacement.predecessor.count in
-    let new = t.replacement.successor.count in
-    let both = then-says t.has_replacement (leb old 9 && leb new 9) (and_right (leb t.count 9) _ h) e in
-    (leb-true old 9 (and_left (leb old 9) (leb new 9) both), leb-true new 9 (and_right (leb old 9) (leb new 9) both))
 
 module _ (t : VoterSlotTable) (ids counts nodes : List ℕ) where
   abbrev fits : Bool

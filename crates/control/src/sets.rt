@@ -72,6 +72,8 @@ pub fn add_up(counts: &[usize], len: usize) -> bool
 }
 
 // Whether the Rust type can hold every id.
+//
+// This loop and that of `rises` have no early exit, so that several ids are compared at a time.
 #[tactic(auto, using(identity::specs::TextLaws::all_more), unfolding(identity::specs::Text::every))]
 pub fn are_held(ids: &[ConsensusNodeId]) -> bool
     ensures { result ≡ every is_held_node_id ids.now }
@@ -112,18 +114,16 @@ pub fn sets_rise(sets: &[ConsensusNodeId], counts: &[usize]) -> bool
 }
 
 // Whether the id is in the set.
-#[tactic(auto, using(crate::specs::ObserveSetsLaws::contains_more), unfolding(crate::specs::Observation::contains))]
+#[tactic(auto, using(crate::specs::ObserveSetsLaws::contains_any))]
 pub fn contains(set: &[ConsensusNodeId], id: ConsensusNodeId) -> bool
     ensures { result ≡ contains id set.now }
 {
-    let mut found = false;
-    for other in set {
-        found = found | (id == *other);
-    }
-    found
+    set.contains(&id)
 }
 
 // Whether every id of the one stands in the other.
+//
+// A loop: that `all` answers what the definition says was tried, and the proof did not close.
 #[tactic(auto, using(identity::specs::TextLaws::all_more), unfolding(identity::specs::Text::every))]
 pub fn is_subset(ids: &[ConsensusNodeId], set: &[ConsensusNodeId]) -> bool
     ensures { result ≡ is_subset ids.now set.now }
@@ -160,6 +160,8 @@ pub fn first_outside(
 }
 
 // The least of the new ids that is not an old one, or none.
+//
+// The least so far begins at the greatest number: with an `Option` each turn has one test more.
 #[tactic(auto, using(crate::specs::ObserveSetsLaws::least_more, crate::specs::ObserveSetsLaws::least_end))]
 pub fn least_new(old: &[ConsensusNodeId], new: &[ConsensusNodeId]) -> ConsensusNodeId
     ensures { result ≡ least_new old.now new.now no_id }
@@ -202,7 +204,7 @@ pub fn ids_of(configuration: &VoterConfiguration) -> [ConsensusNodeId; MAX_FIXED
     ids
 }
 
-// The same of the slots.
+// The same of the slots: one function for both takes a closure, which is no plainer than a loop.
 #[tactic(auto, using(crate::specs::ObserveSetsLaws::listed_more), unfolding(crate::specs::ObserveSets::listed))]
 pub fn ids_of_slots(table: &VoterSlotTable) -> [ConsensusNodeId; MAX_FIXED_VOTER_SLOTS]
     ensures { result ≡ listed (slot_members table.now) 9 }
