@@ -126,7 +126,8 @@ pub fn blank_voter_slot_records() -> [VoterSlotRecord; MAX_FIXED_VOTER_SLOTS]
     [blank; MAX_FIXED_VOTER_SLOTS]
 }
 
-// A member of its identity and its binding.
+// The records of their parts. Each has two parts or more, so these are functions and no `From`: a
+// member of its identity and its binding,
 pub fn member_of(identity: VoterSlotIdentity, binding: Binding) -> VoterSlotMember
     ensures { result ≡ member_of identity binding }
 {
@@ -140,7 +141,7 @@ pub fn member_of(identity: VoterSlotIdentity, binding: Binding) -> VoterSlotMemb
     }
 }
 
-// A receipt of its front and what follows.
+// a receipt of its front and what follows,
 pub fn result_of(
     head: ResultHead,
     configuration_epoch: ConsensusConfigurationEpoch,
@@ -162,7 +163,7 @@ pub fn result_of(
     }
 }
 
-// An attestation of its groups.
+// an attestation of its groups,
 pub fn attestation_of(
     request: ClaimsRequest,
     slot: ClaimsSlot,
@@ -203,7 +204,7 @@ pub fn attestation_of(
     }
 }
 
-// The evidence of its parts.
+// and the evidence of its parts.
 pub fn evidence_of(
     prepare: VoterSlotLogId,
     has_snapshot: bool,
