@@ -119,7 +119,8 @@ pub fn blank_voter_slot_members() -> [VoterSlotMember; MAX_FIXED_VOTER_SLOTS]
     [blank; MAX_FIXED_VOTER_SLOTS]
 }
 
-// A member of its identity and its binding.
+// The records of their parts. Each has two parts or more, so these are functions and no `From`: a
+// member of its identity and its binding,
 pub fn member_of(identity: VoterSlotIdentity, binding: Binding) -> VoterSlotMember
     ensures { result ≡ member_of identity binding }
 {
@@ -133,7 +134,7 @@ pub fn member_of(identity: VoterSlotIdentity, binding: Binding) -> VoterSlotMemb
     }
 }
 
-// A receipt of its front and what follows.
+// a receipt of its front and what follows,
 pub fn result_of(
     head: ResultHead,
     configuration_epoch: ConsensusConfigurationEpoch,
@@ -155,7 +156,8 @@ pub fn result_of(
     }
 }
 
-// The evidence of its parts.
+// The records of their parts. Each has two parts or more, so these are functions and no `From`: a
+// member of its identity and its binding,
 pub fn evidence_of(
     prepare: VoterSlotLogId,
     has_snapshot: bool,

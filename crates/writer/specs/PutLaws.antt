@@ -168,4 +168,4 @@ pub of_table : (t : VoterSlotTable) → table.enc t
 unfolding table via dep
 of_table t = refl
 
-pub ruleset tabled = (of_table, writing)
+pub ruleset tabled = (of_table, optional)

@@ -111,7 +111,9 @@ impl<'a> Writer<'a> {
         self.binding(member);
     }
 
-    // The first so many of the nine places.
+    // The first so many of the nine places. It takes the array itself, whose length is known then, and
+    // of an array within a record behind a `&` is not. (`slots` is no twin that one generic function
+    // would spare: a trait for both would say both contracts again.)
     #[tactic(auto, using(crate::specs::PutLaws::listed))]
     fn members(&mut self, members: &[VoterSlotMember; MAX_FIXED_VOTER_SLOTS], count: usize)
         requires room { HasRoom ((layout.members count).enc members.now) self.old }
@@ -159,19 +161,6 @@ impl<'a> Writer<'a> {
         self.log_id(res.terminal);
     }
 
-    // A receipt, or none. The three optional parts here are no one function: each has a `requires` of
-    // its own, which a closure or a trait would have to hand through.
-    #[tactic(auto, using(crate::specs::PutLaws::optional))]
-    fn optional_result(&mut self, is_some: bool, res: &VoterReplacementResult)
-        requires { HasRoom ((opt layout.replacement_result blank_voter_replacement_result).enc (is_some, res.now)) self.old }
-        ensures { Wrote ((opt layout.replacement_result blank_voter_replacement_result).enc (is_some, res.now)) self.old self.new }
-    {
-        self.flag(is_some);
-        if is_some {
-            self.replacement_result(res);
-        }
-    }
-
     // The front of a slot.
     #[tactic(auto, using(crate::specs::PutLaws::writing), unfolding(layout::specs::Layout::slot_member))]
     fn slot_member(&mut self, slot: &VoterSlotRecord)
@@ -184,14 +173,17 @@ impl<'a> Writer<'a> {
     }
 
     // A slot.
-    #[tactic(auto, using(crate::specs::PutLaws::writing), unfolding(layout::specs::Layout::slot))]
+    #[tactic(auto, using(crate::specs::PutLaws::optional), unfolding(layout::specs::Layout::slot))]
     fn slot(&mut self, slot: &VoterSlotRecord)
         requires { HasRoom ((layout.slot).enc slot.now) self.old }
         ensures { Wrote ((layout.slot).enc slot.now) self.old self.new }
     {
         self.slot_member(slot);
         self.u8(slot.phase);
-        self.optional_result(slot.has_last_result, &slot.last_result);
+        self.flag(slot.has_last_result);
+        if slot.has_last_result {
+            self.replacement_result(&slot.last_result);
+        }
     }
 
     // The first so many of the nine places.
@@ -291,7 +283,7 @@ impl<'a> Writer<'a> {
         self.bytes(&snapshot.digest);
     }
 
-    // A snapshot, or none.
+    // A snapshot, or none: a function of its own, since more is written after it.
     #[tactic(auto, using(crate::specs::PutLaws::optional))]
     fn optional_snapshot(&mut self, is_some: bool, snapshot: &VoterSnapshotEvidence)
         requires room { HasRoom ((opt layout.snapshot blank_voter_snapshot_evidence).enc (is_some, snapshot.now)) self.old }
@@ -343,20 +335,6 @@ impl<'a> Writer<'a> {
         self.evidence(&operation.evidence);
     }
 
-    // An open request, or none.
-    #[tactic(auto, using(crate::specs::PutLaws::optional))]
-    fn optional_replacement(&mut self, is_some: bool, operation: &VoterReplacementRecord)
-        requires room { HasRoom ((opt layout.replacement blank_voter_replacement_record).enc (is_some, operation.now)) self.old }
-        requires small { ReplacementFits operation.now }
-        requires sized { IsSized operation.now.attestation }
-        ensures { Wrote ((opt layout.replacement blank_voter_replacement_record).enc (is_some, operation.now)) self.old self.new }
-    {
-        self.flag(is_some);
-        if is_some {
-            self.replacement(operation);
-        }
-    }
-
     // The front of a table, after the magic and the version.
     #[tactic(auto, using(crate::specs::PutLaws::writing), unfolding(layout::specs::Layout::table_head))]
     fn table_head(&mut self, table: &VoterSlotTable)
@@ -381,7 +359,10 @@ impl<'a> Writer<'a> {
         self.table_head(table);
         self.u8(table.count as u8);
         self.slots(&table.slots, table.count);
-        self.optional_replacement(table.has_replacement, &table.replacement);
+        self.flag(table.has_replacement);
+        if table.has_replacement {
+            self.replacement(&table.replacement);
+        }
     }
 }
 
