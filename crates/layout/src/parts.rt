@@ -111,7 +111,7 @@ pub struct TableHead {
     pub configuration_epoch: ConsensusConfigurationEpoch,
 }
 
-// 717de332e7, Apache-2.0 (see NOTICE). Changed: the version is a number of 64 bits.
+// Nine blank places, which the reader of a configuration fills from the front.
 pub fn blank_voter_slot_members() -> [VoterSlotMember; MAX_FIXED_VOTER_SLOTS]
     ensures { result ≡ blank_voter_slot_members }
 {
