@@ -3,7 +3,7 @@ use codec::codec::decode_lost_voter_attestation;
 use control::apply::apply_control;
 use control::control::VoterSlotControl;
 use control::observe::observe_membership;
-use control::retired::{Retirement, is_retired};
+use control::retired::is_retired;
 use identity::answer::{Answer, accepted};
 use questions::question::Question;
 use questions::reply::{Reply, number};
@@ -41,9 +41,8 @@ fn retired(mut fields: Fields) -> Option<Reply> {
     let node = fields.u64()?;
     let table = last_table(fields)?;
     Some(match is_retired(table, node) {
-        Retirement::NotRetired => false.into(),
-        Retirement::Retired => true.into(),
-        Retirement::Refused(answer) => answer.into(),
+        Ok(retired) => retired.into(),
+        Err(refusal) => Reply::from(Err(refusal)),
     })
 }
 

@@ -1,6 +1,6 @@
 -- What the exported functions know of a table that was read, and each way that a reading and a writing can go.
 -- Assumes nothing.
-use Rattle.std.specs.Prelude.{ℕ, ◌≤◌, ◌<◌, ◌≡◌, refl, true, false, List, length}
+use Rattle.std.specs.Prelude.{Ok, ℕ, ◌≤◌, ◌<◌, ◌≡◌, refl, true, false, List, length}
 use Rattle.std.proofs.Math.Path.{sym, ap}
 use Rattle.std.proofs.Common.{◌∙◌, arith, eqb-true}
 use Rattle.std.proofs.lemmas.Bool.{false≢true}
@@ -25,7 +25,6 @@ use Rattle.codec.specs.EntryLaws.{encode-short, put-start}
 use Rattle.codec.specs.FitsLaws.{table_fits}
 use Rattle.control.specs.Retired.{is_retired, retired_number, retired_test}
 use Rattle.control.specs.RetiredLaws.{test-says}
-use Rattle.control.specs.declared.retired.Retirement.TheVariants.{NotRetired, Retired}
 use Rattle.journal.specs.RefusalLaws.{table-refused}
 use Rattle.voter_slots.specs.declared.result.VoterSlotsResult.{VoterSlotsResult}
 use Rattle.voter_slots.specs.Export.{ReadAs, leaves, read_by, read_of, refused_result, numbers_of, retired_by, retired_of, with_table, write_of, written_by, written}
@@ -120,8 +119,8 @@ module _ (bs : List ℕ) (t : VoterSlotTable) (node : ℕ) (z : Bytes bs) (e : R
 
   pub says-yes : is_retired t node ≡ true → 101 ≡ retired_of bs node
   says-yes h =
-      retired-as (ap retired_number (test-says t node (valid-parts t (read-accepted bs t z e)).0 ∙ cond-true (is_retired t node) Retired NotRetired h))
+      retired-as (ap retired_number (test-says t node (valid-parts t (read-accepted bs t z e)).0 ∙ ap (λ (b : Bool). Ok b) h))
 
   pub says-no : is_retired t node ≡ false → 100 ≡ retired_of bs node
   says-no h =
-      retired-as (ap retired_number (test-says t node (valid-parts t (read-accepted bs t z e)).0 ∙ cond-false (is_retired t node) Retired NotRetired h))
+      retired-as (ap retired_number (test-says t node (valid-parts t (read-accepted bs t z e)).0 ∙ ap (λ (b : Bool). Ok b) h))

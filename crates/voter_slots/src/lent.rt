@@ -20,7 +20,7 @@ use codec::codec::decode_voter_slot_table;
 use control::apply::Controlled;
 use control::observe::observe_membership;
 use control::representable::{is_representable_request, is_representable_step};
-use control::retired::{Retirement, is_retired};
+use control::retired::is_retired;
 use identity::answer::{Answer, Refusal, accepted, number};
 use journal::bodies::*;
 use journal::observation::*;
@@ -239,8 +239,8 @@ pub fn retired_in(table: VoterSlotTable, node: u64) -> u32
     ensures { result ≡ table_retired_of table node }
 {
     match is_retired(table, node) {
-        Retirement::NotRetired => NOT_RETIRED,
-        Retirement::Retired => RETIRED,
-        Retirement::Refused(answer) => number(answer) as u32,
+        Ok(false) => NOT_RETIRED,
+        Ok(true) => RETIRED,
+        Err(refusal) => refusal as u32,
     }
 }
