@@ -67,21 +67,21 @@ use Rattle.journal.specs.Step.Numbered.{refused_by, moves_by}
 
 -- ---- the command of a body passes the representability check where the part does that it uses
 
-pub fits-marker : (b : MarkerBody) → representable_control (marker_control b) ≡ true
+pub fits_marker : (b : MarkerBody) → representable_control (marker_control b) ≡ true
 unfolding representable_control marker_control
-fits-marker b = and_both _ _ (same_voter_replacement_request-refl blank_voter_replacement_request) (same_voter_replacement_step-refl blank_voter_replacement_step)
+fits_marker b = and_both _ _ (same_voter_replacement_request-refl blank_voter_replacement_request) (same_voter_replacement_step-refl blank_voter_replacement_step)
 
-pub fits-advance : (a : VoterAdvance) → representable_control (advance_control a) ≡ representable_step a.step
+pub fits_advance : (a : VoterAdvance) → representable_control (advance_control a) ≡ representable_step a.step
 unfolding representable_control advance_control
-fits-advance a = ap (λ (b : Bool). b && representable_step a.step) (same_voter_replacement_request-refl blank_voter_replacement_request)
+fits_advance a = ap (λ (b : Bool). b && representable_step a.step) (same_voter_replacement_request-refl blank_voter_replacement_request)
 
 and-two : (b p q : Bool) → p ≡ true → q ≡ true → ((b && p) && q) ≡ b
 and-two true p q h k = and_both p q h k
 and-two false p q h k = refl
 
-pub fits-begin : (r : VoterReplacementRequest) → representable_control (begin_control r) ≡ representable_request r
+pub fits_begin : (r : VoterReplacementRequest) → representable_control (begin_control r) ≡ representable_request r
 unfolding representable_control begin_control
-fits-begin r =
+fits_begin r =
     and-two (representable_request r) _ _ (and_both _ _ (same_bytes blank_request_id _ refl) (same_bytes blank_request_digest _ refl))
     (same_voter_replacement_step-refl blank_voter_replacement_step)
 
@@ -107,18 +107,18 @@ module _ (t : VoterSlotTable) (valid : validate t ≡ Accepted) where
   unfolding judge marker_control
   marker_entry b =
       entry-as (marker_control b) b.cut
-      ∙ ap (λ (f : Bool). checked_call f b.cut (judge_marker t b.request_id b.request_digest)) (fits-marker b)
+      ∙ ap (λ (f : Bool). checked_call f b.cut (judge_marker t b.request_id b.request_digest)) (fits_marker b)
 
   pub advance_entry : (a : VoterAdvance) → entry_verdict t (advance_control a) a.cut ≡ checked_call (representable_step a.step) a.cut (judge_of t a)
   unfolding judge advance_control
   advance_entry a =
-      entry-as (advance_control a) a.cut ∙ ap (λ (f : Bool). checked_call f a.cut (judge_of t a)) (fits-advance a)
+      entry-as (advance_control a) a.cut ∙ ap (λ (f : Bool). checked_call f a.cut (judge_of t a)) (fits_advance a)
 
   pub begin_entry : (b : VoterBegin) → entry_verdict t (begin_control b.request) b.cut ≡ checked_call (representable_request b.request) b.cut (judge_begin t b.request b.cut)
   unfolding judge begin_control
   begin_entry b =
       entry-as (begin_control b.request) b.cut
-      ∙ ap (λ (f : Bool). checked_call f b.cut (judge_begin t b.request b.cut)) (fits-begin b.request)
+      ∙ ap (λ (f : Bool). checked_call f b.cut (judge_begin t b.request b.cut)) (fits_begin b.request)
 
 -- ---- which verdict makes a table
 

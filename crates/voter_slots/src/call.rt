@@ -2,7 +2,7 @@
 ghost use Rattle.std.specs.Prelude.{◌*◌, ◌≤◌, cond, ◌≡◌, length};
 ghost use Rattle.identity.specs.Answer.{Accepted, BadRecord};
 ghost use Rattle.records.specs.Validation.{validate};
-ghost use Rattle.journal.specs.declared.replay.Mark.TheVariants.{Bg, Ob};
+ghost use Rattle.journal.specs.declared.replay.Mark.TheVariants.{Ob};
 ghost use Rattle.journal.specs.Replay.{asking};
 ghost use Rattle.journal.specs.Step.{Judges, Makes, answer_of_called, made_by};
 ghost use Rattle.voter_slots.specs.Calls.{asked_of, command_of, is_formed, settled};
@@ -10,7 +10,6 @@ ghost use Rattle.voter_slots.specs.Export.{ReadAs};
 
 use crate::result::*;
 use codec::codec::decode_voter_slot_table;
-use control::judge::Judged;
 use identity::answer::{Answer, Refusal, accepted};
 use journal::bodies::*;
 use journal::observation::*;
@@ -72,28 +71,17 @@ pub fn command_of(mark: u32, len: usize) -> Mark
     }
 }
 
+// Whether the body is of its form; one whose attestation is refused is.
+#[tactic(auto, using(crate::proofs::Marks::other))]
 pub fn is_formed(asks: Mark, body: &[u8]) -> bool
     requires { asks ≡ Ob → ⊥ }
     ensures { result ≡ is_formed (asking asks body.now) }
 {
     match asks {
-        Mark::Mk => read_marker(body).formed,
-        Mark::Ad => read_advance(body).formed,
-        Mark::Bg => is_begin(body),
+        Mark::Mk => read_marker(body).is_some(),
+        Mark::Ad => read_advance(body).is_some(),
+        Mark::Bg => read_begin(body).is_some(),
         _ => false,
-    }
-}
-
-// One whose attestation is refused is of the form.
-fn is_begin(body: &[u8]) -> bool
-    ensures { result ≡ is_formed (asking Bg body.now) }
-{
-    let read = read_begin(body);
-    let asks = read.asks;
-    match asks {
-        Asks::Bad => false,
-        Asks::Refused(_) => true,
-        Asks::Begin => true,
     }
 }
 
@@ -105,7 +93,7 @@ pub fn judge_body(table: VoterSlotTable, asks: Mark, body: &[u8]) -> Called
         Mark::Mk => Called::Command(judge_marker_body(table, body)),
         Mark::Ad => Called::Command(judge_advance_body(table, body)),
         Mark::Bg => Called::Command(judge_begin_body(table, body)),
-        _ => Called::Command(Judged::Refuse(Err(Refusal::BadRecord))),
+        _ => Called::Command(Err(Refusal::BadRecord)),
     }
 }
 
@@ -120,10 +108,9 @@ pub fn observe_bytes(
     requires { (length body.now ≤ 65535) × ((length body.now ≤ 8 * length ids.old) × (255 ≤ length counts.old)) }
     ensures { (result, out.new) ≡ asked_of (asking Ob body.now) table.now out.old }
 {
-    let read = read_observation(body, ids, counts);
-    if !read.formed {
+    let Some(read) = read_observation(body, ids, counts) else {
         return refused(Err(Refusal::BadRecord));
-    }
+    };
     let decoded = decode_voter_slot_table(table);
     let answer = decoded.answer;
     if !accepted(answer) {
