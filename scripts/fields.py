@@ -1,10 +1,9 @@
 """The fields of each record and group of the format, in the order of their bytes.
 
-scripts/readers.py makes the proofs of `read_RECORD` of this list, and scripts/writers.py those of
-`put_RECORD`. A field is its name and its kind: a number (u64, count ..), bytes as they stand
+scripts/readers.py makes the proofs of `read_RECORD` of this list. A field is its name and its kind: a number (u64, count ..), bytes as they stand
 (array32 ..), a choice among small numbers (kind, phase ..), a mark (version, head), another record
 or group (binding ..), so many places as were counted (members, slots), or an optional part
-(optional_result ..). What else both scripts share is at the end.
+(optional_result ..). What else the script needs is at the end.
 """
 import re
 

@@ -1,14 +1,13 @@
 #!/usr/bin/env python3
-"""Writes the regular proofs of the readers (crates/reader/proofs/{reader,decode},
-crates/layout/proofs/{get,reading} and crates/journal/proofs/bodies).
+"""Writes the regular proofs of the readers of a replay's bodies (crates/journal/proofs/bodies). Those
+of crates/reader need none: each is proved by `?`, step by step, from the law of its form.
 
 Records (scripts/fields.py) are read field by field. In each answer the facts of the fields come
 first, p1, p2 and so on, each of what the field's call ensures and of what its answer was; q is that
 a field was refused. The names of the facts and of the goals follow from the fields' names, since
 every reader of a record is written in the same way: `let x_read = read_kind(..)`, `let x_to =
-x_read.answer` where the value stands next to the answer, and then the `let` with its `else`.
-Optional parts, the places of slots and members, text, and arrays of bytes have a template each, and
-so have the refusals that are passed on.
+x_read.answer` where the value stands next to the answer, and then the `let` with its `else`. The
+refusals that are passed on have a template.
 
 Run it after a change of a reader or of the format: scripts/readers.py [NAME..]. It reads nothing
 but scripts/fields.py.
@@ -78,28 +77,6 @@ GROUPS = ("table_front",)
 # Readers: module, record (scripts/fields.py has its fields), blank (None: an enum, whose refusal is
 # the answer itself), constructor that is called
 READERS = [
-    ("reader", "identity", None, None),
-    ("reader", "log_id", None, None),
-    ("reader", "three_cuts", None, None),
-    ("reader", "times", None, None),
-    ("decode", "binding", "blank_binding", None),
-    ("decode", "member", "blank_voter_slot_member", "member_of"),
-    ("decode", "configuration", "blank_voter_configuration", None),
-    ("decode", "result_head", "blank_result_head", None),
-    ("decode", "result", "blank_voter_replacement_result", "result_of"),
-    ("decode", "slot_member", "blank_slot_member", "member_of"),
-    ("decode", "slot", "blank_voter_slot_record", None),
-    ("decode", "claims_request", "blank_claims_request", None),
-    ("decode", "claims_slot", "blank_claims_slot", None),
-    ("decode", "claims_names", "blank_claims_names", None),
-    ("decode", "claims_end", "blank_claims_end", None),
-    ("decode", "attestation", "blank_lost_voter_attestation_v1", "attestation_of"),
-    ("decode", "snapshot", "blank_voter_snapshot_evidence", None),
-    ("decode", "evidence", "blank_voter_replacement_evidence", "evidence_of"),
-    ("decode", "change", "blank_change", None),
-    ("decode", "replacement", "blank_voter_replacement_record", "replacement_of"),
-    ("decode", "table_head", "blank_table_head", None),
-    ("decode", "table_front", "blank_table_front", None),
     ("bodies", "marker_body", "blank_marker_body", None),
     ("bodies", "any_identity", None, None),
     ("bodies", "candidate", "blank_voter_slot_member", "member_of"),
@@ -152,9 +129,8 @@ HOMES = {
 
 
 def crate_of(module):
-    """The crate of a module: the readers of plain bytes, and what a reader answers, stand in
-    layout; those of a replay's bodies in journal."""
-    return {"get": "layout", "reading": "layout", "bodies": "journal"}.get(module, "reader")
+    """The crate of a module: the readers of a replay's bodies stand in journal."""
+    return {"bodies": "journal"}[module]
 
 
 def write(module, name, body, says="meets its contract", file="Answers", goals="Goals"):
@@ -337,164 +313,14 @@ class Reader:
         write(self.module, self.name, self.goals(), "meets its contract: field by field")
 
 
-def optional(name, codec, absent, blank):
-    """A flag, and after a yes the part."""
-    call, refused, whole = f"read_{name}-read", f"refused_optional_{name}", f"(opt {codec} {blank})"
-    flag = "got bool_read c.read_flag-flag.ensures c.in-Read.is"
-    yes = f"\n    let f = {flag} ∙ ap (λ b. ok b c.in-Read.at) c.if-not-is_some.false in"
-    part = f"\n    let p = {told_by(blank, codec, call, 'c.in-To.is')} in"
-    out = answer("returns-in_default", f"""
-    {passed(refused, absent, "why_bool", "why_bool", "c.in_default.is", absent)}
-    (opt-no _ _ _ (got bool_read c.read_flag-flag.ensures c.in_default.is))""")
-    out += answer("returns-then-not-is_some", f"""
-    let t = c.if-not-is_some.true in
-    let p : {whole}.dec c.args.bytes.now ≡ ok (false, {blank}) c.in-Read.at = opt_none _ _ _ ({flag} ∙ ap (λ b. ok b c.in-Read.at) t) in
-    outcome-ok {absent} (p ∙ (λ i. ok (sym t i, sym c.{blank}.ensures i) c.in-Read.at))""")
-    for of in ("count", "start"):
-        out += answer(f"slice_bounds-read_{name}-{of}", f"flag.within _ ({flag})")
-    out += answer("returns-in_default-to", f"""{yes}
-    let q = {told_by(blank, codec, call, "c.in_default-to.is", "told-not")} in
-    {passed(refused + "-in_default-to", absent, "why", "why_of", "c.in_default-to.is", absent)}
-    (opt-bad _ _ _ f q)""")
-    out += answer("overflow_add-result", f"{yes}{part}\n    record {{ fits = lt_of_le_of_lt ({whole}.within _ (opt-some _ _ _ f p)) c.well_formed.0.0 }}")
-    out += answer("returns", f"""{yes}{part}
-    outcome-ok {absent} (opt-some _ _ _ f p ∙ ap (λ b. ok (b, c.{call}.result.value) (c.in-Read.at + c.in-To.n)) (sym c.if-not-is_some.false))""")
-    write("decode", f"read_optional_{name}", out)
-
-
-def places(name, element, blanks, blank):
-    """The first so many of nine places."""
-    vec, call = f"vec {element} {blank}", f"read_{element}-read"
-    one = f"\n    let m = {told_by(blank, element, call, 'c.in-To.is', at='c.loop-i.at')} in"
-    more = f"vec-next {element} {blank} _ _ c.loop-i.invariant.1 m"
-    write("decode", f"read_{name}", f"""abbrev pub invariant-loop-i : goal.invariant-loop-i
-invariant-loop-i l =
-    (l.i ≤ l.count) × (({vec} l.i).dec l.bytes ≡ ok (take l.i l.value) l.at) × (drop l.i l.value ≡ drop l.i l.initial.value) × (length l.value ≡ 9)
-
-abbrev pub decreases-loop-i : goal.decreases-loop-i
-decreases-loop-i l = l.count - l.i""", file="Invariants", goals="Given")
-    out = f"""-- after those that were read there are blanks
-blanks-after : (i : ℕ) → drop i {blanks} ≡ replicate (9 - i) {blank}
-unfolding {blanks}
-blanks-after i = drop-replicate i 9 {blank}
-
-"""
-    out += answer("loop-i-init", f"(search rules, vec-start {element} {blank} _, refl, ap length c.{blanks}-value.ensures)", blanks)
-    for of in ("count", "start"):
-        out += answer(f"slice_bounds-read_{element}-{of}", f"({vec} _).within _ c.loop-i.invariant.1")
-    out += answer("returns-in_default", f"""
-    let q = {told_by(blank, element, call, "c.in_default.is", "told-not", "c.loop-i.at")} in
-    {passed("refused_" + name, blanks, "why", "why_of", "c.in_default.is", blanks)}
-    (padded-no _ _ _ _ _ _ (vec-refused _ _ _ _ _ c.loop-i-test.true c.loop-i.invariant.1 q))""", name)
-    out += answer("overflow_add-at", f"{one}\n    record {{ fits = lt_of_le_of_lt (({vec} _).within _ ({more})) c.well_formed.0.0 }}")
-    out += answer("loop-i-preserved", f"""{one}
-    let l = c.loop-i in
-    let v = c.{call}.result.value in (
-      omega arith,
-      {more} ∙ ap (λ x. ok x (l.at + c.in-To.n)) (sym (filled_more l.value l.i v (omega (arith, l.invariant.3)))),
-      unfilled-more l.value _ l.i v l.invariant.2,
-      length-set l.value l.i v ∙ l.invariant.3,
-    )""")
-    out += answer("returns", f"""
-    let l = c.loop-i in
-    let a = c.args in
-    let e : l.i ≡ a.count = omega arith in
-    let v : l.value ≡ take l.i l.value ++ replicate (9 - a.count) {blank}
-    = sym (take-append-drop l.i l.value)
-    ∙ ap (λ t. take l.i l.value ++ t) (l.invariant.2 ∙ ap (drop l.i) c.{blanks}-value.ensures ∙ blanks-after l.i)
-    ∙ ap (λ n. take l.i l.value ++ replicate (9 - n) {blank}) e in
-    outcome-ok {blanks}
-    (padded-ok _ _ _ _ _ _ (subst (λ n. ({vec} n).dec a.bytes.now ≡ ok (take l.i l.value) l.at) e l.invariant.1) ∙ ap (λ x. ok x l.at) (sym v))""", name)
-    write("decode", f"read_{name}", out)
-
-
-def text(name, size):
-    """Sized bytes that are UTF-8, in a place of so many."""
-    blank, refused, place = f"blank_{name}", f"refused_{name}", f"zeros{size}-place"
-    names = "\n    let s = c.args.bytes.now in\n    let n = c.in-Read.len in\n    let at = c.in-Read.at in"
-    got = "\n    let p = got (λ r. sized_read r s) c.read_sized-size.ensures c.in-Read.is in"
-    within = f"(sized {size}).within _ p"
-    out = answer("returns-in_default", f"""
-    let s = c.args.bytes.now in
-    {passed(refused, blank, "why_sized", "why_sized", "c.in_default.is")}
-    (via-no _ _ _ _ _ (checked-no _ _ _ (got (λ r. sized_read r s) c.read_sized-size.ensures c.in_default.is)))""", f"{name} string")
-    out += answer("overflow_add-end", f"\n    let s = c.args.bytes.now in{got}\n    record {{ fits = lt_of_le_of_lt ({within}) c.well_formed.0.0 }}")
-    out += answer("slice_bounds-text-end", f"\n    let s = c.args.bytes.now in{got}\n    {within}")
-    out += answer("returns-then-not-is_utf8", f"""{names}{got}
-    outcome-no _ c.{refused}-then-not-is_utf8.ensures
-    (via-no _ _ _ _ _ (checked-bad _ _ _ p (ap require (ap is_utf8 (sym (part-is n at s)) ∙ sym c.is_utf8.ensures ∙ c.if-not-is_utf8.true))))""", f"{name} string pick")
-    out += answer("put_bytes-requires", f"""{names}{got}
-    let z : length c.{place}.result ≡ {size} = ap length c.{place}.ensures ∙ length-zeros {size} in
-    omega (arith, length-take (at + n - at) (drop at s), z, sized-small {size} s p)""")
-    out += answer("returns", f"""{names}{got}
-    let l = take n (drop at s) in
-    let h : length l ≡ n = length-take-le n (drop at s) (omega (arith, length-drop at s, {within})) in
-    let b = c.put_bytes.ensures.bytes ∙ (λ i. put (part-is n at s i) 0 (c.{place}.ensures i)) ∙ put-zeros l {size} ∙ ap (λ m. l ++ replicate ({size} - m) 0) h in
-    outcome-ok {blank}
-    (via-ok _ _ _ _ _ (checked-ok _ _ _ p (ap require (ap is_utf8 (sym (part-is n at s)) ∙ sym c.is_utf8.ensures ∙ c.if-not-is_utf8.false)))
-    ∙ ap (λ b. ok (record {{ len = n; bytes = b }}) (at + n)) (sym b))""", f"{name} string pick")
-    write("reader", f"read_{name}", out)
-
-
-def array(size):
-    """So many bytes as they stand."""
-    made = f"c.zeros{size}-value"
-    out = answer(f"returns-then-bytes-lt{size}", f"outcome-no _ c.refused_array{size}.ensures (raw-not {size} _ c.if-bytes-lt{size}.true)")
-    out += answer("slice_bounds-put_bytes-end-2", "simp length-take (omega arith)")
-    out += answer("put_bytes-requires", f"""
-    let z : length {made}.result ≡ {size} = ap length {made}.ensures ∙ length-zeros {size} in
-    omega (arith, length-take {size} c.args.bytes.now, z)""")
-    out += answer("returns", f"""
-    let s = c.args.bytes.now in
-    let p = c.put_bytes.ensures.bytes ∙ ap (put (take {size} s) 0) {made}.ensures in
-    let l : length (take {size} s) ≡ {size} = length-take-le {size} s (omega arith) in
-    outcome-ok (zeros {size}) (raw-got {size} s (omega arith) ∙ ap (λ v. ok v {size}) (sym (p ∙ put_whole (take {size} s) {size} l)))""")
-    write("get", f"read_array{size}", out)
-
-
 def refused(module, name, made, value="v", opened="outcome"):
     """A refusal that is passed on with its blank, which a call makes."""
     body = f"ap (λ v. (no (number_of c.args.answer), {value})) c.{made}.ensures"
     write(module, f"refused_{name}", answer("returns", body, opened))
 
 
-def refused_array(size):
-    """A refusal with its blank, which is zeros."""
-    write("reading", f"refused_array{size}", answer("returns", "refl", "outcome zeros"))
-
-
-def refused_front():
-    """A refusal with the front of a table, in whose blank two calls stand."""
-    value = "(((tt, c.blank_table_head-head.ensures i), 0), c.blank_voter_slot_records-slots.ensures i)"
-    write("reading", "refused_table_front", answer("returns", f"λ i. (no (number_of c.args.answer), {value})", "outcome"))
-
-
 # What passes a refusal on: the module, what was read, and the call that makes its blank
 REFUSALS = [
-    ("reading", "spiffe_id", "blank_spiffe_id"),
-    ("reading", "snapshot_id", "blank_snapshot_id"),
-    ("reading", "binding", "blank_binding"),
-    ("reading", "member", "blank_voter_slot_member"),
-    ("reading", "members", "blank_voter_slot_members"),
-    ("reading", "configuration", "blank_voter_configuration"),
-    ("reading", "result_head", "blank_result_head"),
-    ("reading", "result", "blank_voter_replacement_result"),
-    ("reading", "optional_result", "blank_voter_replacement_result", "(false, v)"),
-    ("reading", "slot_member", "blank_slot_member"),
-    ("reading", "slot", "blank_voter_slot_record"),
-    ("reading", "slots", "blank_voter_slot_records"),
-    ("reading", "claims_request", "blank_claims_request"),
-    ("reading", "claims_slot", "blank_claims_slot"),
-    ("reading", "claims_names", "blank_claims_names"),
-    ("reading", "claims_end", "blank_claims_end"),
-    ("reading", "attestation", "blank_lost_voter_attestation_v1"),
-    ("reading", "snapshot", "blank_voter_snapshot_evidence"),
-    ("reading", "optional_snapshot", "blank_voter_snapshot_evidence", "(false, v)"),
-    ("reading", "evidence", "blank_voter_replacement_evidence"),
-    ("reading", "change", "blank_change"),
-    ("reading", "replacement", "blank_voter_replacement_record"),
-    ("reading", "table_head", "blank_table_head"),
-    ("reading", "table", "blank_voter_slot_table"),
     ("bodies", "marker_body", "blank_marker_body"),
     ("bodies", "expected", "blank_expected"),
     ("bodies", "begin_head", "blank_begin_head"),
@@ -503,15 +329,6 @@ REFUSALS = [
 ]
 
 TEMPLATES = {
-    "read_optional_result": lambda: optional("result", "replacement_result", "absent_result", "blank_voter_replacement_result"),
-    "read_optional_snapshot": lambda: optional("snapshot", "snapshot", "absent_snapshot", "blank_voter_snapshot_evidence"),
-    "read_members": lambda: places("members", "member", "blank_voter_slot_members", "blank_voter_slot_member"),
-    "read_slots": lambda: places("slots", "slot", "blank_voter_slot_records", "blank_voter_slot_record"),
-    "read_spiffe_id": lambda: text("spiffe_id", 2048),
-    "read_snapshot_id": lambda: text("snapshot_id", 256),
-    **{f"read_array{size}": (lambda size=size: array(size)) for size in (16, 32, 64)},
-    **{f"refused_array{size}": (lambda size=size: refused_array(size)) for size in (16, 32, 64)},
-    "refused_table_front": refused_front,
     **{"refused_" + of[1]: (lambda of=of: refused(*of)) for of in REFUSALS},
     **{"read_" + reader[1]: Reader(*reader).write for reader in READERS},
 }

@@ -39,6 +39,19 @@ def split(tokens, start, end):
     return [p for p in parts + [(first, end)] if p[0] < p[1]]
 
 
+def implemented(tokens, i):
+    """The type whose methods the `impl` at i has, by its last name, and the place of its `{`."""
+    depth, names = 0, []
+    while tokens[i].text != '{':
+        depth += (tokens[i].text == '<') - (tokens[i].text == '>')
+        if depth == 0 and tokens[i].text == 'for':
+            names = []
+        elif depth == 0 and tokens[i].kind == 'name' and tokens[i].text != 'impl':
+            names.append(tokens[i].text)
+        i += 1
+    return names[-1], i
+
+
 class Function:
     def __init__(self, **parts):
         self.__dict__.update(parts)
@@ -103,8 +116,9 @@ class Source:
                 (self.struct if word == 'struct' else self.enum)(name, tokens, begin, end)
                 i = end + 1
             elif word == 'impl':
-                owner, owner_end = tokens[i + 1].text, closing(tokens, i + 2)
-                i += 3
+                owner, begin = implemented(tokens, i)
+                owner_end = closing(tokens, begin)
+                i = begin + 1
             elif word == 'fn':
                 if not owner and tokens[i - 1].text == 'pub':
                     self.public.setdefault(prefix, []).append(tokens[i + 1].text)

@@ -58,14 +58,14 @@ fn called<'a>(mut fields: Fields<'a>) -> Option<([u8; 2], &'a [u8], VoterSlotTab
 fn command(mark: &[u8; 2], body: &[u8], table: VoterSlotTable) -> Option<Reply> {
     match mark {
         b"BG" => begin(body, table),
-        b"AD" => Some(apply(table, advance_of(body)?)),
-        b"MK" => Some(apply(table, marker_of(body)?)),
+        b"AD" => Some(apply(table, advance_in(body)?)),
+        b"MK" => Some(apply(table, marker_in(body)?)),
         _ => None,
     }
 }
 
 fn begin(body: &[u8], table: VoterSlotTable) -> Option<Reply> {
-    let begin = begin_of(body)?;
+    let begin = begin_in(body)?;
     let decoded = decode_lost_voter_attestation(begin.attestation);
     if !accepted(decoded.answer) {
         return Some(given_back(decoded.answer, table));

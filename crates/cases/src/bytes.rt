@@ -1,8 +1,7 @@
 // The replies about bytes: reading a table or an attestation, and writing a table.
 use codec::codec::*;
 use identity::answer::accepted;
-use layout::reading::{Extent, why};
-use questions::reply::{Reply, number};
+use questions::reply::Reply;
 use raw::crc::crc32;
 use raw::fields::Fields;
 use raw::table::{TABLE_SIZE, last_table};
@@ -27,9 +26,7 @@ pub fn read_table(body: &[u8]) -> Option<Reply> {
     }
     let table = decoded.table;
     let mut buffer = [0; LARGEST_TABLE];
-    let Extent::To(count) = encode_voter_slot_table(&mut buffer, table) else {
-        return None;
-    };
+    let count = encode_voter_slot_table(&mut buffer, table).ok()?;
     let checksum = crc32(buffer.get(..count)?);
     let again = restart(&mut [0; LARGEST_TABLE], table);
     Some(Reply::Table(
@@ -67,9 +64,9 @@ pub fn write_table(body: &[u8]) -> Option<Reply> {
     let table = last_table(fields)?;
     let mut buffer = [0; LONGEST_BUFFER];
     let buffer = buffer.get_mut(..length)?;
-    let written = encode_voter_slot_table(buffer, table);
-    let Extent::To(count) = written else {
-        return Some(Reply::Triple(number(why(written)), 0, 0));
+    let count = match encode_voter_slot_table(buffer, table) {
+        Ok(count) => count,
+        Err(refusal) => return Some(Reply::Triple(refusal as u64, 0, 0)),
     };
     let checksum = crc32(buffer.get(..count)?);
     Some(Reply::Triple(0, count as u64, u64::from(checksum)))

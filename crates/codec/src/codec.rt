@@ -70,7 +70,7 @@ pub fn decode_voter_slot_table(bytes: &[u8]) -> DecodedTable
 
 // The reading of both, into a place that is blank.
 #[tactic(auto, using(format::specs::ReadsMore::reads_whole, crate::specs::EntryLaws::gate_accepts, crate::specs::EntryLaws::gate_refuses), unfolding(crate::specs::Codec::decode_voter_slot_table, crate::specs::Codec::bounded, format::specs::Num::pick, format::specs::Res::and_then))]
-fn fill_voter_slot_table(bytes: &[u8], table: &mut VoterSlotTable) -> Result<(), Refusal>
+pub fn fill_voter_slot_table(bytes: &[u8], table: &mut VoterSlotTable) -> Result<(), Refusal>
     requires { table.old ≡ blank_voter_slot_table }
     ensures { told_whole_at result table.new (length bytes.now) ≡ decode_voter_slot_table bytes.now }
 {
@@ -96,15 +96,11 @@ fn no_table(refusal: Refusal) -> DecodedTable
 
 // `decode_lost_voter_attestation`: the bound, the fields, nothing left over, and the attestation's
 // own rule.
-#[tactic(auto, unfolding(crate::specs::Codec::decode_lost_voter_attestation, crate::specs::Codec::bounded, format::specs::Num::pick))]
 pub fn read_lost_voter_attestation(bytes: &[u8]) -> Result<LostVoterAttestationV1, Refusal>
     ensures { told_whole result (length bytes.now) ≡ decode_lost_voter_attestation bytes.now }
 {
-    if MAX_LOST_VOTER_ATTESTATION_BYTES < bytes.len() {
-        return Err(Refusal::TooLarge);
-    }
     let mut attestation = blank_lost_voter_attestation_v1();
-    read_whole_attestation(bytes, &mut attestation)?;
+    fill_lost_voter_attestation(bytes, &mut attestation)?;
     Ok(attestation)
 }
 
@@ -112,8 +108,9 @@ pub fn read_lost_voter_attestation(bytes: &[u8]) -> Result<LostVoterAttestationV
 pub fn decode_lost_voter_attestation(bytes: &[u8]) -> DecodedAttestation
     ensures { (number_of result.answer, result.attestation) ≡ decoded blank_lost_voter_attestation_v1 (decode_lost_voter_attestation bytes.now) }
 {
-    match read_lost_voter_attestation(bytes) {
-        Ok(attestation) => DecodedAttestation {
+    let mut attestation = blank_lost_voter_attestation_v1();
+    match fill_lost_voter_attestation(bytes, &mut attestation) {
+        Ok(()) => DecodedAttestation {
             answer: Ok(()),
             attestation,
         },
@@ -122,6 +119,21 @@ pub fn decode_lost_voter_attestation(bytes: &[u8]) -> DecodedAttestation
             attestation: blank_lost_voter_attestation_v1(),
         },
     }
+}
+
+// The reading of both, into a place that is blank.
+#[tactic(auto, unfolding(crate::specs::Codec::decode_lost_voter_attestation, crate::specs::Codec::bounded, format::specs::Num::pick))]
+pub fn fill_lost_voter_attestation(
+    bytes: &[u8],
+    attestation: &mut LostVoterAttestationV1,
+) -> Result<(), Refusal>
+    requires { attestation.old ≡ blank_lost_voter_attestation_v1 }
+    ensures { told_whole_at result attestation.new (length bytes.now) ≡ decode_lost_voter_attestation bytes.now }
+{
+    if MAX_LOST_VOTER_ATTESTATION_BYTES < bytes.len() {
+        return Err(Refusal::TooLarge);
+    }
+    read_whole_attestation(bytes, attestation)
 }
 
 // The table's bytes at the start of the buffer, and their count; refused, nothing is written: the

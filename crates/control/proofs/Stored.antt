@@ -1,28 +1,34 @@
--- What the observations of a table that is lent share: by the number of a verdict the verdict is known, and
--- then the answer with the table that is stored.
+-- What the observations of a table that is lent share: the verdict of the judge's answer, and then the
+-- answer with the table that is stored.
 -- Assumes nothing.
-use Prim.Native.Nat.{ℕ, ◌<◌, ◌≤◌}
 use mathlib.Core.Bool.{true}
-use mathlib.Core.Path.{◌≡◌, refl, sym, ap, ap₂, ◌∙◌}
+use mathlib.Core.Path.{◌≡◌, sym, ap, ◌∙◌}
+use Rattle.std.specs.Prelude.{Result, Ok, Err}
 use Rattle.identity.specs.Answer.{Answer, Accepted}
+use Rattle.identity.specs.declared.answer.Refusal.{Refusal}
 use Rattle.records.specs.declared.records.VoterSlotLogId.{VoterSlotLogId}
 use Rattle.records.specs.declared.records.VoterSlotTable.{VoterSlotTable}
-use Rattle.control.specs.Judgement.{Addition, Verdict, carried, made}
-use Rattle.control.specs.Judgement.Verdict.{moves}
-use Rattle.control.specs.ObserveLaws.{added-to, added_none}
-use Rattle.control.specs.ObserveSight.{answer_of_observed, route_of_observed}
+use Rattle.control.specs.Judgement.{Addition, Verdict, added, carried}
+use Rattle.control.specs.ObserveSight.{Room, is_change, verdict_of_observed}
+use Rattle.control.specs.declared.observe.Observed.{Observed}
 use Rattle.control.specs.Verdicts.{paired}
 
--- ---- the verdict w of the judge of an observation is v
+-- ---- an observation that is judged as v, of which o is the outcome
 
-module _ (w v : Verdict Addition) (judged : w ≡ v) (y : ℕ) (routed : y ≡ route_of_observed w) where
-  pub added-told : (m : Addition) → y ≡ route_of_observed (moves m) → v ≡ moves m
-  added-told m is = sym judged ∙ added-to w m (sym routed ∙ is)
+module _ (t : VoterSlotTable) (cut : VoterSlotLogId) (r : Result Observed Refusal) (v : Verdict Addition) (judged : verdict_of_observed r ≡ v) (o : Answer × VoterSlotTable)
+    (outcome : o ≡ carried (added t cut) t v) where
+  as-judged : o ≡ carried (added t cut) t (verdict_of_observed r)
+  as-judged = outcome ∙ ap (carried (added t cut) t) (sym judged)
 
-module _ (make : Addition → VoterSlotTable) (t : VoterSlotTable) (w v : Verdict Addition) (judged : w ≡ v) (answer : Answer) (answers : answer ≡ answer_of_observed w) where
-  pub added_stored : (m : Addition) → v ≡ moves m → (n : VoterSlotTable) → n ≡ make m → paired answer n ≡ carried make t v
+  -- it is refused
+  pub observed-refused : (e : Refusal) → r ≡ Err e → (a : Answer) → a ≡ Err e → paired a t ≡ o
   unfolding carried
-  added_stored m is n made = ap₂ paired (answers ∙ ap answer_of_observed (judged ∙ is)) made ∙ ap (carried make t) (sym is)
+  observed-refused e is a answers = ap (λ (x : Answer). paired x t) answers ∙ sym (as-judged ∙ ap (λ (x : Result Observed Refusal). carried (added t cut) t (verdict_of_observed x)) is)
 
-  pub added_left : (n : VoterSlotTable) → n ≡ t → (route_of_observed w ≡ 1 → ⊥) → (route_of_observed w ≡ 2 → ⊥) → (route_of_observed w ≡ 3 → ⊥) → paired answer n ≡ carried make t v
-  added_left n kept a b d = ap₂ paired answers kept ∙ (added_none make t w a b d ∙ ap (carried make t) judged)
+  -- it is accepted, and carried out
+  pub observed-made : (x : Observed) → r ≡ Ok x → (n : VoterSlotTable) → paired Accepted n ≡ carried (added t cut) t (verdict_of_observed (Ok x)) → paired Accepted n ≡ o
+  observed-made x is n made = made ∙ sym (as-judged ∙ ap (λ (y : Result Observed Refusal). carried (added t cut) t (verdict_of_observed y)) is)
+
+  -- what its maker asks for
+  pub observed-room : (x : Observed) → r ≡ Ok x → (is_change v ≡ true → Room t) → is_change (verdict_of_observed (Ok x)) ≡ true → Room t
+  observed-room x is room h = room (ap is_change (sym judged ∙ ap verdict_of_observed is) ∙ h)

@@ -2,7 +2,7 @@
 -- last byte; and of a form in a box.
 -- For the loops of a `Reader`, its `finish` and its `sized_bytes`.
 -- Assumes nothing.
-use Rattle.std.specs.Prelude.{ℕ, zero, suc, ◌+◌, ◌-◌, ◌≤◌, ◌<◌, ◌≡◌, refl, Bool, true, false, List, [], ◌∷◌, ◌++◌, length, take, drop, set, replicate, eqb, leb}
+use Rattle.std.specs.Prelude.{ℕ, ◌+◌, ◌-◌, ◌≤◌, ◌<◌, ◌≡◌, refl, Bool, true, false, List, [], ◌∷◌, ◌++◌, length, take, drop, set, replicate, eqb, leb}
 use Rattle.std.proofs.Common.{ap, sym, ◌∙◌, arith, subst, true≢false, eqb-true, eq-eqb, drop-drop, add-one, length-set, length-drop, take-append-drop}
 use Rattle.format.specs.Res.{Res, malformed, too_large, and_then}
 use Rattle.format.specs.Res.Res.{ok, no}
@@ -80,8 +80,8 @@ module _ {A : Type 0} (C : Codec A) (blank : A) where
   filled_refused i n bs rest v w f h e =
       reads_vec_refused (i + 1) n bs (omega arith)
       (reads_vec_more i bs
-          ∙ ap (λ x. then_read x (λ l rest. made_read (λ a. l ++ (a ∷ [])) (reads C rest))) f.front
-          ∙ ap (made_read (λ a. take i v ++ (a ∷ []))) e)
+      ∙ ap (λ x. then_read x (λ l rest. made_read (λ a. l ++ (a ∷ [])) (reads C rest))) f.front
+      ∙ ap (made_read (λ a. take i v ++ (a ∷ []))) e)
 
   module _ (n : ℕ) (long : (l : List A) → (vec C blank n).Good l → length l ≡ n) (bs : List ℕ) where
     pub reads_padded : reads (padded (vec C blank n) n 9 blank long) bs ≡ made_read (λ l. l ++ replicate (9 - n) blank) (reads (vec C blank n) bs)

@@ -96,10 +96,10 @@ module _ (t : VoterSlotTable) (body : List ℕ) {called : Called} (g : Makes t b
   command_made e f = f ∙ sym (ap (made_by t body) e)
 
   -- and an observation
-  pub observation_of : {observed : Observed} → called ≡ Observation observed → MakesObservation t body (verdict_of_observed observed)
+  pub observation_of : {observed : Result Observed Refusal} → called ≡ Observation observed → MakesObservation t body (verdict_of_observed observed)
   observation_of e = subst (Makes t body) e g
 
-  pub observation_made : {observed : Observed} {u : VoterSlotTable} → called ≡ Observation observed → u ≡ made_by_observation t body (verdict_of_observed observed) → u ≡ made_by t body called
+  pub observation_made : {observed : Result Observed Refusal} {u : VoterSlotTable} → called ≡ Observation observed → u ≡ made_by_observation t body (verdict_of_observed observed) → u ≡ made_by t body called
   observation_made e f = f ∙ sym (ap (made_by t body) e)
 
 -- the cut that a body begins with, as the cursor reads it

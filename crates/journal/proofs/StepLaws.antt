@@ -497,7 +497,7 @@ module _ (t : VoterSlotTable) (mark : Mark) (body : List ℕ) (called : Called) 
         h ∙ ap (λ (x : Mark). command_verdict t (asking x body)) (sym f),
       )
 
-  pub judges-observation : (observed : Observed) → called ≡ Observation observed → mark ≡ Ob
+  pub judges-observation : (observed : Result Observed Refusal) → called ≡ Observation observed → mark ≡ Ob
       → numbered (verdict_of_observed observed) ≡ observation_verdict t (asking Ob body) → Judges t mark body called
   judges-observation observed e f h = subst (Judges t mark body) (sym e) (f, h)
 

@@ -171,10 +171,10 @@ fn play_on(from: Opened, input: &[u8], last: bool, out: &mut [u8]) -> Opened
                 Ok(Judged::Keep) | Err(_) => {}
             },
             Called::Observation(observed) => match observed {
-                Observed::AddLearner => t = learner_table(t, cut_in(body)),
-                Observed::AddJoint => t = joint_table(t, cut_in(body)),
-                Observed::AddUniform => t = uniform_table(t, cut_in(body)),
-                Observed::Keep | Observed::Refuse(_) => {}
+                Ok(Observed::AddLearner) => t = learner_table(t, cut_in(body)),
+                Ok(Observed::AddJoint) => t = joint_table(t, cut_in(body)),
+                Ok(Observed::AddUniform) => t = uniform_table(t, cut_in(body)),
+                Ok(Observed::Keep) | Err(_) => {}
             },
         }
         let answer = answer_of_called(called);

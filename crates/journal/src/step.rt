@@ -31,7 +31,7 @@ use records::records::{VoterSlotLogId, VoterSlotTable};
 #[derive(Clone, Copy)]
 pub enum Called {
     Command(Result<Judged, Refusal>),
-    Observation(Observed),
+    Observation(Result<Observed, Refusal>),
 }
 
 // The answer of a record that was so judged.
@@ -50,7 +50,7 @@ pub fn is_change(called: Called) -> bool
 {
     match called {
         Called::Command(judged) => !matches!(judged, Err(_) | Ok(Judged::Keep)),
-        Called::Observation(observed) => !matches!(observed, Observed::Refuse(_) | Observed::Keep),
+        Called::Observation(observed) => !matches!(observed, Err(_) | Ok(Observed::Keep)),
     }
 }
 
@@ -125,12 +125,12 @@ pub fn judge_observation_body(
     body: &[u8],
     ids: &mut [u64; MOST_IDS],
     counts: &mut [usize; MOST_SETS],
-) -> Observed
+) -> Result<Observed, Refusal>
     requires { (validate table ≡ Accepted) × (length body.now ≤ 65535) }
     ensures { numbered (verdict_of_observed result) ≡ observation_verdict table (asking Ob body.now) }
 {
     let Some(read) = read_observation(body, ids, counts) else {
-        return Observed::Refuse(Err(Refusal::BadRecord));
+        return Err(Refusal::BadRecord);
     };
     weigh_read(table, read, ids, counts)
 }
@@ -141,7 +141,7 @@ pub fn weigh_read(
     read: ObservationRead,
     ids: &[u64],
     counts: &[usize],
-) -> Observed
+) -> Result<Observed, Refusal>
     requires { (read.ids + read.nodes ≤ length ids.now) × (read.sets ≤ length counts.now) }
     ensures { verdict_of_observed result ≡ weighed table (take read.ids ids.now) (take read.sets counts.now) (take read.nodes (drop read.ids ids.now)) read.cut }
 {
@@ -187,15 +187,19 @@ fn make_command(
 }
 
 #[tactic(auto, unfolding(crate::specs::Step::made_by_observation))]
-fn make_observation(table: VoterSlotTable, body: &[u8], observed: Observed) -> VoterSlotTable
+fn make_observation(
+    table: VoterSlotTable,
+    body: &[u8],
+    observed: Result<Observed, Refusal>,
+) -> VoterSlotTable
     requires { MakesObservation table body.now (verdict_of_observed observed) }
     ensures { result ≡ made_by_observation table body.now (verdict_of_observed observed) }
 {
     match observed {
-        Observed::AddLearner => learner_table(table, cut_in(body)),
-        Observed::AddJoint => joint_table(table, cut_in(body)),
-        Observed::AddUniform => uniform_table(table, cut_in(body)),
-        Observed::Keep | Observed::Refuse(_) => table,
+        Ok(Observed::AddLearner) => learner_table(table, cut_in(body)),
+        Ok(Observed::AddJoint) => joint_table(table, cut_in(body)),
+        Ok(Observed::AddUniform) => uniform_table(table, cut_in(body)),
+        Ok(Observed::Keep) | Err(_) => table,
     }
 }
 

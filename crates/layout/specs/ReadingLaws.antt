@@ -47,7 +47,7 @@ rest_of_zeros n k = drop-replicate n k 0
 -- a table, one part after the other
 pub reads_table : (bs : List ℕ) → reads table bs
     ≡ then_read (reads magic_and_version bs) (λ u r. then_read (reads table_head r) (λ h s. then_read (reads slot_count s) (λ n t. then_read (reads (slots n) t)
-        (λ l w. made_read {A = Bool × VoterReplacementRecord} (λ o. table_of h n l o.0 o.1) (reads (opt replacement blank_voter_replacement_record) w)))))
+    (λ l w. made_read {A = Bool × VoterReplacementRecord} (λ o. table_of h n l o.0 o.1) (reads (opt replacement blank_voter_replacement_record) w)))))
 unfolding table
 reads_table bs =
     reads_two table_front (λ a. opt replacement blank_voter_replacement_record) _ _ _ bs
@@ -58,7 +58,7 @@ reads_table bs =
 -- an attestation: its names one by one, the rest by its groups
 pub reads_claims : (bs : List ℕ) → reads claims bs
     ≡ then_read (reads claims_request bs) (λ q r. then_read (reads claims_slot r) (λ s t. then_read (reads (uint 8) t) (λ g u. then_read (reads spiffe_id u) (λ c v. then_read (reads spiffe_id v) (λ k w. then_read (reads (raw 32) w)
-        (λ d x. made_read (λ e. attestation_of q s (record { admission_generation = g; candidate_spiffe_id = c; controller_spiffe_id = k; signing_key_digest = d }) e) (reads claims_end x)))))))
+    (λ d x. made_read (λ e. attestation_of q s (record { admission_generation = g; candidate_spiffe_id = c; controller_spiffe_id = k; signing_key_digest = d }) e) (reads claims_end x)))))))
 unfolding claims claims_names
 reads_claims bs =
     reads_four claims_request (λ a. claims_slot) (λ a. claims_names) (λ a. claims_end) _ _ _ bs
@@ -68,7 +68,7 @@ reads_claims bs =
 -- an open request: both configurations and the phase one by one
 pub reads_replacement : (bs : List ℕ) → reads replacement bs
     ≡ then_read (reads (uint 8) bs) (λ x r. then_read (reads (boxed attestation max_attestation_bytes) r) (λ a s. then_read (reads configuration s) (λ p t. then_read (reads configuration t)
-        (λ n u. then_read (reads (choice prepared uniform) u) (λ h v. made_read (λ e. replacement_of x a (record { predecessor = p; successor = n; phase = h }) e) (reads evidence v))))))
+    (λ n u. then_read (reads (choice prepared uniform) u) (λ h v. made_read (λ e. replacement_of x a (record { predecessor = p; successor = n; phase = h }) e) (reads evidence v))))))
 unfolding replacement change
 reads_replacement bs =
     reads_four (uint 8) (λ a. boxed attestation max_attestation_bytes) (λ a. change) (λ a. evidence) _ _ _ bs

@@ -1,5 +1,5 @@
-// Layer three, its ground: the parts that the bytes of a table have, and the writers of a number and
-// of bytes. The format itself stands in specs/Layout.antt.
+// Layer three, its ground: the parts that the bytes of a table have, and the writer of bytes. The
+// format itself stands in specs/Layout.antt.
 
 #![tactic(auto)]
 

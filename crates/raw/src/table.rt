@@ -12,7 +12,7 @@ pub const TABLE_SIZE: usize = 8062;
 // The table that the next pieces of a body make.
 pub fn sparse_table(fields: &mut Fields) -> Option<VoterSlotTable> {
     let raw = lay_pieces(fields)?;
-    table_of(&raw)
+    table_in(&raw)
 }
 
 // Likewise, where nothing comes after it.
@@ -47,7 +47,7 @@ fn lay_piece(raw: &mut [u8; TABLE_SIZE], free: usize, fields: &mut Fields) -> Op
 }
 
 // The table that the bytes stand for: none where a flag is neither 0 nor 1, also in absent parts.
-pub fn table_of(raw: &[u8; TABLE_SIZE]) -> Option<VoterSlotTable> {
+pub fn table_in(raw: &[u8; TABLE_SIZE]) -> Option<VoterSlotTable> {
     let mut fields = Fields::of(raw);
     Some(VoterSlotTable {
         cluster_instance: fields.array()?,

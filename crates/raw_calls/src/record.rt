@@ -19,7 +19,7 @@ pub struct CommandAt {
 }
 
 // cut 16, request_id 16, request_digest 32.
-pub fn marker_of(body: &[u8]) -> Option<CommandAt> {
+pub fn marker_in(body: &[u8]) -> Option<CommandAt> {
     let mut fields = Fields::of(body);
     let marker = named(MARKER, &mut fields)?;
     fields.end()?;
@@ -41,7 +41,7 @@ fn named(kind: u8, fields: &mut Fields) -> Option<CommandAt> {
 }
 
 // cut 16, request_id 16, request_digest 32, step.
-pub fn advance_of(body: &[u8]) -> Option<CommandAt> {
+pub fn advance_in(body: &[u8]) -> Option<CommandAt> {
     let mut fields = Fields::of(body);
     let mut advance = named(ADVANCE, &mut fields)?;
     advance.command.step = step(&mut fields)?;
@@ -96,7 +96,7 @@ pub struct Begin<'a> {
 
 // cut 16, expected_revision 8, expected_configuration 72, candidate 82, attestation with its size
 // of 2, supplied_request_digest 32, supplied_configuration_id 32.
-pub fn begin_of(body: &[u8]) -> Option<Begin<'_>> {
+pub fn begin_in(body: &[u8]) -> Option<Begin<'_>> {
     let mut fields = Fields::of(body);
     let begin = Begin {
         cut: log_id(&mut fields)?,

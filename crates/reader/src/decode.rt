@@ -8,7 +8,7 @@ ghost use Rattle.format.specs.List.{opt};
 ghost use Rattle.format.specs.Through.{whole, boxed};
 ghost use Rattle.format.specs.Reads.{reads};
 ghost use Rattle.records.specs.Blank.{blank_voter_replacement_result, blank_voter_snapshot_evidence, blank_lost_voter_attestation_v1, blank_voter_replacement_record, blank_voter_slot_table};
-ghost use Rattle.layout.specs.Parts.{blank_voter_slot_records};
+ghost use Rattle.layout.specs.Parts.{blank_voter_slot_members, blank_voter_slot_records};
 ghost use Rattle.layout.specs.Told.{told, told_at, told_whole_at};
 ghost use Rattle.layout.specs.Layout.{binding, member, members, configuration, result_head, replacement_result, slot_member, slot, slots, claims_request, claims_slot, claims_end, claims, attestation, snapshot, evidence, replacement, table_head, table};
 
@@ -42,20 +42,23 @@ impl<'a> Reader<'a> {
         Ok(member_of(identity, binding))
     }
 
-    // The first so many of the nine places; blanks after them.
-    #[tactic(auto, using(format::specs::ReadsMore::filled_none, format::specs::ReadsMore::filled_next, format::specs::ReadsMore::padded_refused, format::specs::ReadsMore::padded_filled), unfolding(layout::specs::Layout::members, layout::specs::Parts::blank_voter_slot_members))]
+    // The first so many of the nine places, which are blank; the others stay so. `slots` is the same
+    // of slots: one function for both would take the reader of a place as a closure, with a clause
+    // of what each call of it leaves, and is no shorter.
+    #[tactic(auto, using(format::specs::ReadsMore::filled_none, format::specs::ReadsMore::padded_refused), unfolding(layout::specs::Layout::members, layout::specs::Parts::blank_voter_slot_members))]
     fn members(
         &mut self,
         count: usize,
-    ) -> Result<[VoterSlotMember; MAX_FIXED_VOTER_SLOTS], Refusal>
-        requires { count ≤ 9 }
-        ensures { told result self.new.bytes.now ≡ reads (members count) self.old.bytes.now }
+        places: &mut [VoterSlotMember; MAX_FIXED_VOTER_SLOTS],
+    ) -> Result<(), Refusal>
+        requires few { count ≤ 9 }
+        requires blank { places.old ≡ blank_voter_slot_members }
+        ensures { told_at result places.new self.new.bytes.now ≡ reads (members count) self.old.bytes.now }
     {
-        let mut value = blank_voter_slot_members();
         for i in 0..count {
-            value[i] = self.member()?;
+            places[i] = self.member()?;
         }
-        Ok(value)
+        Ok(())
     }
 
     // `configuration`
@@ -65,7 +68,8 @@ impl<'a> Reader<'a> {
     {
         let epoch = self.epoch()?;
         let count = self.count()?;
-        let members = self.members(count)?;
+        let mut members = blank_voter_slot_members();
+        self.members(count, &mut members)?;
         Ok(VoterConfiguration {
             epoch,
             members,
@@ -181,7 +185,6 @@ impl<'a> Reader<'a> {
         })
     }
 
-
     #[tactic(auto, using(format::specs::Reads::reads_four), unfolding(layout::specs::Layout::claims_end))]
     fn claims_end(&mut self) -> Result<ClaimsEnd, Refusal>
         ensures { told result self.new.bytes.now ≡ reads claims_end self.old.bytes.now }
@@ -275,7 +278,6 @@ impl<'a> Reader<'a> {
         let late = self.three_cuts()?;
         Ok(evidence_of(prepare, has_snapshot, snapshot, early, late))
     }
-
 
     // An open request, into a place that is blank.
     #[tactic(auto, using(layout::specs::ReadingLaws::reads_replacement, layout::specs::ReadingLaws::blank_attestation))]

@@ -178,7 +178,9 @@ impl<'a> Reader<'a> {
         })
     }
 
-    // `optional(Reader::log_id)`
+    // `optional(Reader::log_id)`. A method `optional` that takes the reader as a closure, as codec.rs
+    // has it, would ask for a clause of what each call of it leaves, and its three callers would be
+    // no shorter than they are: this, `optional_result` and `optional_snapshot`.
     #[tactic(auto, using(format::specs::Reads::reads_via, format::specs::Reads::reads_opt), unfolding(layout::specs::Layout::optional_log_id, records::specs::Blank::blank_voter_slot_log_id))]
     fn optional_log_id(&mut self) -> Result<OptionalLogId, Refusal>
         ensures { told result self.new.bytes.now ≡ reads optional_log_id self.old.bytes.now }

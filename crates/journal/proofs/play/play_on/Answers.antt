@@ -18,7 +18,7 @@ use Rattle.journal.proofs.StepLaws.{judges-bad, judges-command, judges-observati
 use Rattle.journal.proofs.MakerLaws.{addition_makes, addition_room, begin_makes, begin_target, command_made, command_of, observation_made, observation_of, step_makes, step_room, step_target}
 use Rattle.journal.proofs.PlayLaws.{body_in, found, goes_none, goes_then, goes-turn, play-turn, put-less, safe-turn, valid-at}
 use Rattle.journal.proofs.play.play_on.Goals as goal
-use Rattle.journal.proofs.play.play_on.Goals.{Joined-found, Joined-called, in-Mk, in-Ad, in-Bg, in-Ob, in-Tb, in-Command+in-Ok-RecordSnapshot, in-Command+in-Ok-RecordCaughtUp, in-Command+in-Ok-Continue, in-Command+in-Ok-Fence, in-Command+in-Ok-Finalize, in-Command+in-Ok-Begin, in-Command+in-Ok+in-Keep-1, in-Command+in-Err-1, in-Observation+in-AddLearner, in-Observation+in-AddJoint, in-Observation+in-AddUniform, in-Observation+in-Keep}
+use Rattle.journal.proofs.play.play_on.Goals.{Joined-found, Joined-called, in-Mk, in-Ad, in-Bg, in-Ob, in-Tb, in-Command+in-Ok-RecordSnapshot, in-Command+in-Ok-RecordCaughtUp, in-Command+in-Ok-Continue, in-Command+in-Ok-Fence, in-Command+in-Ok-Finalize, in-Command+in-Ok-Begin, in-Command+in-Ok+in-Keep-1, in-Command+in-Err-1, in-Observation+in-Ok-AddLearner, in-Observation+in-Ok-AddJoint, in-Observation+in-Ok-AddUniform, in-Observation+in-Ok+in-Keep-1, in-Observation+in-Err-1}
 
 -- ---- what was judged of the record, and the table that is made
 
@@ -57,10 +57,11 @@ made_as c =
       | in-Command+in-Ok-Begin w ↦ w.t-is ∙ command_made t body g w.in-Command.is (begin_makes t body _ (command_of t body g w.in-Command.is) (search rules) w.begin_in.result w.begin_in.ensures w.begin_table-t.ensures)
       | in-Command+in-Ok+in-Keep-1 w ↦ w.t-is ∙ command_made t body g w.in-Command.is (search rules)
       | in-Command+in-Err-1 w ↦ w.t-is ∙ command_made t body g w.in-Command.is (search rules)
-      | in-Observation+in-AddLearner w ↦ w.t-is ∙ observation_made t body g w.in-Observation.is (addition_makes t body _ (observation_of t body g w.in-Observation.is) adds_learner (ap verdict_of_observed w.in-AddLearner.is) w.cut_in.ensures w.learner_table-t.ensures)
-      | in-Observation+in-AddJoint w ↦ w.t-is ∙ observation_made t body g w.in-Observation.is (addition_makes t body _ (observation_of t body g w.in-Observation.is) adds_joint (ap verdict_of_observed w.in-AddJoint.is) w.cut_in-in-AddJoint.ensures w.joint_table-t.ensures)
-      | in-Observation+in-AddUniform w ↦ w.t-is ∙ observation_made t body g w.in-Observation.is (addition_makes t body _ (observation_of t body g w.in-Observation.is) adds_uniform (ap verdict_of_observed w.in-AddUniform.is) w.cut_in-in-AddUniform.ensures w.uniform_table-t.ensures)
-      | in-Observation+in-Keep w ↦ w.t-is ∙ observation_made t body g w.in-Observation.is (search rules)
+      | in-Observation+in-Ok-AddLearner w ↦ w.t-is ∙ observation_made t body g w.in-Observation.is (addition_makes t body _ (observation_of t body g w.in-Observation.is) adds_learner (search rules) w.cut_in.ensures w.learner_table-t.ensures)
+      | in-Observation+in-Ok-AddJoint w ↦ w.t-is ∙ observation_made t body g w.in-Observation.is (addition_makes t body _ (observation_of t body g w.in-Observation.is) adds_joint (search rules) w.cut_in-in-Ok-AddJoint.ensures w.joint_table-t.ensures)
+      | in-Observation+in-Ok-AddUniform w ↦ w.t-is ∙ observation_made t body g w.in-Observation.is (addition_makes t body _ (observation_of t body g w.in-Observation.is) adds_uniform (search rules) w.cut_in-in-Ok-AddUniform.ensures w.uniform_table-t.ensures)
+      | in-Observation+in-Ok+in-Keep-1 w ↦ w.t-is ∙ observation_made t body g w.in-Observation.is (search rules)
+      | in-Observation+in-Err-1 w ↦ w.t-is ∙ observation_made t body g w.in-Observation.is (search rules)
     ]
 
 pub loop-place-init : goal.loop-place-init
@@ -133,17 +134,17 @@ begin_table-t-requires c =
 pub learner_table-t-requires : goal.learner_table-t-requires
 learner_table-t-requires c =
     let g = makes-at (record { before = c.before.before.before.before; type_inv = record { input = c.type_inv.input } }) in
-    addition_room _ _ _ (observation_of _ _ g c.in-Observation.is) adds_learner (ap verdict_of_observed c.in-AddLearner.is)
+    addition_room _ _ _ (observation_of _ _ g c.in-Observation.is) adds_learner (search rules)
 
 pub joint_table-t-requires : goal.joint_table-t-requires
 joint_table-t-requires c =
     let g = makes-at (record { before = c.before.before.before.before; type_inv = record { input = c.type_inv.input } }) in
-    addition_room _ _ _ (observation_of _ _ g c.in-Observation.is) adds_joint (ap verdict_of_observed c.in-AddJoint.is)
+    addition_room _ _ _ (observation_of _ _ g c.in-Observation.is) adds_joint (search rules)
 
 pub uniform_table-t-requires : goal.uniform_table-t-requires
 uniform_table-t-requires c =
     let g = makes-at (record { before = c.before.before.before.before; type_inv = record { input = c.type_inv.input } }) in
-    addition_room _ _ _ (observation_of _ _ g c.in-Observation.is) adds_uniform (ap verdict_of_observed c.in-AddUniform.is)
+    addition_room _ _ _ (observation_of _ _ g c.in-Observation.is) adds_uniform (search rules)
 
 pub put_turn-place-requires : goal.put_turn-place-requires
 put_turn-place-requires c =

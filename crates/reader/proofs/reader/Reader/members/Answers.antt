@@ -8,10 +8,10 @@ use Rattle.layout.specs.Parts.{blank_voter_slot_members}
 use Rattle.reader.proofs.reader.Reader.members.Goals as goal
 
 pub loop-i-preserved : goal.loop-i-preserved
-loop-i-preserved c = filled_next member blank_voter_slot_member _ _ _ _ _ _ _ c.loop-i.invariant (omega (arith, c.requires)) (search rules)
+loop-i-preserved c = filled_next member blank_voter_slot_member _ _ _ _ _ _ _ c.loop-i.invariant (omega (arith, c.requires.few)) (search rules)
 
 pub returns : goal.returns
 unfolding members blank_voter_slot_members
 returns c =
     let long = vec-long member blank_voter_slot_member c.args.count in
-    padded_filled member blank_voter_slot_member c.args.count long _ _ _ _ _ c.loop-i.invariant c.blank_voter_slot_members-value.ensures (omega arith)
+    padded_filled member blank_voter_slot_member c.args.count long _ _ _ _ _ c.loop-i.invariant c.requires.blank (omega arith)
