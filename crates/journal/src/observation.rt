@@ -32,6 +32,15 @@ pub const MOST_IDS: usize = 8192;
 // Most sets: their count has 8 bits.
 pub const MOST_SETS: usize = 255;
 
+// Places for so many ids, and for the counts. Nobody reads what they hold at first.
+pub fn no_ids<const N: usize>() -> [u64; N] {
+    [0; N]
+}
+
+pub fn no_counts() -> [usize; MOST_SETS] {
+    [0; MOST_SETS]
+}
+
 // Reads a body into the lent arrays; none: it is not of the form, to its last byte. They have room
 // for all that it can hold, so that no test for it is needed: an id takes eight bytes of the body.
 #[tactic(auto, using(crate::specs::SetBodyLaws::observation_cutless, crate::specs::SetBodyLaws::observation_countless, crate::specs::SetBodyLaws::observation_setless, crate::specs::SetBodyLaws::observation_nodeless, crate::specs::SetBodyLaws::observation_end), unfolding(format::specs::Num::pick))]

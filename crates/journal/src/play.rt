@@ -10,7 +10,7 @@ ghost use Rattle.journal.specs.Replay.{opening};
 ghost use Rattle.journal.specs.RunHistory.{LineOfRun};
 
 use crate::line::{LONGEST_LINE, put_line};
-use crate::observation::{MOST_IDS, MOST_SETS};
+use crate::observation::{MOST_IDS, no_counts, no_ids};
 use crate::record::{Record, record_at};
 use crate::replay::Mark;
 use crate::step::*;
@@ -65,7 +65,8 @@ struct Place {
     ended: bool,
 }
 
-// A place, and the table, if one stands.
+// A place, and the table, if one stands. No `Option` has it: where none stands, `play` gives back
+// the table that it was given.
 #[derive(Clone, Copy)]
 struct Opened {
     // How far it was played.
@@ -113,7 +114,8 @@ pub fn play(from: Journal, input: &[u8], last: bool, out: &mut [u8]) -> Played
     played_to(answer, opened)
 }
 
-// With no table: each record gets its line, until a TB brings one.
+// With no table: each record gets its line, until a TB brings one. The turns are counted in the
+// place: a record that ends the reading takes all that are left, so a `for` would test them again.
 fn open_log(from: Opened, input: &[u8], last: bool, out: &mut [u8]) -> Opened
     requires { Safe input.now (length out.old) from × (from.stands ≡ false) }
     ensures { Goes input.now last from out.old result out.new × (Safe input.now (length out.new) result × (result.stands ≡ false → result.place.turns ≡ 0)) }
@@ -139,12 +141,12 @@ fn open_log(from: Opened, input: &[u8], last: bool, out: &mut [u8]) -> Opened
 
 // With a table: each record is a call on it, or a bad record. Judges and makers are chosen in the
 // loop, where the table is: so each is called at one place, works on the table itself, and no table
-// is copied.
+// is copied. The turns are counted as in `open_log`.
 fn play_on(from: Opened, input: &[u8], last: bool, out: &mut [u8]) -> Opened
     requires { Safe input.now (length out.old) from × (from.stands ≡ true) }
     ensures { Goes input.now last from out.old result out.new × (result.place.turns ≡ 0) }
 {
-    let mut ids = no_ids();
+    let mut ids = no_ids::<MOST_IDS>();
     let mut counts = no_counts();
     let mut place = from.place;
     let mut t = from.table;
@@ -190,15 +192,6 @@ fn with_table(place: Place, table: VoterSlotTable) -> Opened
         stands: true,
         table,
     }
-}
-
-// Places for the ids and the counts of an observation. Nobody reads what they hold at first.
-fn no_ids() -> [u64; MOST_IDS] {
-    [0; MOST_IDS]
-}
-
-fn no_counts() -> [usize; MOST_SETS] {
-    [0; MOST_SETS]
 }
 
 // The line of a record, where there is one, and the place after it.

@@ -32,20 +32,6 @@ pub const USUAL_IDS: usize = 128;
 // A body of so many bytes has no more ids: each takes eight.
 pub const USUAL_BODY: usize = 8 * USUAL_IDS;
 
-// Places for the ids of a usual body and of any, and for the counts. Nobody reads what they hold at
-// first.
-pub fn usual_ids() -> [u64; USUAL_IDS] {
-    [0; USUAL_IDS]
-}
-
-pub fn most_ids() -> [u64; MOST_IDS] {
-    [0; MOST_IDS]
-}
-
-pub fn no_counts() -> [usize; MOST_SETS] {
-    [0; MOST_SETS]
-}
-
 // A body that is not of its form comes before any other refusal.
 pub fn later(formed: bool, answer: Answer) -> Answer
     ensures { result ≡ cond formed answer BadRecord }

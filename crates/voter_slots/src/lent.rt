@@ -31,7 +31,8 @@ use records::records::VoterSlotTable;
 use records::representable::is_representable;
 use records::validation::validate_table;
 
-// The law of a call on a lent table goes by the order of these fields.
+// The law of a call on a lent table goes by the order of these fields. A refused call has a table
+// too: the one that was lent.
 #[derive(Clone, Copy)]
 pub struct Afterwards {
     pub result: VoterSlotsResult,
@@ -192,10 +193,10 @@ pub fn observe_at(table: VoterSlotTable, body: &[u8]) -> Afterwards
     }
     let mut counts = no_counts();
     if body.len() <= USUAL_BODY {
-        let mut ids = usual_ids();
+        let mut ids = no_ids::<USUAL_IDS>();
         return observe_body(table, body, &mut ids, &mut counts);
     }
-    let mut ids = most_ids();
+    let mut ids = no_ids::<MOST_IDS>();
     observe_body(table, body, &mut ids, &mut counts)
 }
 
