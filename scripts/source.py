@@ -39,6 +39,19 @@ def split(tokens, start, end):
     return [p for p in parts + [(first, end)] if p[0] < p[1]]
 
 
+def implemented(tokens, i):
+    """The type whose methods the `impl` at i has, by its last name, and the place of its `{`."""
+    depth, names = 0, []
+    while tokens[i].text != '{':
+        depth += (tokens[i].text == '<') - (tokens[i].text == '>')
+        if depth == 0 and tokens[i].text == 'for':
+            names = []
+        elif depth == 0 and tokens[i].kind == 'name' and tokens[i].text != 'impl':
+            names.append(tokens[i].text)
+        i += 1
+    return names[-1], i
+
+
 class Function:
     def __init__(self, **parts):
         self.__dict__.update(parts)
@@ -51,7 +64,7 @@ class Source:
     def __init__(self, crates):
         self.structs, self.enums, self.aliases, self.constants, self.values = {}, {}, {}, {}, {}
         self.signatures, self.functions, self.texts, self.scope = {}, [], {}, {}
-        self.public, self.whole = {}, []
+        self.public, self.whole, self.homes = {}, [], {}
         for crate in crates:
             folder = f'crates/{crate}/src'
             for name in sorted(os.listdir(folder)):
@@ -60,6 +73,10 @@ class Source:
         for scope, module in self.whole:
             for name in self.public.get(module, []):
                 scope.setdefault(name, name)
+        # a method has its name from the module that declares its type, wherever its `impl` stands
+        for f in self.functions:
+            if (f.crate, f.owner) in self.homes:
+                f.full = f'{self.homes[f.crate, f.owner]}::{f.owner}::{f.name}'
         self.calls = {}
         for crate in crates:
             self.calls.update(reaches([f for f in self.functions if f.crate == crate]))
@@ -92,14 +109,16 @@ class Source:
                 i = self.constant_or_alias(prefix, tokens, i, scope)
             elif word in ('struct', 'enum'):
                 name, begin = tokens[i + 1].text, i + 2
+                self.homes[crate, name] = prefix
                 while tokens[begin].text not in '({;':
                     begin += 1
                 end = closing(tokens, begin) if tokens[begin].text != ';' else begin
                 (self.struct if word == 'struct' else self.enum)(name, tokens, begin, end)
                 i = end + 1
             elif word == 'impl':
-                owner, owner_end = tokens[i + 1].text, closing(tokens, i + 2)
-                i += 3
+                owner, begin = implemented(tokens, i)
+                owner_end = closing(tokens, begin)
+                i = begin + 1
             elif word == 'fn':
                 if not owner and tokens[i - 1].text == 'pub':
                     self.public.setdefault(prefix, []).append(tokens[i + 1].text)

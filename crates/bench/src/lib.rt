@@ -7,10 +7,9 @@ ghost use Rattle.std.specs.Prelude.{◌≡◌};
 ghost use Rattle.identity.specs.Text.{is_utf8, is_name, is_snapshot_id};
 
 use codec::codec::encode_voter_slot_table;
-use identity::answer::{Answer, number};
-use layout::reading::Extent;
-use raw::offsets::TABLE_SIZE;
-use raw::table::table_of;
+use identity::answer::{Answer, Refusal, number};
+use raw::table::table_in;
+use records::blank::blank_voter_slot_table;
 use records::records::VoterSlotTable;
 use records::representable::is_representable;
 use records::successor::validate_successor_of;
@@ -44,13 +43,13 @@ pub extern "C" fn bench_is_snapshot_id(bytes: &[u8]) -> bool
 #[unsafe(no_mangle)]
 pub extern "C" fn bench_zeros(bytes: &[u8], turns: u64) -> u64 {
     let mut refused = 0;
-    let mut i = 0;
-    while i < turns {
+    for i in 0..turns {
         let from = (i % 2) as usize;
-        if from <= bytes.len() && !zeros(&bytes[from..]) {
+        if let Some(seen) = bytes.get(from..)
+            && !zeros(seen)
+        {
             refused = 1;
         }
-        i += 1;
     }
     refused
 }
@@ -61,10 +60,8 @@ pub extern "C" fn bench_validity(raw: &[u8], turns: u64) -> u64 {
     let even = table_of_bytes(raw);
     let odd = later(even);
     let mut answers = 0;
-    let mut i = 0;
-    while i < turns {
-        answers = answers | validity_of(pick(i % 2 == 0, even, odd));
-        i += 1;
+    for i in 0..turns {
+        answers |= number_of(validate_table(pick(i % 2 == 0, even, odd)));
     }
     answers
 }
@@ -75,10 +72,8 @@ pub extern "C" fn bench_representable(raw: &[u8], turns: u64) -> u64 {
     let even = table_of_bytes(raw);
     let odd = later(even);
     let mut answers = 0;
-    let mut i = 0;
-    while i < turns {
-        answers = answers | representable_of(pick(i % 2 == 0, even, odd));
-        i += 1;
+    for i in 0..turns {
+        answers |= representable_of(pick(i % 2 == 0, even, odd));
     }
     answers
 }
@@ -92,24 +87,12 @@ pub extern "C" fn bench_successor(new: &[u8], old: &[u8], turns: u64) -> u64 {
     let revision = table.revision;
     let older = table_of_bytes(old);
     let mut answers = 0;
-    let mut i = 0;
-    while i < turns {
-        table.revision = turned(revision, i);
-        answers = answers | successor_of(table, older);
-        i += 1;
+    for i in 0..turns {
+        // The revision and the next, in turn.
+        table.revision = revision.saturating_add(i % 2);
+        answers |= number_of(validate_successor_of(table, older));
     }
     answers
-}
-
-// The revision and the next, in turn.
-fn turned(revision: u64, i: u64) -> u64 {
-    if i % 2 == 0 {
-        return revision;
-    }
-    if revision < u64::MAX {
-        return revision + 1;
-    }
-    revision
 }
 
 // Writing a table, given in its raw form, to the same buffer so many times.
@@ -118,24 +101,15 @@ pub extern "C" fn bench_encode(raw: &[u8], buffer: &mut [u8], turns: u64) -> u64
     let even = table_of_bytes(raw);
     let odd = later(even);
     let mut answers = 0;
-    let mut i = 0;
-    while i < turns {
+    for i in 0..turns {
         let table = pick(i % 2 == 0, even, odd);
-        answers = answers | refusal_of(encode_voter_slot_table(buffer, table));
-        i += 1;
+        answers |= number_of(encode_voter_slot_table(buffer, table).and(Ok(())));
     }
     answers
 }
 
 fn number_of(answer: Answer) -> u64 {
-    number(answer) as u64
-}
-
-fn refusal_of(written: Extent) -> u64 {
-    match written {
-        Extent::To(_) => 0,
-        Extent::Refused(answer) => number_of(answer),
-    }
+    u64::from(number(answer))
 }
 
 // Two tables take turns, so that no call's result is kept for the next.
@@ -146,37 +120,21 @@ fn pick(first: bool, a: VoterSlotTable, b: VoterSlotTable) -> VoterSlotTable {
 // The table with the next revision.
 fn later(table: VoterSlotTable) -> VoterSlotTable {
     let mut next = table;
-    if table.revision < u64::MAX {
-        next.revision = table.revision + 1;
-    }
+    next.revision = table.revision.saturating_add(1);
     next
-}
-
-fn validity_of(table: VoterSlotTable) -> u64 {
-    number_of(validate_table(table))
 }
 
 fn representable_of(table: VoterSlotTable) -> u64 {
     if is_representable(table) {
         return 0;
     }
-    number_of(Answer::Unrepresentable)
+    number_of(Err(Refusal::Unrepresentable))
 }
 
-fn successor_of(new: VoterSlotTable, old: VoterSlotTable) -> u64 {
-    number_of(validate_successor_of(new, old))
-}
-
+// The blank one where the bytes are none of the raw form.
 fn table_of_bytes(bytes: &[u8]) -> VoterSlotTable {
-    let mut raw = [0u8; TABLE_SIZE];
-    copy(&mut raw, bytes);
-    table_of(&raw)
-}
-
-fn copy(raw: &mut [u8; TABLE_SIZE], bytes: &[u8]) {
-    let mut i = 0;
-    while i < TABLE_SIZE && i < bytes.len() {
-        raw[i] = bytes[i];
-        i += 1;
-    }
+    bytes
+        .first_chunk()
+        .and_then(table_in)
+        .unwrap_or(blank_voter_slot_table())
 }

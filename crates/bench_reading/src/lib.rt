@@ -3,7 +3,7 @@
 #![tactic(auto)]
 
 use codec::codec::{DecodedTable, decode_voter_slot_table};
-use identity::answer::{Answer, accepted, number};
+use identity::answer::{Answer, Refusal, accepted, number};
 use records::blank::blank_voter_slot_table;
 
 // Reading a table's bytes, so many times. The last table is asked for the phase of a slot, 0 to 2,
@@ -12,14 +12,10 @@ use records::blank::blank_voter_slot_table;
 pub extern "C" fn bench_decode(bytes: &[u8], turns: u64) -> u64 {
     let mut kept = blank_voter_slot_table();
     let mut answers = 0;
-    let mut i = 0;
-    while i < turns {
+    for _ in 0..turns {
         let decoded = decode_voter_slot_table(bytes);
-        let answer = decoded.answer;
-        answers = answers | number_of(answer);
-        let table = decoded.table;
-        kept = table;
-        i += 1;
+        answers |= number_of(decoded.answer);
+        kept = decoded.table;
     }
     let place = (turns % 9) as usize;
     answers | third(kept.slots[place].phase)
@@ -30,15 +26,11 @@ pub extern "C" fn bench_decode(bytes: &[u8], turns: u64) -> u64 {
 #[unsafe(no_mangle)]
 pub extern "C" fn bench_returned(turns: u64) -> u64 {
     let mut kept = blank_voter_slot_table();
-    let mut i = 0;
-    while i < turns {
+    for i in 0..turns {
         let given = returned(i);
-        let answer = given.answer;
-        if accepted(answer) {
-            let table = given.table;
-            kept = table;
+        if accepted(given.answer) {
+            kept = given.table;
         }
-        i += 1;
     }
     let place = (turns % 9) as usize;
     third(kept.slots[place].phase)
@@ -48,21 +40,21 @@ fn returned(revision: u64) -> DecodedTable {
     let mut table = blank_voter_slot_table();
     if revision == u64::MAX {
         return DecodedTable {
-            answer: Answer::InvalidRecord,
+            answer: Err(Refusal::InvalidRecord),
             table,
         };
     }
     table.revision = revision;
     DecodedTable {
-        answer: Answer::Accepted,
+        answer: Ok(()),
         table,
     }
 }
 
 fn third(x: u8) -> u64 {
-    (x / 3) as u64
+    u64::from(x / 3)
 }
 
 fn number_of(answer: Answer) -> u64 {
-    number(answer) as u64
+    u64::from(number(answer))
 }

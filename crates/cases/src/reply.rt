@@ -1,113 +1,77 @@
-// The reply to each question.
+// The reply to each question: none where the body is not of the question's form.
 use crate::bytes::{read_attestation, read_table, write_table};
-use identity::identity::{NumberResult, VoterSlotIdentity, VoterSlotIdentityResult};
+use identity::answer::Refusal;
+use identity::identity::*;
+use identity::text::*;
 use questions::question::Question;
-use questions::reply::{Reply, number};
-use raw::number::{be16, be32, be64};
-use raw::offsets::TABLE_SIZE;
-use raw::table::{flags_are_bools, lay_pieces, table_of};
+use questions::reply::Reply;
+use raw::fields::Fields;
+use raw::table::{last_table, sparse_table};
 use records::successor::validate_successor_of;
 use records::validation::validate_table;
 
-pub fn reply_to(question: Question, body: &[u8]) -> Reply {
+pub fn reply_to(question: Question, body: &[u8]) -> Option<Reply> {
     match question {
-        Question::Utf8 => Reply::YesNo(identity::text::is_utf8(body)),
-        Question::Name => Reply::YesNo(identity::text::is_name(body)),
-        Question::SnapshotId => Reply::YesNo(identity::text::is_snapshot_id(body)),
-        Question::StrictName => Reply::YesNo(identity::text::is_strict_name(body)),
+        Question::Utf8 => Some(is_utf8(body).into()),
+        Question::Name => Some(is_name(body).into()),
+        Question::SnapshotId => Some(is_snapshot_id(body).into()),
+        Question::StrictName => Some(is_strict_name(body).into()),
         Question::TableBytes => read_table(body),
-        Question::AttestationBytes => read_attestation(body),
+        Question::AttestationBytes => Some(read_attestation(body)),
         Question::Validity => validity(body),
         Question::Writing => write_table(body),
         Question::Successor => successor(body),
-        _ => reply_to_numbers(question, body),
+        _ => {
+            let mut fields = Fields::of(body);
+            let reply = reply_to_numbers(question, &mut fields)?;
+            fields.end()?;
+            Some(reply)
+        }
     }
 }
 
 // The answer of the test for validity. The body is one raw table.
-fn validity(body: &[u8]) -> Reply {
-    let mut raw = [0u8; TABLE_SIZE];
-    let place = lay_pieces(&mut raw, body, 0);
-    if !(place.whole & (place.at == body.len())) {
-        return Reply::Malformed;
-    }
-    if !flags_are_bools(&raw) {
-        return Reply::Malformed;
-    }
-    Reply::Number(number(validate_table(table_of(&raw))))
+fn validity(body: &[u8]) -> Option<Reply> {
+    Some(validate_table(last_table(Fields::of(body))?).into())
 }
 
 // The answer of the successor check. The body is the new raw table and the old one.
-fn successor(body: &[u8]) -> Reply {
-    let mut new = [0u8; TABLE_SIZE];
-    let mut old = [0u8; TABLE_SIZE];
-    let first = lay_pieces(&mut new, body, 0);
-    if !first.whole {
-        return Reply::Malformed;
-    }
-    let second = lay_pieces(&mut old, body, first.at);
-    if !(second.whole & (second.at == body.len())) {
-        return Reply::Malformed;
-    }
-    if !(flags_are_bools(&new) & flags_are_bools(&old)) {
-        return Reply::Malformed;
-    }
-    Reply::Number(number(validate_successor_of(table_of(&new), table_of(&old))))
+fn successor(body: &[u8]) -> Option<Reply> {
+    let mut fields = Fields::of(body);
+    let new = sparse_table(&mut fields)?;
+    let old = last_table(fields)?;
+    Some(validate_successor_of(new, old).into())
 }
 
-// The size that the body of a question about numbers has.
-fn size_of(question: Question) -> usize {
-    match question {
-        Question::Control => 4,
-        Question::Whitespace => 4,
-        Question::Slot => 2,
-        Question::NodeId => 10,
-        _ => 8,
-    }
+// The reply to a question whose body is one number, or two.
+fn reply_to_numbers(question: Question, fields: &mut Fields) -> Option<Reply> {
+    Some(match question {
+        Question::Control => is_control(fields.u32()?).into(),
+        Question::Whitespace => is_whitespace(fields.u32()?).into(),
+        Question::Slot => validate_slot_id(fields.u16()?).into(),
+        Question::Incarnation => validate_voter_incarnation(fields.u64()?).into(),
+        Question::Next => pair(next_voter_incarnation(fields.u64()?)),
+        Question::Epoch => is_configuration_epoch(fields.u64()?).into(),
+        Question::NodeId => pair(node_id(fields.u16()?, fields.u64()?)),
+        Question::Identity => triple(VoterSlotIdentity::from_node_id(fields.u64()?)),
+        _ => return None,
+    })
 }
 
-fn reply_to_numbers(question: Question, body: &[u8]) -> Reply {
-    if body.len() != size_of(question) {
-        return Reply::Malformed;
-    }
-    match question {
-        Question::Control => Reply::YesNo(identity::text::is_control(be32(body, 0) as u32)),
-        Question::Whitespace => Reply::YesNo(identity::text::is_whitespace(be32(body, 0) as u32)),
-        Question::Slot => Reply::Number(number(identity::identity::validate_slot_id(
-            be16(body, 0) as u16,
-        ))),
-        Question::Incarnation => Reply::Number(number(
-            identity::identity::validate_voter_incarnation(be64(body, 0)),
-        )),
-        Question::Next => pair(identity::identity::next_voter_incarnation(be64(body, 0))),
-        Question::Epoch => Reply::YesNo(identity::identity::is_configuration_epoch(be64(body, 0))),
-        Question::NodeId => node_id(be16(body, 0) as u16, be64(body, 2)),
-        Question::Identity => triple(VoterSlotIdentity::from_node_id(be64(body, 0))),
-        _ => Reply::Malformed,
-    }
+fn node_id(slot: u16, incarnation: u64) -> Result<u64, Refusal> {
+    VoterSlotIdentity::new(slot, incarnation)?.node_id()
 }
 
-fn node_id(slot: u16, incarnation: u64) -> Reply {
-    match VoterSlotIdentity::new(slot, incarnation) {
-        VoterSlotIdentityResult::Ok(identity) => pair(identity.node_id()),
-        VoterSlotIdentityResult::Err(answer) => Reply::Pair(number(answer), 0),
-    }
-}
-
-fn pair(res: NumberResult) -> Reply {
+fn pair(res: Result<u64, Refusal>) -> Reply {
     match res {
-        NumberResult::Ok(value) => Reply::Pair(0, value),
-        NumberResult::Err(answer) => Reply::Pair(number(answer), 0),
+        Ok(value) => Reply::Pair(0, value),
+        Err(refusal) => Reply::Pair(refusal as u64, 0),
     }
 }
 
-fn triple(res: VoterSlotIdentityResult) -> Reply {
+fn triple(res: Result<VoterSlotIdentity, Refusal>) -> Reply {
     match res {
-        VoterSlotIdentityResult::Ok(identity) => Reply::Triple(
-            0,
-            identity.slot as u64,
-            identity.incarnation,
-        ),
-        VoterSlotIdentityResult::Err(answer) => Reply::Triple(number(answer), 0, 0),
+        Ok(identity) => Reply::Triple(0, u64::from(identity.slot), identity.incarnation),
+        Err(refusal) => Reply::Triple(refusal as u64, 0, 0),
     }
 }

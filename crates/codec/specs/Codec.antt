@@ -4,8 +4,7 @@
 -- bytes left over, then validity's.
 -- Assumes nothing.
 use Rattle.std.specs.Prelude.{ℕ, List, ◌++◌, length, take, drop, leb}
-use Rattle.identity.specs.Answer.{number_of}
-use Rattle.identity.specs.declared.answer.Answer.TheVariants.{BufferTooShort}
+use Rattle.identity.specs.Answer.{number_of, BufferTooShort}
 use Rattle.format.specs.Res.{Res, and_then, too_large}
 use Rattle.format.specs.Res.Res.{ok, no}
 use Rattle.format.specs.Combinators.{gate}

@@ -5,9 +5,8 @@
 -- Assumes nothing.
 use Rattle.std.specs.Prelude.{ℕ, zero, suc, ◌≤◌, ◌≡◌, refl, Bool, true, false, List, ◌++◌, length, drop, leb}
 use Rattle.std.proofs.Common.{sym, ap, ◌∙◌, subst, arith, take_at, le-leb}
-use Rattle.identity.specs.Answer.{number_of}
+use Rattle.identity.specs.Answer.{number_of, Accepted}
 use Rattle.identity.specs.AnswerLaws.{number-injective}
-use Rattle.identity.specs.declared.answer.Answer.TheVariants.{Accepted}
 use Rattle.format.specs.Res.{Res, and_then, began, ok-value, no_ok}
 use Rattle.format.specs.Res.Res.{ok, no}
 use Rattle.format.specs.Combinators.{Bytes, gate, back-and-there}

@@ -1,11 +1,12 @@
 -- What the entry points' proofs use: each way that a reading, a writing and a restart can go.
 -- Assumes nothing.
-use Rattle.std.specs.Prelude.{ℕ, zero, suc, ◌+◌, ◌≤◌, ◌<◌, Bool, ◌≡◌, List, ◌++◌, length, take, drop, leb, eqb}
-use Rattle.std.proofs.Common.{arith, zero-add, sym, ap, ◌∙◌, length-append, le-leb}
+use Rattle.std.specs.Prelude.{ℕ, zero, suc, ◌≤◌, ◌<◌, Ok, Err, Bool, ◌≡◌, refl, List, ◌++◌, length, take, drop, leb, eqb}
+use Rattle.std.proofs.Common.{arith, zero-add, sym, ap, ap₂, ◌∙◌, length-append, le-leb}
 use Rattle.std.proofs.Math.Bool.{true, false}
 use Rattle.std.proofs.lemmas.Bool.{lt-leb}
-use Rattle.identity.specs.Answer.{number_of}
-use Rattle.identity.specs.declared.answer.Answer.TheVariants.{Accepted}
+use Rattle.identity.specs.Answer.{number_of, number_of_refusal, Accepted}
+use Rattle.identity.specs.AnswerLaws.{accepted-is-0}
+use Rattle.identity.specs.declared.answer.Refusal.{Refusal}
 use Rattle.format.specs.Combinators.{gate}
 use Rattle.format.specs.Fill.{gate-refused}
 use Rattle.format.specs.Num.{pick}
@@ -17,6 +18,7 @@ use Rattle.records.specs.Validation.{validity, validate}
 use Rattle.records.specs.declared.records.VoterSlotTable.{VoterSlotTable}
 use Rattle.codec.specs.Codec.{bounded, decoded, decode_voter_slot_table, encode_voter_slot_table, restarted, max_table_bytes, table_bytes}
 use Rattle.layout.specs.Layout.{table}
+use Rattle.layout.specs.Reading.{report, outcome}
 
 -- ---- a bound
 
@@ -36,6 +38,15 @@ decoded-no blank e f = e ∙ ap (decoded blank) (sym f)
 pub decoded-ok : {A : Type 0} (blank : A) {a : A} {n : ℕ} {x : Res A} → x ≡ ok a n → ◌≡◌ {A = ℕ × A} (0, a) (decoded blank x)
 unfolding decoded
 decoded-ok blank e = ap (decoded blank) (sym e)
+
+-- ---- a test that is passed, and one that refuses
+
+pub gate_accepts : {A : Type 0} (a : A) (n : ℕ) → gate 0 a n ≡ ok a n
+unfolding gate
+gate_accepts a n = refl
+
+pub gate_refuses : {A : Type 0} (e : Refusal) (a : A) (n : ℕ) → gate (number_of_refusal e) a n ≡ no (number_of_refusal e)
+gate_refuses e a n = gate-refused (number_of_refusal e) a n (sym (accepted-is-0 (Err e)))
 
 -- ---- reading a table
 
@@ -69,6 +80,28 @@ encode-refused t buffer h = rw (gate-refused (number_of (validate t)) (table_byt
 pub encode-short : (t : VoterSlotTable) (buffer : List ℕ) → validate t ≡ Accepted → length buffer < length (table_bytes t) → encode_voter_slot_table t buffer ≡ no 32
 unfolding encode_voter_slot_table and_then gate pick
 encode-short t buffer v l = rw v (rw (lt-leb (length (table_bytes t)) (length buffer) l))
+
+pub encode_refuses : (t : VoterSlotTable) (buffer : List ℕ) (e : Refusal) → validate t ≡ Err e → encode_voter_slot_table t buffer ≡ no (number_of_refusal e)
+unfolding encode_voter_slot_table and_then
+encode_refuses t buffer e h = rw h (rw (gate_refuses e (table_bytes t) (length (table_bytes t))))
+
+-- what a writing says, with the buffer after it, of the bytes
+module _ {A : Type 0} (blank : A) {v : A} where
+  pub wrote : {n : ℕ} (x : Res A) → ◌≡◌ {A = Res (Unit {0}) × A} (report (Ok n), v) (outcome blank x) → x ≡ ok v n
+  unfolding outcome
+  wrote (ok b m) e = ap₂ ok (sym (ap (λ p. p.1) e)) (ok-count (sym (ap (λ p. p.0) e)))
+  wrote (no k) e = absurd (no_ok (sym (ap (λ p. p.0) e)))
+
+  pub wrote-not : (r : Refusal) (x : Res A) → ◌≡◌ {A = Res (Unit {0}) × A} (report (Err r), v) (outcome blank x) → x ≡ no (number_of_refusal r)
+  unfolding outcome
+  wrote-not r (ok b m) e = absurd (ok-no (ap (λ p. p.0) (sym e)))
+    where
+      ok-no : {A : Type 0} {a : A} {m k : ℕ} → ◌≡◌ {A = Res A} (ok a m) (no k) → ⊥
+      ok-no e = let z : ◌≡◌ {A = ℕ} 0 1 = cc in omega arith
+  wrote-not r (no k) e = ap no (no-number (ap (λ p. p.0) (sym e)))
+    where
+      no-number : {A : Type 0} {j k : ℕ} → ◌≡◌ {A = Res A} (no j) (no k) → j ≡ k
+      no-number e = cc
 
 -- what was written lies within the buffer
 within_by : (bs buffer : List ℕ) (n : ℕ) {b : List ℕ} {m : ℕ} (w : Bool) → n ≤ length bs → pick w (ok (bs ++ drop n buffer) n) (no 32) ≡ ok b m → m ≤ length b

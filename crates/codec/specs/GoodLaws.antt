@@ -10,17 +10,16 @@ use Rattle.std.proofs.Math.Bool.{true, false, cond}
 use Rattle.std.proofs.lemmas.Bool.{false≢true, lt-leb}
 use Rattle.std.proofs.Math.ListN.{take, get_or, take-append-drop}
 use Rattle.std.proofs.lemmas.List.{length-replicate, get_or-replicate}
-use Rattle.identity.specs.Answer.{number_of}
+use Rattle.identity.specs.Answer.{number_of, Accepted, InvalidSlot, InvalidIncarnation}
 use Rattle.identity.specs.Identity.{is_slot_id, is_voter_incarnation, is_configuration_epoch, validate_slot_id, validate_voter_incarnation}
 use Rattle.identity.specs.Text.{is_utf8}
-use Rattle.identity.specs.declared.answer.Answer.TheVariants.{Accepted, InvalidSlot, InvalidIncarnation}
 use Rattle.identity.specs.declared.identity.VoterSlotIdentity.{VoterSlotIdentity}
 use Rattle.format.specs.Combinators.{Codec, Bytes, dep, check, via, held, always}
 use Rattle.format.specs.Num.{uint, raw, pick, bytes_take, bytes-append, bytes-be}
 use Rattle.format.specs.List.{vec, vec-long, padded, flag, flag_test, either, opt}
 use Rattle.format.specs.Through.{boxed, boxed-good}
 use Rattle.records.specs.Blank.{blank_voter_slot_log_id, blank_voter_slot_member, blank_voter_replacement_result, blank_voter_slot_record, blank_voter_snapshot_evidence, blank_voter_replacement_record}
-use Rattle.records.specs.Equality.{eq_list, same_voter_slot_log_id, same_voter_slot_member, same_voter_replacement_result, same_voter_slot_record, same_voter_snapshot_evidence, same_voter_replacement_record}
+use Rattle.records.specs.Equality.{same_voter_slot_log_id, same_voter_slot_member, same_voter_replacement_result, same_voter_slot_record, same_voter_snapshot_evidence, same_voter_replacement_record}
 use Rattle.records.specs.EqualityLaws.{eq_bytes-true, same_voter_slot_log_id-true, same_voter_slot_member-true, same_voter_replacement_result-true, same_voter_slot_record-true, same_voter_snapshot_evidence-true, same_voter_replacement_record-true}
 use Rattle.records.specs.Held.{AllOf, HeldArray, all-at, Byte, HeldBytes, HeldVoterSlotIdentity, HeldSpiffeId, HeldSnapshotId, HeldVoterSlotLogId, HeldOptionalLogId, HeldVoterSlotMember, HeldVoterReplacementResult, HeldVoterSlotRecord, HeldVoterSnapshotEvidence, HeldVoterConfiguration, HeldLostVoterAttestationV1, HeldVoterReplacementEvidence, HeldVoterReplacementRecord, HeldVoterSlotTable}
 use Rattle.records.specs.Records.{all_below, no_member, no_slot_record}
@@ -523,7 +522,7 @@ magic-bytes = bytes_of magic (lit< tt, (lit< tt, (lit< tt, (lit< tt, tt))))
 
 -- the magic and the version are what they are
 pub head-good : magic_and_version.Good tt
-unfolding magic_and_version via check dep raw head_test pick eq_list
+unfolding magic_and_version via check dep raw head_test pick
 head-good = ((((refl, magic-bytes), uint-good 2 1 (lit< tt)), refl), refl)
 
 -- a table's front

@@ -7,12 +7,10 @@ use Rattle.std.proofs.Common.{arith, sym, ◌∙◌, subst, length-append, drop_
 use Rattle.std.proofs.Math.Path.{ap}
 use Rattle.std.proofs.Math.Bool.{true, false}
 use Rattle.std.proofs.lemmas.List.{length-replicate, get_or-replicate}
-use Rattle.identity.specs.Answer.{number_of}
+use Rattle.identity.specs.Answer.{number_of, Answer, Accepted, InvalidSlot, InvalidIncarnation}
 use Rattle.identity.specs.Identity.{is_slot_id, is_voter_incarnation, is_configuration_epoch, validate_slot_id, validate_voter_incarnation}
 use Rattle.identity.specs.Text.{every, is_utf8}
 use Rattle.identity.specs.Utf8Laws.{and_right}
-use Rattle.identity.specs.declared.answer.Answer.{Answer}
-use Rattle.identity.specs.declared.answer.Answer.TheVariants.{Accepted, InvalidSlot, InvalidIncarnation}
 use Rattle.identity.specs.declared.identity.VoterSlotIdentity.{VoterSlotIdentity}
 use Rattle.format.specs.Combinators.{Codec, dep, check, via, always}
 use Rattle.format.specs.Num.{pick-zero}

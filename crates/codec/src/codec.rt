@@ -1,22 +1,23 @@
 // The entry points of the bytes.
 //
 // Ported from crates/opc-consensus/src/voter_slots/codec.rs of openpacketcore-sdk, commit
-// 717de332e7, Apache-2.0 (see NOTICE). Changed: a reading gives an answer and the table, the blank
-// one with a refusal; the writer fills a buffer that is lent, and makes the representability check
-// first.
+// 717de332e7, Apache-2.0 (see NOTICE). Changed: each reading has a second form, whose answer comes
+// with a table, the blank one with a refusal; the writer fills a buffer that is lent, and makes the
+// representability check first.
 ghost use Rattle.std.specs.Prelude.{◌≤◌, ◌≡◌, length};
-ghost use Rattle.identity.specs.Answer.{number_of};
-ghost use Rattle.identity.specs.declared.answer.Answer.TheVariants.{Accepted};
+ghost use Rattle.identity.specs.Answer.{number_of, number_of_refusal};
+ghost use Rattle.identity.specs.Answer.{Accepted};
 ghost use Rattle.format.specs.Res.Res.{no};
 ghost use Rattle.records.specs.Blank.{blank_voter_slot_table, blank_lost_voter_attestation_v1};
 ghost use Rattle.records.specs.Validation.{validate};
 ghost use Rattle.layout.specs.Reading.{report, outcome};
+ghost use Rattle.layout.specs.Told.{told_whole, told_whole_at};
 ghost use Rattle.codec.specs.Codec.{table_bytes, decoded, decode_voter_slot_table, decode_lost_voter_attestation, encode_voter_slot_table, restart_outcome};
 
-use identity::answer::{Answer, accepted};
+use identity::answer::{Answer, Refusal};
 use layout::parts::MAX_LOST_VOTER_ATTESTATION_BYTES;
-use layout::reading::{Extent, why};
-use reader::decode::{read_table, read_whole_attestation};
+use reader::decode::read_whole_attestation;
+use reader::reader::Reader;
 use records::blank::{blank_lost_voter_attestation_v1, blank_voter_slot_table};
 use records::records::{LostVoterAttestationV1, VoterSlotTable};
 use records::validation::{validate_representable, validate_table};
@@ -25,96 +26,126 @@ use writer::encode::{put_table, table_size};
 // Hard ceiling for one complete durable slot table, independent of application size.
 pub const MAX_VOTER_SLOT_TABLE_BYTES: usize = 65536;
 
-// An answer, and the table that was read: the blank one with a refusal.
+// An answer, and the table that was read. A reading refused returns the blank table, all zero:
+// callers of the C interface are given it.
 #[derive(Clone, Copy)]
 pub struct DecodedTable {
     pub answer: Answer,
     pub table: VoterSlotTable,
 }
 
-// An answer, and the attestation that was read: the blank one with a refusal.
+// An answer, and the attestation that was read. A reading refused returns the blank attestation,
+// all zero.
 #[derive(Clone, Copy)]
 pub struct DecodedAttestation {
     pub answer: Answer,
     pub attestation: LostVoterAttestationV1,
 }
 
-// The bound, the fields, nothing left over, and then validity. What the fields hold passes the
-// representability check, so that is not made again.
+// `decode_voter_slot_table`: the bound, the fields, nothing left over, and then validity. What the
+// fields hold passes the representability check, so that is not made again.
+pub fn read_voter_slot_table(bytes: &[u8]) -> Result<VoterSlotTable, Refusal>
+    ensures { told_whole result (length bytes.now) ≡ decode_voter_slot_table bytes.now }
+{
+    let mut table = blank_voter_slot_table();
+    fill_voter_slot_table(bytes, &mut table)?;
+    Ok(table)
+}
+
+// The table is read where it stands, and not taken out of the answer of `read_voter_slot_table`:
+// that copies its 8 KB once more, and an idle table takes 8 percent longer.
+#[tactic(auto, unfolding(crate::specs::Codec::decoded))]
 pub fn decode_voter_slot_table(bytes: &[u8]) -> DecodedTable
     ensures { (number_of result.answer, result.table) ≡ decoded blank_voter_slot_table (decode_voter_slot_table bytes.now) }
 {
+    let mut table = blank_voter_slot_table();
+    match fill_voter_slot_table(bytes, &mut table) {
+        Ok(()) => DecodedTable {
+            answer: Ok(()),
+            table,
+        },
+        Err(refusal) => no_table(refusal),
+    }
+}
+
+// The reading of both, into a place that is blank.
+#[tactic(auto, using(format::specs::ReadsMore::reads_whole, crate::specs::EntryLaws::gate_accepts, crate::specs::EntryLaws::gate_refuses), unfolding(crate::specs::Codec::decode_voter_slot_table, crate::specs::Codec::bounded, format::specs::Num::pick, format::specs::Res::and_then))]
+pub fn fill_voter_slot_table(bytes: &[u8], table: &mut VoterSlotTable) -> Result<(), Refusal>
+    requires { table.old ≡ blank_voter_slot_table }
+    ensures { told_whole_at result table.new (length bytes.now) ≡ decode_voter_slot_table bytes.now }
+{
     if MAX_VOTER_SLOT_TABLE_BYTES < bytes.len() {
-        return no_table(Answer::TooLarge);
+        return Err(Refusal::TooLarge);
     }
-    let read = read_table(bytes);
-    let to = read.answer;
-    let Extent::To(n) = to else {
-        return no_table(why(to));
-    };
-    if n != bytes.len() {
-        return no_table(Answer::InvalidRecord);
-    }
-    let table = read.value;
-    let answer = validate_representable(table);
-    if !accepted(answer) {
-        return no_table(answer);
-    }
-    DecodedTable { answer, table }
+    let mut input = Reader::new(bytes);
+    input.table(table)?;
+    input.finish()?;
+    validate_representable(*table)
 }
 
 // A refused reading.
-fn no_table(answer: Answer) -> DecodedTable
-    ensures { (number_of result.answer, result.table) ≡ decoded blank_voter_slot_table (no (number_of answer)) }
+#[tactic(auto, unfolding(crate::specs::Codec::decoded))]
+fn no_table(refusal: Refusal) -> DecodedTable
+    ensures { (number_of result.answer, result.table) ≡ decoded blank_voter_slot_table (no (number_of_refusal refusal)) }
 {
     DecodedTable {
-        answer,
+        answer: Err(refusal),
         table: blank_voter_slot_table(),
     }
 }
 
-// The bound, the fields, nothing left over, and the attestation's own rule.
+// `decode_lost_voter_attestation`: the bound, the fields, nothing left over, and the attestation's
+// own rule.
+pub fn read_lost_voter_attestation(bytes: &[u8]) -> Result<LostVoterAttestationV1, Refusal>
+    ensures { told_whole result (length bytes.now) ≡ decode_lost_voter_attestation bytes.now }
+{
+    let mut attestation = blank_lost_voter_attestation_v1();
+    fill_lost_voter_attestation(bytes, &mut attestation)?;
+    Ok(attestation)
+}
+
+#[tactic(auto, unfolding(crate::specs::Codec::decoded))]
 pub fn decode_lost_voter_attestation(bytes: &[u8]) -> DecodedAttestation
     ensures { (number_of result.answer, result.attestation) ≡ decoded blank_lost_voter_attestation_v1 (decode_lost_voter_attestation bytes.now) }
 {
-    if MAX_LOST_VOTER_ATTESTATION_BYTES < bytes.len() {
-        return no_attestation(Answer::TooLarge);
-    }
-    let read = read_whole_attestation(bytes);
-    let to = read.answer;
-    let Extent::To(_) = to else {
-        return no_attestation(why(to));
-    };
-    let attestation = read.value;
-    DecodedAttestation {
-        answer: Answer::Accepted,
-        attestation,
+    let mut attestation = blank_lost_voter_attestation_v1();
+    match fill_lost_voter_attestation(bytes, &mut attestation) {
+        Ok(()) => DecodedAttestation {
+            answer: Ok(()),
+            attestation,
+        },
+        Err(refusal) => DecodedAttestation {
+            answer: Err(refusal),
+            attestation: blank_lost_voter_attestation_v1(),
+        },
     }
 }
 
-// A refused reading.
-fn no_attestation(answer: Answer) -> DecodedAttestation
-    ensures { (number_of result.answer, result.attestation) ≡ decoded blank_lost_voter_attestation_v1 (no (number_of answer)) }
+// The reading of both, into a place that is blank.
+#[tactic(auto, unfolding(crate::specs::Codec::decode_lost_voter_attestation, crate::specs::Codec::bounded, format::specs::Num::pick))]
+pub fn fill_lost_voter_attestation(
+    bytes: &[u8],
+    attestation: &mut LostVoterAttestationV1,
+) -> Result<(), Refusal>
+    requires { attestation.old ≡ blank_lost_voter_attestation_v1 }
+    ensures { told_whole_at result attestation.new (length bytes.now) ≡ decode_lost_voter_attestation bytes.now }
 {
-    DecodedAttestation {
-        answer,
-        attestation: blank_lost_voter_attestation_v1(),
+    if MAX_LOST_VOTER_ATTESTATION_BYTES < bytes.len() {
+        return Err(Refusal::TooLarge);
     }
+    read_whole_attestation(bytes, attestation)
 }
 
 // The table's bytes at the start of the buffer, and their count; refused, nothing is written: the
 // size is computed before the first byte is put.
-pub fn encode_voter_slot_table(buffer: &mut [u8], table: VoterSlotTable) -> Extent
+pub fn encode_voter_slot_table(buffer: &mut [u8], table: VoterSlotTable) -> Result<usize, Refusal>
     ensures { (report result, buffer.new) ≡ outcome buffer.old (encode_voter_slot_table table buffer.old) }
 {
-    let answer = validate_table(table);
-    if !accepted(answer) {
-        return Extent::Refused(answer);
-    }
+    validate_table(table)?;
     if buffer.len() < table_size(table) {
-        return Extent::Refused(Answer::BufferTooShort);
+        return Err(Refusal::BufferTooShort);
     }
-    Extent::To(put_table(buffer, 0, table))
+    Ok(put_table(buffer, 0, table))
 }
 
 // The table is written, and the bytes counted are read again. The second clause follows from the
@@ -123,9 +154,8 @@ pub fn restart(buffer: &mut [u8], table: VoterSlotTable) -> DecodedTable
     ensures outcome { ((number_of result.answer, result.table), buffer.new) ≡ restart_outcome table buffer.old }
     ensures same { validate table ≡ Accepted → length (table_bytes table) ≤ length buffer.old → (number_of result.answer ≡ 0) × (result.table ≡ table) }
 {
-    let written = encode_voter_slot_table(buffer, table);
-    let Extent::To(n) = written else {
-        return no_table(why(written));
-    };
-    decode_voter_slot_table(&buffer[..n])
+    match encode_voter_slot_table(buffer, table) {
+        Ok(n) => decode_voter_slot_table(&buffer[..n]),
+        Err(refusal) => no_table(refusal),
+    }
 }

@@ -2,20 +2,18 @@
 -- reads nothing of the revision (see "the measure" below). Line does the rest.
 -- Each name here is a step of the proof, `history`, whose claim is `DemandThree` of History.
 -- Assumes nothing.
-use Rattle.std.specs.Prelude.{ℕ, zero, suc, ◌+◌, ◌-◌, ◌*◌, ◌^◌, ◌<◌, ◌≤◌, ◌≡◌, Bool, true, false, not, ◌&&◌, ◌||◌, List, ◌∷◌, [], length, get_or, set}
+use Rattle.std.specs.Prelude.{Result, Ok, Err, ℕ, zero, suc, ◌+◌, ◌-◌, ◌*◌, ◌^◌, ◌<◌, ◌≤◌, ◌≡◌, Bool, true, false, not, ◌&&◌, ◌||◌, List, ◌∷◌, [], length, get_or, set}
+use Rattle.identity.specs.declared.answer.Refusal.{Refusal}
 use Rattle.std.proofs.Math.Path.{refl, ap, subst}
 use Rattle.std.proofs.Common.{sym, ◌∙◌, append-nil, inl, inr, ⊎_elim, le_refl, arith, length-append}
 use Rattle.std.proofs.Math.Bool.{cond, and-true, and-false}
 use Rattle.std.proofs.lemmas.List.{length-replicate}
 use Rattle.std.proofs.Math.Dec.{eqb, leb, ltb}
 use borrow.Author.Tests.{eqb-true, eqb-false, leb-true, ltb-true, not-true, eq-eqb, le-leb}
-use Rattle.identity.specs.Answer.{is_accepted}
+use Rattle.identity.specs.Answer.{is_accepted, Answer, Accepted}
 use Rattle.identity.specs.Identity.{from_node_id}
 use Rattle.identity.specs.Utf8Laws.{and_left, and_right}
-use Rattle.identity.specs.declared.answer.Answer.{Answer}
-use Rattle.identity.specs.declared.answer.Answer.TheVariants.{Accepted}
 use Rattle.identity.specs.declared.identity.VoterSlotIdentity.{VoterSlotIdentity}
-use Rattle.identity.specs.declared.identity.VoterSlotIdentityResult.{VoterSlotIdentityResult}
 use Rattle.records.specs.declared.records.OptionalLogId.{OptionalLogId}
 use Rattle.records.specs.declared.records.VoterSlotLogId.{VoterSlotLogId}
 use Rattle.records.specs.declared.records.VoterSlotRecord.{VoterSlotRecord}
@@ -432,10 +430,10 @@ floor-keeps identity new old k h =
     let i = leb-true identity.incarnation old.retired_through (and_right (eqb old.member.identity.slot identity.slot) _ h) in
     rw (eq-eqb new.member.identity.slot identity.slot (k.slot ∙ s)) (le-leb identity.incarnation new.retired_through (omega (arith, k.retired)))
 
-identity-keeps : (new old : VoterSlotTable) → Keeps new old → (x : VoterSlotIdentityResult) → is_retired_identity old x ≡ true → is_retired_identity new x ≡ true
+identity-keeps : (new old : VoterSlotTable) → Keeps new old → (x : Result VoterSlotIdentity Refusal) → is_retired_identity old x ≡ true → is_retired_identity new x ≡ true
 unfolding is_retired_identity
-identity-keeps new old k (VoterSlotIdentityResult.Err answer) h = h
-identity-keeps new old k (VoterSlotIdentityResult.Ok identity) h =
+identity-keeps new old k (Err answer) h = h
+identity-keeps new old k (Ok identity) h =
     any-keeps (λ i. is_below_floor identity (slot_at old i)) (λ i. is_below_floor identity (slot_at new i)) new.count
     (λ i l. floor-keeps identity (slot_at new i) (slot_at old i) (k.slots i l))
     (subst (λ (n : ℕ). not (all_below (λ i. not (is_below_floor identity (slot_at old i))) n) ≡ true) (sym k.count) h)

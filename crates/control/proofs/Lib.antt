@@ -1,3 +1,4 @@
 pub mod HistoryLaws
+pub mod InUse
 pub mod QuorumLaws
 pub mod Stored

@@ -3,8 +3,8 @@
 -- to Uniform, where the successor takes over. Each name here is a step of a proof; what is right is
 -- said in Quorum.
 -- Assumes nothing.
+use Rattle.std.specs.Prelude.{Ok, ◌≡◌, Bool, ◌&&◌, ◌||◌, List, [], ◌∷◌, map, ◌⊎◌, get_or, set}
 use Prim.Native.Nat.{ℕ, zero, suc, ◌+◌, ◌*◌, ◌<◌, ◌≤◌}
-use Rattle.std.specs.Prelude.{◌≡◌, Bool, ◌&&◌, ◌||◌, List, [], ◌∷◌, map, ◌⊎◌, get_or, set}
 use Rattle.std.proofs.Math.Path.{refl, sym, ap}
 use Rattle.std.proofs.Common.{◌∙◌, subst, inr}
 use Rattle.std.proofs.Math.Bool.{true, false, cond, not}
@@ -16,12 +16,9 @@ use Rattle.std.proofs.Math.Seq.{map-set_same}
 use Rattle.std.proofs.Math.Dec.{eqb, leb, ltb}
 use borrow.Author.Tests.{eqb-true, eqb-false, leb-true, leb-false, ltb-true, eq-eqb, ne_eqb, lt-ltb, le-ltb}
 use Rattle.identity.specs.Utf8Laws.{and_left, and_right}
-use Rattle.identity.specs.declared.answer.Answer.TheVariants.{Accepted, InvalidRecord, ReplacementInProgress, ReplacementPastFence, InvalidTransition}
-use Rattle.identity.specs.Answer.{is_accepted}
+use Rattle.identity.specs.Answer.{Accepted, InvalidRecord, ReplacementInProgress, ReplacementPastFence, InvalidTransition, is_accepted, Answer}
 use Rattle.identity.specs.Identity.{from_node_id}
-use Rattle.identity.specs.declared.answer.Answer.{Answer}
 use Rattle.identity.specs.declared.identity.VoterSlotIdentity.{VoterSlotIdentity}
-use Rattle.identity.specs.declared.identity.VoterSlotIdentityResult.{VoterSlotIdentityResult}
 use Rattle.records.specs.Equality.{eq_bytes, same_voter_slot_log_id, same_voter_slot_member, same_voter_snapshot_evidence, same_voter_slot_table}
 use Rattle.records.specs.EqualityLaws.{same_voter_slot_member-true}
 use Rattle.records.specs.Evidence.{valid_log_id}
@@ -203,13 +200,13 @@ module _ (c : VoterConfiguration) (differ : (i j : ℕ) → i < c.count → j < 
 -- ---- one table
 
 -- the node of a member that the Rust types can hold
-read-node : (m : VoterSlotMember) → representable_member m ≡ true → from_node_id (member_node m) ≡ VoterSlotIdentityResult.Ok m.identity
+read-node : (m : VoterSlotMember) → representable_member m ≡ true → from_node_id (member_node m) ≡ Ok m.identity
 read-node m r = let w = says (member_is m) r in node-read m.identity w.0 w.1
 
 -- two such members of one node have one slot
 same-slot : (m n : VoterSlotMember) → representable_member m ≡ true → representable_member n ≡ true → member_node m ≡ member_node n → m.identity.slot ≡ n.identity.slot
 same-slot m n r s e =
-    let k : VoterSlotIdentityResult.Ok m.identity ≡ VoterSlotIdentityResult.Ok n.identity = sym (read-node m r) ∙ (ap from_node_id e ∙ read-node n s) in
+    let k : Ok m.identity ≡ Ok n.identity = sym (read-node m r) ∙ (ap from_node_id e ∙ read-node n s) in
     let q : m.identity ≡ n.identity = cc in
     ap (λ (x : VoterSlotIdentity). x.slot) q
 
@@ -265,7 +262,7 @@ module _ (t : VoterSlotTable) (v : validate t ≡ Accepted) where
   slot-sound i l = (says (slot_is (slot_at t i)) (slot-fits t (valid-parts t v).0 i l)).0
 
   -- the node that a slot has now is not retired
-  own-floor : (i : ℕ) → i < t.count → is_retired_identity t (VoterSlotIdentityResult.Ok (slot_at t i).member.identity) ≡ false
+  own-floor : (i : ℕ) → i < t.count → is_retired_identity t (Ok (slot_at t i).member.identity) ≡ false
   unfolding is_retired_identity
   own-floor i l = ap not (all_below-all (λ j. not (is_below_floor (slot_at t i).member.identity (slot_at t j))) t.count each)
     where

@@ -10,7 +10,7 @@ use Rattle.std.proofs.lemmas.Bool.{false≢true}
 use Rattle.std.proofs.Math.Dec.{eqb, ltb}
 use borrow.Author.Tests.{eqb-true, eqb-false, leb-true, leb-false, ltb-true, ltb-false, lt-ltb, not-false}
 use Rattle.identity.specs.Utf8Laws.{and_left}
-use Rattle.identity.specs.declared.answer.Answer.TheVariants.{Accepted, ConfigurationEpochExhausted, RevisionExhausted, InvalidLossEvidence, StaleIncarnation, ReplacementInProgress, ReplacementPastFence, InvalidTransition, NoSurvivingQuorum}
+use Rattle.identity.specs.Answer.{Accepted, ConfigurationEpochExhausted, RevisionExhausted, InvalidLossEvidence, StaleIncarnation, ReplacementInProgress, ReplacementPastFence, InvalidTransition, NoSurvivingQuorum}
 use Rattle.records.specs.declared.records.VoterSlotLogId.{VoterSlotLogId}
 use Rattle.records.specs.declared.records.VoterSlotRecord.{VoterSlotRecord}
 use Rattle.records.specs.declared.records.VoterConfiguration.{VoterConfiguration}

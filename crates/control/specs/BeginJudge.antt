@@ -3,22 +3,20 @@
 -- From `begin` of control.rs, as the code cuts it. That these come to what Control and Judgement
 -- say is proved in BeginJudgeLaws.
 -- Assumes nothing.
-use Rattle.std.specs.Prelude.{ℕ, Bool, cond, false, not, ◌&&◌, ◌||◌, List, eqb, ltb}
-use Rattle.identity.specs.declared.answer.Answer.{Answer}
+use Rattle.std.specs.Prelude.{ℕ, Bool, Option, Some, None, cond, false, not, ◌&&◌, ◌||◌, List, eqb, ltb}
+use Rattle.identity.specs.Answer.{Answer}
 use Rattle.records.specs.declared.records.VoterSlotLogId.{VoterSlotLogId}
 use Rattle.records.specs.declared.records.VoterReplacementEvidence.{VoterReplacementEvidence}
 use Rattle.records.specs.declared.records.VoterReplacementResult.{VoterReplacementResult}
 use Rattle.records.specs.declared.records.VoterSlotMember.{VoterSlotMember}
 use Rattle.records.specs.declared.records.VoterSlotRecord.{VoterSlotRecord}
 use Rattle.records.specs.declared.records.VoterSlotTable.{VoterSlotTable}
-use Rattle.records.specs.Blank.{blank_optional_log_id, blank_voter_slot_member, blank_voter_snapshot_evidence}
+use Rattle.records.specs.Blank.{blank_optional_log_id, blank_voter_snapshot_evidence}
 use Rattle.records.specs.Equality.{eq_bytes}
 use Rattle.records.specs.Records.{max_fixed_voter_slots, pending, slot_at, superseded}
 use Rattle.records.specs.Successor.{slot_index}
 use Rattle.records.specs.With.{evidence_with, slot_with}
 use Rattle.control.specs.declared.control.VoterReplacementRequest.{VoterReplacementRequest}
-use Rattle.control.specs.declared.request.Named.{Named}
-use Rattle.control.specs.declared.request.Receipt.{Receipt}
 use Rattle.control.specs.declared.begin.VoterBegin.{VoterBegin}
 use Rattle.control.specs.Control.{begun, receipt_index, receipt_of}
 use Rattle.control.specs.Judgement.{Move, carried, judge_begin}
@@ -41,15 +39,13 @@ has_receipt id s = s.has_last_result && eq_bytes s.last_result.request_id id
 abbrev pub has_digest : List ℕ → VoterSlotRecord → Bool
 has_digest digest s = eq_bytes s.last_result.request_digest digest
 
--- whether there is one; and whether it has that digest
-abbrev pub receipt_state : VoterSlotTable → (id digest : List ℕ) → Receipt
-receipt_state t id digest =
-    record { found = is_place t (receipt_index t id); same = read_at t (receipt_index t id) (has_digest digest) false }
+-- whether it has that digest, if there is one
+abbrev pub receipt_state : VoterSlotTable → (id digest : List ℕ) → Option Bool
+receipt_state t id digest = read_at t (receipt_index t id) (λ s. Some (has_digest digest s)) None
 
--- the member of the slot of that number, or a blank
-abbrev pub named_of : VoterSlotTable → ℕ → Named
-named_of t number =
-    record { found = is_place t (slot_index t number); member = read_at t (slot_index t number) (λ s. s.member) blank_voter_slot_member }
+-- the member of the slot of that number, if there is one
+abbrev pub named_of : VoterSlotTable → ℕ → Option VoterSlotMember
+named_of t number = read_at t (slot_index t number) (λ s. Some s.member) None
 
 -- ---- the request against that member
 

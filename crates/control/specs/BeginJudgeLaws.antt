@@ -4,20 +4,19 @@
 -- Assumes nothing.
 use Prim.Native.Nat.{ℕ, zero, suc, ◌+◌, ◌-◌, ◌<◌, ◌≤◌}
 use Rattle.std.proofs.Math.Path.{refl, ap}
-use Rattle.std.proofs.Common.{sym, ap₂, ◌∙◌, add-one, arith, take-suc, take-suc-set, ltb-true, ltb-false, lt-ltb, le-ltb}
-use Rattle.std.specs.Prelude.{◌≡◌, Bool, true, false, not, ◌&&◌, ◌||◌, List, map, ◌∷◌, ◌++◌, [], eqb, leb, ltb, get_or, length, set, take}
+use Rattle.std.proofs.Common.{sym, ap₂, ◌∙◌, arith, ltb-true, ltb-false, lt-ltb, le-ltb}
+use Rattle.std.specs.Bool.{then_some}
+use Rattle.std.specs.Option.{option_or}
+use Rattle.std.specs.Result.{result_and}
+use Rattle.std.specs.Prelude.{◌≡◌, Bool, Option, Some, None, Ok, Err, true, false, ◌&&◌, ◌||◌, List, [], eqb, leb, ltb, length}
 use Rattle.std.proofs.Math.Bool.{cond}
 use Rattle.std.proofs.lemmas.Bool.{false≢true}
-use Rattle.std.proofs.lemmas.List.{map-append}
 use Rattle.std.proofs.Math.Nat.{sub-zero}
 use Rattle.std.proofs.Math.ListN.{get_or-eq_default}
-use Rattle.identity.specs.Answer.{is_accepted}
-use Rattle.identity.specs.declared.answer.Answer.{Answer}
-use Rattle.identity.specs.declared.answer.Answer.TheVariants.{Accepted, InvalidLossEvidence, NoSurvivingQuorum, StaleIncarnation}
+use Rattle.identity.specs.Answer.{is_accepted, Answer, Accepted, InvalidLossEvidence, NoSurvivingQuorum, StaleIncarnation}
 use Rattle.records.specs.declared.records.VoterSlotMember.{VoterSlotMember}
 use Rattle.records.specs.declared.records.VoterSlotRecord.{VoterSlotRecord}
 use Rattle.records.specs.declared.records.VoterSlotTable.{VoterSlotTable}
-use Rattle.records.specs.Blank.{blank_voter_slot_member}
 use Rattle.records.specs.Equality.{eq_bytes}
 use Rattle.records.specs.EqualityLaws.{eq_bytes-true}
 use Rattle.records.specs.Records.{first_from, max_fixed_voter_slots, no_slot_record, slot_at}
@@ -25,8 +24,6 @@ use Rattle.records.specs.RecordsLaws.{first_more, first-none, first-stop}
 use Rattle.records.specs.Successor.{first_refusal}
 use Rattle.records.specs.TestLaws.{first-at, is_false}
 use Rattle.control.specs.declared.control.VoterReplacementRequest.{VoterReplacementRequest}
-use Rattle.control.specs.declared.request.Named.{Named}
-use Rattle.control.specs.declared.request.Receipt.{Receipt}
 use Rattle.control.specs.Control.{candidate_check, is_current, is_expected, is_known, is_open_request, known_digest, named_index, receipt_index, stale_check}
 use Rattle.control.specs.BeginJudge.{attested_member, has_digest, has_receipt, is_place, named_of, newer_than, read_at, receipt_state}
 
@@ -82,20 +79,10 @@ module _ (t : VoterSlotTable) (p : VoterSlotRecord → Bool) where
   pub place-first : place_from 0 ≡ first_from (λ k. p (slot_at t k)) t.count 0
   place-first = ap (λ (n : ℕ). first_from (λ k. p (slot_at t k)) n 0) (sub-zero t.count)
 
--- whether a place was found, as what is read there
-pub by_place : (b : Bool) → cond b true false ≡ b
-by_place true = refl
-by_place false = refl
-
--- the two ways in which a loop keeps what it found
-pub found-by : (one found : Bool) → (one || found) ≡ cond one true found
-found-by true found = refl
-found-by false found = refl
-
-pub kept_by : (one own same : Bool) → ((one && own) || (not one && same)) ≡ cond one own same
-kept_by true true same = refl
-kept_by true false same = refl
-kept_by false own same = refl
+-- what a loop has found, as the code picks it
+pub picked-by : {A : Type 0} (b : Bool) (x : A) (was : Option A) → option_or (then_some b x) was ≡ cond b (Some x) was
+picked-by true x was = refl
+picked-by false x was = refl
 
 -- ---- a turn of such a loop, and its end, over the index that the code has
 
@@ -110,15 +97,6 @@ module _ (t : VoterSlotTable) (p : VoterSlotRecord → Bool) where
 
     pub read-end : (i : ℕ) → i ≡ 0 → read_at t (place_from t p i) read none ≡ read_at t (first_from (λ k. p (slot_at t k)) t.count 0) read none
     read-end i e = ap (λ (n : ℕ). read_at t (place_from t p n) read none) e ∙ ap (λ (n : ℕ). read_at t n read none) (place-first t p)
-
-  pub found_turn : (i : ℕ) (held found : Bool) → 0 < i → i ≤ 9 → held ≡ p (slot_at t (i - 1)) → found ≡ is_place t (place_from t p i)
-      → ((ltb (i - 1) t.count && held) || found) ≡ is_place t (place_from t p (i - 1))
-  found_turn i held found l m h q =
-      found-by (ltb (i - 1) t.count && held) found
-      ∙ (read-turn (λ s. true) false i held true found l m h refl (q ∙ sym (by_place (is_place t (place_from t p i)))) ∙ by_place (is_place t (place_from t p (i - 1))))
-
-  pub found-end : (i : ℕ) → i ≡ 0 → is_place t (place_from t p i) ≡ is_place t (first_from (λ k. p (slot_at t k)) t.count 0)
-  found-end i e = ap (λ (n : ℕ). is_place t (place_from t p n)) e ∙ ap (is_place t) (place-first t p)
 
 -- ---- a place after the nine
 
@@ -171,9 +149,12 @@ module _ (t : VoterSlotTable) (r : VoterReplacementRequest) (nine : length t.slo
   picked true next = refl
   picked false next = refl
 
-  pub slot-checked :
-      cond ((named_of t r.attestation.slot).found && rest (named_of t r.attestation.slot).member) (fits (named_of t r.attestation.slot).member) StaleIncarnation
-      ≡ first_refusal (stale_check t r) (candidate_check t r)
+  -- by the member of the slot
+  abbrev slot_by : Option VoterSlotMember → Answer
+  slot_by None = StaleIncarnation
+  slot_by (Some m) = cond (rest m) (fits m) StaleIncarnation
+
+  slot-checked : slot_by (named_of t r.attestation.slot) ≡ first_refusal (stale_check t r) (candidate_check t r)
   unfolding is_current candidate_check
   slot-checked = go (ltb k t.count) (ltb k max_fixed_voter_slots) refl refl ∙ picked (ltb k t.count && rest m) (fits m)
     where
@@ -183,22 +164,25 @@ module _ (t : VoterSlotTable) (r : VoterReplacementRequest) (nine : length t.slo
       m : VoterSlotMember
       m = (slot_at t k).member
 
-      go : (b c : Bool) → ltb k t.count ≡ b → ltb k max_fixed_voter_slots ≡ c
-          → cond ((b && c) && rest (cond (b && c) m blank_voter_slot_member)) (fits (cond (b && c) m blank_voter_slot_member)) StaleIncarnation ≡ cond (b && rest m) (fits m) StaleIncarnation
+      go : (b c : Bool) → ltb k t.count ≡ b → ltb k max_fixed_voter_slots ≡ c → slot_by (cond (b && c) (Some m) None) ≡ cond (b && rest m) (fits m) StaleIncarnation
       go true true e f = refl
       go true false e f = sym (ap (λ (x : Bool). cond x (fits m) StaleIncarnation) (rest-fails k f))
       go false c e f = refl
 
   -- by what the code found
-  pub slot-judged : (x : Named) (expected cluster attested newer : Bool) → x ≡ named_of t r.attestation.slot → expected ≡ is_expected t r
-      → cluster ≡ eq_bytes r.attestation.cluster_instance t.cluster_instance → attested ≡ attested_member r x.member → newer ≡ newer_than r x.member
-      → cond (x.found && (eqb t.revision r.expected_revision && (expected && (cluster && attested))))
+  pub slot-missing : (x : Option VoterSlotMember) → x ≡ named_of t r.attestation.slot → ((m : VoterSlotMember) → x ≡ Some m → ⊥) → StaleIncarnation ≡ first_refusal (stale_check t r) (candidate_check t r)
+  slot-missing None a n = ap slot_by a ∙ slot-checked
+  slot-missing (Some m) a n = absurd (n m refl)
+
+  pub slot-judged : (m : VoterSlotMember) (expected cluster attested newer : Bool) → Some m ≡ named_of t r.attestation.slot → expected ≡ is_expected t r
+      → cluster ≡ eq_bytes r.attestation.cluster_instance t.cluster_instance → attested ≡ attested_member r m → newer ≡ newer_than r m
+      → cond (eqb t.revision r.expected_revision && (expected && (cluster && attested)))
       (cond (leb 3 t.count) (cond newer Accepted InvalidLossEvidence) NoSurvivingQuorum) StaleIncarnation
       ≡ first_refusal (stale_check t r) (candidate_check t r)
-  slot-judged x expected cluster attested newer a b c d e =
-      (λ i. cond (x.found && (eqb t.revision r.expected_revision && (b i && (c i && d i))))
+  slot-judged m expected cluster attested newer a b c d e =
+      (λ i. cond (eqb t.revision r.expected_revision && (b i && (c i && d i)))
       (cond (leb 3 t.count) (cond (e i) Accepted InvalidLossEvidence) NoSurvivingQuorum) StaleIncarnation)
-      ∙ (ap (λ (y : Named). cond (y.found && rest y.member) (fits y.member) StaleIncarnation) a ∙ slot-checked)
+      ∙ (ap slot_by a ∙ slot-checked)
 
 -- ---- a request that is known
 
@@ -206,15 +190,22 @@ eq_bytes-cond : (o : Bool) (a b d : List ℕ) → eq_bytes (cond o a b) d ≡ co
 eq_bytes-cond true a b d = refl
 eq_bytes-cond false a b d = refl
 
+-- what follows, by whether the digest of the known request is that of this one
+abbrev pub known_by : {W : Type 0} → (again conflict fresh : W) → Option Bool → W
+known_by again conflict fresh None = fresh
+known_by again conflict fresh (Some true) = again
+known_by again conflict fresh (Some false) = conflict
+
 module _ {W : Type 0} (t : VoterSlotTable) (nine : length t.slots ≡ 9) (id digest : List ℕ) (again conflict fresh : W) where
-  pub known_picked :
-      cond (is_open_request t id || is_place t (receipt_index t id))
-      (cond (cond (is_open_request t id) (eq_bytes t.replacement.attestation.request_digest digest) (read_at t (receipt_index t id) (has_digest digest) false)) again conflict) fresh
+  abbrev by : Option Bool → W
+  by = known_by again conflict fresh
+
+  known_picked : by (option_or (then_some (is_open_request t id) (eq_bytes t.replacement.attestation.request_digest digest)) (receipt_state t id digest))
       ≡ cond (is_known t id) (cond (eq_bytes (known_digest t id) digest) again conflict) fresh
   unfolding known_digest receipt_index
   known_picked =
-      ap (λ (b : Bool). cond (is_open_request t id || b) (cond (cond (is_open_request t id) own (cond b same false)) again conflict) fresh) (place_in t nine (has_receipt id) refl)
-      ∙ (go (is_open_request t id) (ltb k t.count)
+      ap (λ (b : Bool). by (option_or (then_some (is_open_request t id) own) (cond b (Some same) None))) (place_in t nine (has_receipt id) refl)
+      ∙ (go (is_open_request t id) (ltb k t.count) own same
       ∙ ap (λ (b : Bool). cond (is_known t id) (cond b again conflict) fresh) (sym (eq_bytes-cond (is_open_request t id) t.replacement.attestation.request_digest (slot_at t k).last_result.request_digest digest)))
     where
       k : ℕ
@@ -226,26 +217,27 @@ module _ {W : Type 0} (t : VoterSlotTable) (nine : length t.slots ≡ 9) (id dig
       same : Bool
       same = has_digest digest (slot_at t k)
 
-      go : (o l : Bool) → cond (o || l) (cond (cond o own (cond l same false)) again conflict) fresh ≡ cond (o || l) (cond (cond o own same) again conflict) fresh
-      go true l = refl
-      go false true = refl
-      go false false = refl
+      go : (o l own same : Bool) → by (option_or (then_some o own) (cond l (Some same) None)) ≡ cond (o || l) (cond (cond o own same) again conflict) fresh
+      go true l true same = refl
+      go true l false same = refl
+      go false true own true = refl
+      go false true own false = refl
+      go false false own same = refl
 
   -- by what the code found
-  pub known-judged : (named own : Bool) (x : Receipt) → named ≡ eq_bytes t.replacement.attestation.request_id id
+  pub known-judged : (named own : Bool) (x : Option Bool) → named ≡ eq_bytes t.replacement.attestation.request_id id
       → own ≡ eq_bytes t.replacement.attestation.request_digest digest → x ≡ receipt_state t id digest
-      → cond ((t.has_replacement && named) || x.found)
-      (cond (((t.has_replacement && named) && own) || (not (t.has_replacement && named) && x.same)) again conflict) fresh
-      ≡ cond (is_known t id) (cond (eq_bytes (known_digest t id) digest) again conflict) fresh
+      → (y : Option Bool) → option_or (then_some (t.has_replacement && named) own) x ≡ y
+      → by y ≡ cond (is_known t id) (cond (eq_bytes (known_digest t id) digest) again conflict) fresh
   unfolding is_open_request
-  known-judged named own x a b c =
-      (λ i. cond ((t.has_replacement && a i) || (c i).found)
-      (cond (((t.has_replacement && a i) && b i) || (not (t.has_replacement && a i) && (c i).same)) again conflict) fresh)
-      ∙ (ap (λ (z : Bool). cond (is_open_request t id || is_place t (receipt_index t id)) (cond z again conflict) fresh)
-      (kept_by (is_open_request t id) (eq_bytes t.replacement.attestation.request_digest digest) (read_at t (receipt_index t id) (has_digest digest) false))
-      ∙ known_picked)
+  known-judged named own x a b c y e = sym (ap by e) ∙ ((λ i. by (option_or (then_some (t.has_replacement && a i) (b i)) (c i))) ∙ known_picked)
 
 -- ---- answers in turn
+
+-- as the code picks the first refusal
+pub and-answers : (a b : Answer) → result_and a b ≡ first_refusal a b
+and-answers (Ok nothing) b = refl
+and-answers (Err e) b = refl
 
 pub then-assoc : (a b c : Answer) → first_refusal (first_refusal a b) c ≡ first_refusal a (first_refusal b c)
 then-assoc a b c = go (is_accepted a) refl
@@ -253,15 +245,3 @@ then-assoc a b c = go (is_accepted a) refl
     go : (x : Bool) → is_accepted a ≡ x → first_refusal (cond x b a) c ≡ cond x (first_refusal b c) a
     go true e = refl
     go false e = ap (λ (y : Bool). cond y c a) e
-
--- ---- the members of the slots, one more a turn
-
-pub members-more : (l : List VoterSlotMember) (s : List VoterSlotRecord) (i : ℕ) → i < length l → i < length s → take i l ≡ map (λ x. x.member) (take i s)
-    → take (i + 1) (set l i (get_or s i no_slot_record).member) ≡ map (λ x. x.member) (take (i + 1) s)
-members-more l s i a b h =
-    let x = get_or s i no_slot_record in
-    let f : VoterSlotRecord → VoterSlotMember = λ x. x.member in
-    ap (λ (n : ℕ). take n (set l i x.member)) (add-one i)
-    ∙ (take-suc-set l i x.member a
-    ∙ (ap (λ (r : List VoterSlotMember). r ++ (x.member ∷ [])) h
-    ∙ sym (ap (λ (n : ℕ). map f (take n s)) (add-one i) ∙ (ap (map f) (take-suc s i no_slot_record b) ∙ map-append f (take i s) (x ∷ [])))))

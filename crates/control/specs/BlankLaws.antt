@@ -21,7 +21,7 @@ same_consensus_identity-true a b h =
 
 pub same_consensus_identity-refl : (a : ConsensusIdentity) → same_consensus_identity a a ≡ true
 unfolding same_consensus_identity
-same_consensus_identity-refl a = passed _ (same_bytes _ _ refl, (same_bytes _ _ refl, eq-eqb a.configuration_epoch _ refl))
+same_consensus_identity-refl a = passed _ (same_bytes a.cluster_id _ refl, (same_bytes a.configuration_id _ refl, eq-eqb a.configuration_epoch _ refl))
 
 pub same_voter_replacement_request-true : (a b : VoterReplacementRequest) → same_voter_replacement_request a b ≡ true → a ≡ b
 unfolding same_voter_replacement_request
@@ -47,7 +47,7 @@ unfolding same_voter_replacement_request
 same_voter_replacement_request-refl a =
     passed _ (
       eq-eqb a.expected_revision _ refl,
-      (same_consensus_identity-refl _, (same_voter_slot_member-refl _, (same_lost_voter_attestation_v1-refl _, (same_bytes _ _ refl, same_bytes _ _ refl)))),
+      (same_consensus_identity-refl _, (same_voter_slot_member-refl _, (same_lost_voter_attestation_v1-refl _, (same_bytes a.supplied_request_digest _ refl, same_bytes a.supplied_configuration_id _ refl)))),
     )
 
 pub same_voter_replacement_step-true : (a b : VoterReplacementStep) → same_voter_replacement_step a b ≡ true → a ≡ b

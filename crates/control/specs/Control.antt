@@ -5,10 +5,8 @@
 -- Assumes nothing.
 use Rattle.std.specs.Prelude.{ℕ, ◌+◌, ◌-◌, ◌^◌, Bool, true, false, cond, not, ◌&&◌, ◌||◌, List, map, set, eqb, leb, ltb}
 use Rattle.identity.specs.Conditions.{◌and◌}
-use Rattle.identity.specs.Answer.{is_accepted}
+use Rattle.identity.specs.Answer.{is_accepted, Answer, Accepted, InvalidLossEvidence, StaleIncarnation, IdempotencyConflict, ReplacementInProgress, NoSurvivingQuorum, ReplacementPastFence, ConfigurationEpochExhausted, RevisionExhausted, InvalidTransition, Unrepresentable}
 use Rattle.identity.specs.Identity.{is_configuration_epoch}
-use Rattle.identity.specs.declared.answer.Answer.{Answer}
-use Rattle.identity.specs.declared.answer.Answer.TheVariants.{Accepted, InvalidLossEvidence, StaleIncarnation, IdempotencyConflict, ReplacementInProgress, NoSurvivingQuorum, ReplacementPastFence, ConfigurationEpochExhausted, RevisionExhausted, InvalidTransition, Unrepresentable}
 use Rattle.records.specs.declared.records.VoterSlotLogId.{VoterSlotLogId}
 use Rattle.records.specs.declared.records.VoterSlotRecord.{VoterSlotRecord}
 use Rattle.records.specs.declared.records.VoterConfiguration.{VoterConfiguration}

@@ -10,10 +10,8 @@ use Rattle.std.proofs.Math.Bool.{false, not, and-true, or-true}
 use Rattle.std.proofs.lemmas.Bool.{false≢true}
 use Rattle.std.proofs.Math.Dec.{eqb}
 use borrow.Author.Tests.{eqb-true, le-leb, lt-ltb, ne_eqb, eq-eqb}
-use Rattle.identity.specs.Answer.{is_accepted}
+use Rattle.identity.specs.Answer.{is_accepted, Answer, Accepted, IncarnationExhausted, InvalidTransition}
 use Rattle.identity.specs.Identity.{max_voter_incarnation}
-use Rattle.identity.specs.declared.answer.Answer.{Answer}
-use Rattle.identity.specs.declared.answer.Answer.TheVariants.{Accepted, IncarnationExhausted, InvalidTransition}
 use Rattle.records.specs.declared.records.VoterSlotLogId.{VoterSlotLogId}
 use Rattle.records.specs.declared.records.VoterSlotRecord.{VoterSlotRecord}
 use Rattle.records.specs.declared.records.VoterSlotTable.{VoterSlotTable}

@@ -5,9 +5,7 @@
 -- Assumes nothing.
 use Rattle.std.specs.Prelude.{ℕ, Bool, cond, false, not, true, ◌&&◌, ◌||◌, List, ◌∷◌, [], eqb, leb, ltb}
 use Rattle.identity.specs.Conditions.{◌and◌}
-use Rattle.identity.specs.declared.answer.Answer.TheVariants.{Accepted, IdempotencyConflict, InvalidTransition, RevisionExhausted, StaleIncarnation}
-use Rattle.identity.specs.declared.answer.Answer.{Answer}
-use Rattle.identity.specs.Answer.{is_accepted}
+use Rattle.identity.specs.Answer.{Accepted, IdempotencyConflict, InvalidTransition, RevisionExhausted, StaleIncarnation, Answer, is_accepted}
 use Rattle.records.specs.declared.records.VoterReplacementEvidence.{VoterReplacementEvidence}
 use Rattle.records.specs.declared.records.VoterSlotLogId.{VoterSlotLogId}
 use Rattle.records.specs.declared.records.VoterSlotTable.{VoterSlotTable}

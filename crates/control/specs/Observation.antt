@@ -4,12 +4,12 @@
 -- what a BTreeSet is: the ids in strictly rising order, each once, whatever the order and the
 -- repeats of the members.
 -- Assumes nothing.
-use Rattle.std.specs.Prelude.{ℕ, zero, suc, ◌+◌, Bool, true, false, cond, ◌&&◌, ◌||◌, List, ◌∷◌, [], length, take, drop, set, eqb, leb, ltb}
+use Rattle.identity.specs.declared.answer.Refusal.{Refusal}
+use Rattle.identity.specs.declared.identity.VoterSlotIdentity.{VoterSlotIdentity}
+use Rattle.std.specs.Prelude.{Result, Ok, Err, ℕ, zero, suc, ◌+◌, Bool, true, false, cond, ◌&&◌, ◌||◌, List, ◌∷◌, [], length, take, drop, set, eqb, leb, ltb}
 use Rattle.identity.specs.Identity.{max_consensus_node_id, node_id, from_node_id, value_of_number}
 use Rattle.identity.specs.Text.{every}
-use Rattle.identity.specs.declared.answer.Answer.{Answer}
-use Rattle.identity.specs.declared.answer.Answer.TheVariants.{RevisionExhausted, InvalidTransition, Unrepresentable, NotRising}
-use Rattle.identity.specs.declared.identity.VoterSlotIdentityResult.{VoterSlotIdentityResult}
+use Rattle.identity.specs.Answer.{Answer, RevisionExhausted, InvalidTransition, Unrepresentable, NotRising}
 use Rattle.records.specs.declared.records.VoterSlotLogId.{VoterSlotLogId}
 use Rattle.records.specs.declared.records.VoterSlotMember.{VoterSlotMember}
 use Rattle.records.specs.declared.records.VoterConfiguration.{VoterConfiguration}
@@ -121,9 +121,9 @@ member_index c slot = first_from (λ i. eqb (member_at c i).identity.slot slot) 
 
 -- A node of neither configuration may be the learner of a request that was superseded: of the slot
 -- being replaced, of an incarnation greater than the predecessor's and at most the attested one.
-unfoldable pub is_obsolete : VoterReplacementRecord → VoterSlotIdentityResult → Bool
-is_obsolete op (VoterSlotIdentityResult.Err answer) = false
-is_obsolete op (VoterSlotIdentityResult.Ok identity) =
+unfoldable pub is_obsolete : VoterReplacementRecord → Result VoterSlotIdentity Refusal → Bool
+is_obsolete op (Err answer) = false
+is_obsolete op (Ok identity) =
     let place = member_index op.predecessor op.attestation.slot in
     ltb place op.predecessor.count
     && leb op.phase snapshot_installed

@@ -9,9 +9,7 @@ use Rattle.std.proofs.Common.{sym, ◌∙◌, arith}
 use Rattle.std.proofs.Math.Bool.{true, false, and-true}
 use Rattle.std.proofs.lemmas.List.{set-get_or}
 use borrow.Author.Tests.{eqb-true, eqb-false, eq-eqb, ltb-true}
-use Rattle.identity.specs.Answer.{is_accepted}
-use Rattle.identity.specs.declared.answer.Answer.{Answer}
-use Rattle.identity.specs.declared.answer.Answer.TheVariants.{Accepted, InvalidTransition, Unrepresentable}
+use Rattle.identity.specs.Answer.{is_accepted, Answer, Accepted, InvalidTransition, Unrepresentable}
 use Rattle.records.specs.declared.records.VoterSlotLogId.{VoterSlotLogId}
 use Rattle.records.specs.declared.records.VoterSlotRecord.{VoterSlotRecord}
 use Rattle.records.specs.declared.records.VoterReplacementRecord.{VoterReplacementRecord}

@@ -3,23 +3,21 @@
 -- `observes-as` and `observes-valid` say so of the whole call; `weighed-room` is what a maker asks
 -- for.
 -- Assumes nothing.
-use Rattle.std.specs.Prelude.{ℕ, ◌≤◌, ◌≡◌, Bool, not, ◌&&◌, ◌||◌, List, ◌∷◌, [], leb, length}
+use Rattle.std.specs.Prelude.{ℕ, ◌≡◌, Bool, not, ◌&&◌, ◌||◌, List, ◌∷◌, [], leb, length}
 use Rattle.std.proofs.Math.Path.{refl, sym, ap}
-use Rattle.std.proofs.Common.{◌∙◌, arith}
+use Rattle.std.proofs.Common.{◌∙◌}
 use Rattle.std.proofs.Math.Bool.{true, false, cond}
 use Rattle.std.proofs.lemmas.Bool.{false≢true}
 use Rattle.std.proofs.Math.Dec.{eqb, ltb}
 use borrow.Author.Tests.{eqb-false, eqb-true, leb-true, ltb-true}
-use Rattle.identity.specs.Answer.{is_accepted}
+use Rattle.identity.specs.Answer.{is_accepted, Answer, Accepted, InvalidTransition, NotRising, RevisionExhausted, Unrepresentable}
 use Rattle.identity.specs.Text.{every}
 use Rattle.identity.specs.Utf8Laws.{and_left, and_right}
-use Rattle.identity.specs.declared.answer.Answer.{Answer}
-use Rattle.identity.specs.declared.answer.Answer.TheVariants.{Accepted, InvalidTransition, NotRising, RevisionExhausted, Unrepresentable}
 use Rattle.records.specs.declared.records.VoterSlotLogId.{VoterSlotLogId}
 use Rattle.records.specs.declared.records.VoterSlotTable.{VoterSlotTable}
 use Rattle.records.specs.Representable.{representable, representable_replacement}
 use Rattle.records.specs.RepresentableParts.{configuration-is, replacement-is, table_is}
-use Rattle.records.specs.TestLaws.{and_both, cond-false, cond-true, says, then-says}
+use Rattle.records.specs.TestLaws.{and_both, cond-false, cond-true, says}
 use Rattle.records.specs.Blank.{blank_voter_replacement_record}
 use Rattle.records.specs.Equality.{same_voter_replacement_record}
 use Rattle.records.specs.declared.records.VoterReplacementRecord.{VoterReplacementRecord}
@@ -32,7 +30,7 @@ use Rattle.control.specs.Judgement.Addition.{adds_joint, adds_learner, adds_unif
 use Rattle.control.specs.Judgement.Verdict.{refused, kept, moves}
 use Rattle.control.specs.Observation.{Sight, all_rising, eq_ids, eq_sets, is_held_node_id, is_rising, member_ids, observe_membership, representable_sets, see, split_sets, total}
 use Rattle.control.specs.Observation.Sight.{new_joint, new_learner, new_uniform, nothing_new, strange}
-use Rattle.control.specs.ObserveSight.{Room, Supplied, answer_of_observed, confirmed, entry_weighed, few_members, is_change, judge_closed, judge_known, judge_seen, judge_sets, route_of_observed, weighed}
+use Rattle.control.specs.ObserveSight.{Room, Supplied, confirmed, entry_weighed, few_members, is_change, judge_closed, judge_known, judge_seen, judge_sets, weighed}
 use Rattle.control.specs.SettleLaws.{observes}
 
 -- ---- validity, where something is new
@@ -191,16 +189,6 @@ module _ (t : VoterSlotTable) (ids counts nodes : List ℕ) (cut : VoterSlotLogI
 
 -- ---- what the code's tests tell
 
-pub few-count : (t : VoterSlotTable) → few_members t ≡ true → t.count ≤ 9
-few-count t h = leb-true t.count 9 (and_left (leb t.count 9) _ h)
-
-pub few-open : (t : VoterSlotTable) → few_members t ≡ true → t.has_replacement ≡ true → (t.replacement.predecessor.count ≤ 9) × (t.replacement.successor.count ≤ 9)
-few-open t h e =
-    let old = t.replacement.predecessor.count in
-    let new = t.replacement.successor.count in
-    let both = then-says t.has_replacement (leb old 9 && leb new 9) (and_right (leb t.count 9) _ h) e in
-    (leb-true old 9 (and_left (leb old 9) (leb new 9) both), leb-true new 9 (and_right (leb old 9) (leb new 9) both))
-
 module _ (t : VoterSlotTable) (ids counts nodes : List ℕ) where
   abbrev fits : Bool
   fits = few_members t && representable_sets ids counts nodes
@@ -245,46 +233,3 @@ module _ (t : VoterSlotTable) (ids counts nodes : List ℕ) where
   weighed-passed cut h k =
       cond-true fits (cond rises (judge_sets t (split_sets ids counts) nodes cut) (refused NotRising)) (refused Unrepresentable) h
       ∙ cond-true rises (judge_sets t (split_sets ids counts) nodes cut) (refused NotRising) k
-
--- nothing is made, or something is
-pub confirmed-none : (v : Bool) (x : Verdict Addition) → route_of_observed x ≡ 0 → x ≡ confirmed v x
-unfolding confirmed
-confirmed-none v (refused answer) h = refl
-confirmed-none v kept h = refl
-confirmed-none v (moves adds_learner) h = absurd (omega arith)
-confirmed-none v (moves adds_joint) h = absurd (omega arith)
-confirmed-none v (moves adds_uniform) h = absurd (omega arith)
-
-pub confirmed-some : (v : Bool) (x : Verdict Addition) → (route_of_observed x ≡ 0 → ⊥) → cond v x (refused InvalidTransition) ≡ confirmed v x
-unfolding confirmed
-confirmed-some v (refused answer) h = absurd (h refl)
-confirmed-some v kept h = absurd (h refl)
-confirmed-some v (moves m) h = refl
-
--- ---- by the number of what is made
-
-pub added-to : (v : Verdict Addition) (m : Addition) → route_of_observed v ≡ route_of_observed (moves m) → v ≡ moves m
-added-to (refused answer) adds_learner h = absurd (omega arith)
-added-to (refused answer) adds_joint h = absurd (omega arith)
-added-to (refused answer) adds_uniform h = absurd (omega arith)
-added-to kept adds_learner h = absurd (omega arith)
-added-to kept adds_joint h = absurd (omega arith)
-added-to kept adds_uniform h = absurd (omega arith)
-added-to (moves adds_learner) adds_learner h = refl
-added-to (moves adds_learner) adds_joint h = absurd (omega arith)
-added-to (moves adds_learner) adds_uniform h = absurd (omega arith)
-added-to (moves adds_joint) adds_learner h = absurd (omega arith)
-added-to (moves adds_joint) adds_joint h = refl
-added-to (moves adds_joint) adds_uniform h = absurd (omega arith)
-added-to (moves adds_uniform) adds_learner h = absurd (omega arith)
-added-to (moves adds_uniform) adds_joint h = absurd (omega arith)
-added-to (moves adds_uniform) adds_uniform h = refl
-
-pub added_none : (make : Addition → VoterSlotTable) (t : VoterSlotTable) (v : Verdict Addition)
-    → (route_of_observed v ≡ 1 → ⊥) → (route_of_observed v ≡ 2 → ⊥) → (route_of_observed v ≡ 3 → ⊥) → ◌≡◌ {A = Answer × VoterSlotTable} (answer_of_observed v, t) (carried make t v)
-unfolding carried
-added_none make t (refused answer) a b c = refl
-added_none make t kept a b c = refl
-added_none make t (moves adds_learner) a b c = absurd (a refl)
-added_none make t (moves adds_joint) a b c = absurd (b refl)
-added_none make t (moves adds_uniform) a b c = absurd (c refl)

@@ -3,7 +3,7 @@
 -- Definitions for the contracts of `sets`; what is right is said in Observation. From the sets of
 -- `observe_membership` of control.rs, without a BTreeSet.
 -- Assumes nothing.
-use Rattle.std.specs.Prelude.{ℕ, zero, suc, ◌-◌, ◌^◌, Bool, cond, not, ◌&&◌, List, ◌∷◌, [], ◌++◌, map, eqb, ltb, length, take, drop, get_or}
+use Rattle.std.specs.Prelude.{Option, Some, None, ℕ, zero, suc, ◌-◌, ◌^◌, Bool, cond, not, ◌&&◌, List, ◌∷◌, [], ◌++◌, map, eqb, ltb, length, take, drop, get_or}
 use Rattle.identity.specs.Conditions.{◌and◌}
 use Rattle.records.specs.declared.records.VoterConfiguration.{VoterConfiguration}
 use Rattle.records.specs.declared.records.VoterSlotTable.{VoterSlotTable}
@@ -14,10 +14,10 @@ use Rattle.control.specs.Observation.{contains, is_subset, member_node}
 abbrev pub no_id : ℕ
 no_id = 2 ^ 64 - 1
 
--- the first of a list, or no id
-unfoldable pub first_of : List ℕ → ℕ
-first_of [] = no_id
-first_of (x ∷ l) = x
+-- the first of a list, if there is one
+unfoldable pub first_of : List ℕ → Option ℕ
+first_of [] = None
+first_of (x ∷ l) = Some x
 
 -- the least of `least` and the ids of a list that are not old
 unfoldable pub least_new : List ℕ → List ℕ → ℕ → ℕ

@@ -3,13 +3,12 @@
 -- Definitions for the contracts of `observe`; what is right is said in Observation and Judgement,
 -- and ObserveSightLaws and ObserveLaws say that this is the same.
 -- Assumes nothing.
-use Rattle.std.specs.Prelude.{ℕ, ◌+◌, ◌<◌, ◌≤◌, ◌≡◌, Bool, cond, false, not, true, ◌&&◌, ◌||◌, List, ◌∷◌, [], eqb, leb, ltb, length}
+use Rattle.std.specs.Prelude.{Option, Some, None, is_none, Result, Ok, Err, ℕ, ◌+◌, ◌<◌, ◌≤◌, ◌≡◌, Bool, cond, false, not, true, ◌&&◌, ◌||◌, List, ◌∷◌, [], eqb, leb, ltb, length}
 use Rattle.identity.specs.Conditions.{◌and◌}
 use Rattle.identity.specs.Identity.{from_node_id}
-use Rattle.identity.specs.Answer.{is_accepted}
+use Rattle.identity.specs.Answer.{is_accepted, Answer, Accepted, InvalidTransition, NotRising, RevisionExhausted, Unrepresentable}
 use Rattle.identity.specs.Text.{every}
-use Rattle.identity.specs.declared.answer.Answer.{Answer}
-use Rattle.identity.specs.declared.answer.Answer.TheVariants.{Accepted, InvalidTransition, NotRising, RevisionExhausted, Unrepresentable}
+use Rattle.identity.specs.declared.answer.Refusal.{Refusal}
 use Rattle.records.specs.declared.records.VoterReplacementRecord.{VoterReplacementRecord}
 use Rattle.records.specs.declared.records.VoterSlotLogId.{VoterSlotLogId}
 use Rattle.records.specs.declared.records.VoterSlotTable.{VoterSlotTable}
@@ -17,7 +16,7 @@ use Rattle.records.specs.Records.{max_fixed_voter_slots, joint, learner_added, s
 use Rattle.records.specs.Representable.{representable}
 use Rattle.records.specs.Validation.{validity}
 use Rattle.control.specs.declared.observe.Observed.{Observed}
-use Rattle.control.specs.declared.observe.Observed.TheVariants.{Refuse, Keep, AddLearner, AddJoint, AddUniform}
+use Rattle.control.specs.declared.observe.Observed.TheVariants.{Keep, AddLearner, AddJoint, AddUniform}
 use Rattle.control.specs.declared.observe.Seen.{Seen}
 use Rattle.control.specs.declared.observe.Seen.TheVariants.{Strange, NothingNew, NewLearner, NewJoint, NewUniform}
 use Rattle.control.specs.declared.observe.SetTests.{SetTests}
@@ -39,27 +38,19 @@ sight_of NewLearner = new_learner
 sight_of NewJoint = new_joint
 sight_of NewUniform = new_uniform
 
--- `Observed`
-abbrev pub verdict_of_observed : Observed → Verdict Addition
-verdict_of_observed (Refuse answer) = refused answer
-verdict_of_observed Keep = kept
-verdict_of_observed AddLearner = moves adds_learner
-verdict_of_observed AddJoint = moves adds_joint
-verdict_of_observed AddUniform = moves adds_uniform
+-- a refusal, or `Observed`
+abbrev pub verdict_of_observed : Result Observed Refusal → Verdict Addition
+verdict_of_observed (Err refusal) = refused (Err refusal)
+verdict_of_observed (Ok Keep) = kept
+verdict_of_observed (Ok AddLearner) = moves adds_learner
+verdict_of_observed (Ok AddJoint) = moves adds_joint
+verdict_of_observed (Ok AddUniform) = moves adds_uniform
 
 -- the answer
 abbrev pub answer_of_observed : Verdict Addition → Answer
 answer_of_observed (refused answer) = answer
 answer_of_observed kept = Accepted
 answer_of_observed (moves m) = Accepted
-
--- the number by which the code chooses what is made, 0 for nothing
-abbrev pub route_of_observed : Verdict Addition → ℕ
-route_of_observed (refused answer) = 0
-route_of_observed kept = 0
-route_of_observed (moves adds_learner) = 1
-route_of_observed (moves adds_joint) = 2
-route_of_observed (moves adds_uniform) = 3
 
 -- ---- the sight
 
@@ -95,15 +86,16 @@ tests_of phase old new ids counts nodes known lingers =
     }
 
 -- a node that neither has, or none, may stay
-abbrev pub lingers_as : VoterReplacementRecord → ℕ → Bool
-lingers_as op node = eqb node no_id || is_obsolete op (from_node_id node)
+abbrev pub lingers_as : VoterReplacementRecord → Option ℕ → Bool
+lingers_as op None = true
+lingers_as op (Some node) = is_obsolete op (from_node_id node)
 
 -- the whole, where `old` and `new` are the ids of the members of the predecessor and of the
 -- successor
 abbrev pub seen_of : VoterReplacementRecord → (old new ids counts nodes : List ℕ) → Sight
 seen_of op old new ids counts nodes =
     let outside = first_of (difference nodes (union_ids old new)) in
-    seen_by op.phase (tests_of op.phase old new ids counts nodes (eqb outside no_id) (lingers_as op outside))
+    seen_by op.phase (tests_of op.phase old new ids counts nodes (is_none outside) (lingers_as op outside))
 
 -- ---- what the tests of the sets ask for
 

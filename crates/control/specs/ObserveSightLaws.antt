@@ -2,10 +2,12 @@
 -- repeats, hold what the sets hold, and the tests of the code are those of the definition. The laws
 -- that count are `see-is`, of an open request, and `idle-is`, of none.
 -- Assumes nothing.
-use Prim.Native.Nat.{ℕ, zero, suc, ◌+◌, ◌-◌, ◌*◌, ◌<◌, ◌≤◌, ◌^◌}
+use Rattle.std.specs.Option.{unwrap_or}
+use Rattle.std.specs.Prelude.{Option, is_none, Ok, Err, ◌≡◌, Bool, ◌&&◌, ◌||◌, length, take, drop, get_or}
+use Rattle.identity.specs.Answer.{Answer, is_accepted}
+use Prim.Native.Nat.{ℕ, zero, suc, ◌+◌, ◌-◌, ◌*◌, ◌<◌, ◌≤◌}
 use Rattle.std.proofs.Math.Path.{refl, sym}
 use Rattle.std.proofs.Common.{ap, ◌∙◌, length-append, length-drop, take_all}
-use Rattle.std.specs.Prelude.{◌≡◌, Bool, ◌&&◌, ◌||◌, length, take, drop, get_or}
 use Rattle.std.proofs.Math.Bool.{true, false, cond, not, or_comm, or-false, and_assoc, and-true, and-false}
 use Rattle.std.proofs.lemmas.Bool.{false≢true}
 use mathlib.Core.List.{List, ◌∷◌, [], ◌++◌}
@@ -13,22 +15,19 @@ use native.Mathlib.Omega.{arith}
 use Rattle.std.proofs.Math.Dec.{eqb, leb, ltb}
 use Rattle.std.proofs.lemmas.List.{take-append-le}
 use borrow.Author.Tests.{eqb-true, eqb-false, eq-eqb, ne_eqb, ltb-true, ltb-false, leb-true, leb-false, not-true}
-use Rattle.identity.specs.Answer.{is_accepted}
-use Rattle.identity.specs.Identity.{max_consensus_node_id, from_node_id, node_id, node_id_span, validate_voter_slot_identity, value_of_number}
+use Rattle.identity.specs.Identity.{node_id, node_id_span, passed_with, validate_voter_slot_identity, value_of_number}
 use Rattle.identity.proofs.IdentityLaws.{identity-sound}
 use Rattle.identity.specs.Text.{every}
 use Rattle.identity.specs.Utf8Laws.{and_left, and_right}
-use Rattle.identity.specs.declared.identity.NumberResult.{NumberResult}
 use Rattle.records.specs.declared.records.VoterConfiguration.{VoterConfiguration}
 use Rattle.records.specs.declared.records.VoterReplacementRecord.{VoterReplacementRecord}
 use Rattle.records.specs.declared.records.VoterSlotMember.{VoterSlotMember}
 use Rattle.records.specs.declared.records.VoterSlotTable.{VoterSlotTable}
-use Rattle.records.specs.Equality.{eq_list}
 use Rattle.records.specs.EqualityLaws.{eq_bytes-true}
 use Rattle.records.specs.Records.{joint, member_at, uniform}
 use Rattle.records.specs.TestLaws.{cond-false, cond-true, either_way}
 use Rattle.control.specs.Control.{current_configuration}
-use Rattle.control.specs.Observation.{Sight, all_rising, contains, difference, eq_ids, eq_sets, insert_id, is_held_node_id, is_obsolete, is_rising, is_subset, may_linger, member_ids, member_ids_below, member_node, new_ids, see, see_from, see_phase, see_predecessor, see_sets, split_sets, total, union_ids}
+use Rattle.control.specs.Observation.{Sight, all_rising, contains, difference, eq_ids, eq_sets, insert_id, is_rising, is_subset, may_linger, member_ids, member_ids_below, member_node, new_ids, see, see_from, see_phase, see_predecessor, see_sets, split_sets, total, union_ids}
 use Rattle.control.specs.Observation.Sight.{new_joint, new_uniform, strange}
 use Rattle.control.specs.ObserveSets.{are_two_sets, first_of, is_one_set, least_new, listed, no_id, same_ids, slot_members}
 use Rattle.control.specs.ObserveSetsLaws.{contains-append}
@@ -41,12 +40,12 @@ use Rattle.control.specs.declared.observe.SetTests.{SetTests}
 -- no member has the id that stands for none
 node-below : (m : VoterSlotMember) → member_node m < no_id
 unfolding node_id
-node-below m = by (is_accepted (validate_voter_slot_identity m.identity)) refl
+node-below m = by (validate_voter_slot_identity m.identity) refl
   where
-    by : (b : Bool) → is_accepted (validate_voter_slot_identity m.identity) ≡ b
-        → value_of_number (cond b (NumberResult.Ok ((m.identity.incarnation - 1) * node_id_span + m.identity.slot)) (NumberResult.Err (validate_voter_slot_identity m.identity))) < no_id
-    by true e = let s = identity-sound m.identity e in omega (arith, s.incarnation.below, s.slot.below)
-    by false e = omega arith
+    by : (a : Answer) → validate_voter_slot_identity m.identity ≡ a
+        → value_of_number (passed_with a ((m.identity.incarnation - 1) * node_id_span + m.identity.slot)) < no_id
+    by (Ok nothing) e = let s = identity-sound m.identity (ap is_accepted e) in omega (arith, s.incarnation.below, s.slot.below)
+    by (Err refusal) e = omega arith
 
 pub length-listed : (c : VoterConfiguration) (n : ℕ) → length (listed c n) ≡ n
 unfolding listed
@@ -158,7 +157,7 @@ difference-same (x ∷ a) b c s = λ i. cond (s x i) (difference-same a b c s i)
 -- ---- the sets that are supplied
 
 split_one : (ids counts set : List ℕ) → total counts ≡ length ids → eq_sets (split_sets ids counts) (set ∷ []) ≡ (eqb (length counts) 1 && eq_ids ids set)
-unfolding split_sets total eq_list
+unfolding split_sets total
 split_one ids [] set h = refl
 split_one ids (n ∷ []) set h =
     and-true (eq_ids (take n ids) set)
@@ -169,7 +168,7 @@ split_one ids (n ∷ (m ∷ l)) set h =
 split-two : (ids counts a b : List ℕ) → total counts ≡ length ids
     → eq_sets (split_sets ids counts) (a ∷ (b ∷ []))
     ≡ (eqb (length counts) 2 && (eq_ids (take (get_or counts 0 0) ids) a && eq_ids (drop (get_or counts 0 0) ids) b))
-unfolding split_sets total eq_list
+unfolding split_sets total
 split-two ids [] a b h = refl
 split-two ids (n ∷ []) a b h =
     and-false (eq_ids (take n ids) a) ∙ sym (ap (λ (t : Bool). t && (eq_ids (take n ids) a && eq_ids (drop n ids) b)) (ne_eqb (length (n ∷ [])) 2 (λ e. omega arith)))
@@ -223,42 +222,19 @@ module _ (ids counts : List ℕ) (counted : total counts ≡ length ids) (rising
 
 -- ---- nodes that neither configuration has
 
-held-says : (l : List ℕ) → every is_held_node_id l ≡ true → (x : ℕ) → contains x l ≡ true → x < 2 ^ 63
-unfolding every contains
-held-says [] h x c = absurd (false≢true c)
-held-says (y ∷ l) h x c = by (eqb x y) refl c (held-says l (and_right (is_held_node_id y) (every is_held_node_id l) h) x)
-  where
-    by : (d : Bool) → eqb x y ≡ d → (d || contains x l) ≡ true → (contains x l ≡ true → x < 2 ^ 63) → x < 2 ^ 63
-    by true e k f =
-        let q = eqb-true x y e in
-        let z = leb-true y max_consensus_node_id (and_left (is_held_node_id y) (every is_held_node_id l) h) in
-        omega arith
-    by false e k f = f k
-
-none-outside : (a b : List ℕ) → every is_held_node_id a ≡ true → is_subset a b ≡ eqb (first_of (difference a b)) no_id
+none-outside : (a b : List ℕ) → is_subset a b ≡ is_none (first_of (difference a b))
 unfolding every difference first_of
-none-outside [] b h = sym (eq-eqb no_id no_id refl)
-none-outside (x ∷ a) b h = by (contains x b) (none-outside a b (and_right (is_held_node_id x) (every is_held_node_id a) h))
+none-outside [] b = refl
+none-outside (x ∷ a) b = by (contains x b) (none-outside a b)
   where
-    by : (d : Bool) → is_subset a b ≡ eqb (first_of (difference a b)) no_id
-        → (d && is_subset a b) ≡ eqb (first_of (cond d (difference a b) (x ∷ difference a b))) no_id
+    by : (d : Bool) → is_subset a b ≡ is_none (first_of (difference a b)) → (d && is_subset a b) ≡ is_none (first_of (cond d (difference a b) (x ∷ difference a b)))
     by true ih = ih
-    by false ih =
-        let z = leb-true x max_consensus_node_id (and_left (is_held_node_id x) (every is_held_node_id a) h) in
-        sym (ne_eqb x no_id (λ e. omega arith))
+    by false ih = refl
 
-lingers-are : (op : VoterReplacementRecord) (nodes b : List ℕ) → every is_held_node_id nodes ≡ true
-    → may_linger op (difference nodes b) ≡ lingers_as op (first_of (difference nodes b))
+lingers-are : (op : VoterReplacementRecord) (d : List ℕ) → may_linger op d ≡ lingers_as op (first_of d)
 unfolding may_linger first_of
-lingers-are op nodes b h =
-    by (difference nodes b)
-    (λ x c. held-says nodes h x (and_left (contains x nodes) (not (contains x b)) (sym (contains-difference x nodes b) ∙ c)))
-  where
-    by : (d : List ℕ) → ((x : ℕ) → contains x d ≡ true → x < 2 ^ 63) → may_linger op d ≡ lingers_as op (first_of d)
-    by [] f = sym (ap (λ (t : Bool). t || is_obsolete op (from_node_id no_id)) (eq-eqb no_id no_id refl))
-    by (x ∷ d) f =
-        let z = f x (holds-head x d) in
-        sym (ap (λ (t : Bool). t || is_obsolete op (from_node_id x)) (ne_eqb x no_id (λ e. omega arith)))
+lingers-are op [] = refl
+lingers-are op (x ∷ d) = refl
 
 -- ---- the least new id
 
@@ -320,7 +296,7 @@ module _ (old : List ℕ) where
 
   -- the least of a list is the first of the rising list that holds the same
   least_first : (l d : List ℕ) → is_rising d ≡ true → ((x : ℕ) → contains x d ≡ (contains x l && not (contains x old))) → ((x : ℕ) → contains x l ≡ true → x < no_id)
-      → least_new old l no_id ≡ first_of d
+      → least_new old l no_id ≡ unwrap_or (first_of d) no_id
   unfolding first_of contains
   least_first l [] p h f = by (eqb (least_new old l no_id) no_id) refl
     where
@@ -352,11 +328,11 @@ module _ (op : VoterReplacementRecord) (ids counts nodes : List ℕ) (s : Suppli
   abbrev news : List ℕ
   news = listed op.successor op.successor.count
 
-  abbrev outside : ℕ
+  abbrev outside : Option ℕ
   outside = first_of (difference nodes (union_ids olds news))
 
   abbrev tests : SetTests
-  tests = tests_of op.phase olds news ids counts nodes (eqb outside no_id) (lingers_as op outside)
+  tests = tests_of op.phase olds news ids counts nodes (is_none outside) (lingers_as op outside)
 
   same_old : Same olds (member_ids op.predecessor)
   same_old = listed_same op.predecessor op.predecessor.count
@@ -370,7 +346,7 @@ module _ (op : VoterReplacementRecord) (ids counts nodes : List ℕ) (s : Suppli
   new-rises : is_rising (member_ids op.successor) ≡ true
   new-rises = rising-ids op.successor op.successor.count
 
-  is-least : least_new olds news no_id ≡ first_of (new_ids op)
+  is-least : least_new olds news no_id ≡ unwrap_or (first_of (new_ids op)) no_id
   is-least =
       let old = member_ids op.predecessor in
       let new = member_ids op.successor in
@@ -396,7 +372,7 @@ module _ (op : VoterReplacementRecord) (ids counts nodes : List ℕ) (s : Suppli
       let old = member_ids op.predecessor in
       let new = member_ids op.successor in
       ap (may_linger op) (difference-same nodes (union_ids old new) (union_ids olds news) (λ x. sym (both-same olds old news new same_old same_new x)))
-      ∙ lingers-are op nodes (union_ids olds news) s.held
+      ∙ lingers-are op (difference nodes (union_ids olds news))
 
   see-old : (candidate : ℕ) → eq_sets (split_sets ids counts) (member_ids op.predecessor ∷ []) ≡ true
       → see_predecessor op candidate nodes ≡ seen_old op.phase tests.fits_old (contains candidate nodes)
@@ -413,7 +389,7 @@ module _ (op : VoterReplacementRecord) (ids counts nodes : List ℕ) (s : Suppli
       let old = member_ids op.predecessor in
       let new = member_ids op.successor in
       let e0 = two-sets ids counts s.counted s.rising old new olds news old-rises new-rises same_old same_new in
-      let e1 = subset_right nodes (union_ids old new) (union_ids olds news) (λ x. sym (both-same olds old news new same_old same_new x)) ∙ none-outside nodes (union_ids olds news) s.held in
+      let e1 = subset_right nodes (union_ids old new) (union_ids olds news) (λ x. sym (both-same olds old news new same_old same_new x)) ∙ none-outside nodes (union_ids olds news) in
       let e2 = subset-union old new nodes ∙ (λ i. sym (subset_left olds old nodes same_old) i && sym (subset_left news new nodes same_new) i) in
       λ i. e0 i && (sets-equal nodes (union_ids old new) s.nodes-rise (rising-union old new new-rises) ∙ (λ j. e1 j && e2 j)) i
 
@@ -449,7 +425,7 @@ module _ (op : VoterReplacementRecord) (ids counts nodes : List ℕ) (s : Suppli
       all : ℕ → Sight
       all candidate = cond tests.is_old (seen_old op.phase tests.fits_old (contains candidate nodes)) rest
 
-      by : (d : List ℕ) → least ≡ first_of d → ((x : ℕ) → contains x d ≡ true → x < no_id) → see_from op d (split_sets ids counts) nodes ≡ cond (eqb least no_id) strange (all least)
+      by : (d : List ℕ) → least ≡ unwrap_or (first_of d) no_id → ((x : ℕ) → contains x d ≡ true → x < no_id) → see_from op d (split_sets ids counts) nodes ≡ cond (eqb least no_id) strange (all least)
       by [] e f = sym (cond-true (eqb least no_id) strange (all least) (eq-eqb least no_id e))
       by (y ∷ d) e f =
           let z = f y (holds-head y d) in

@@ -5,7 +5,7 @@
 use Rattle.std.specs.Prelude.{ℕ, ◌<◌, refl, ◌≡◌, Bool, true, false, not, ◌&&◌, eqb, ltb}
 use Rattle.std.proofs.Common.{sym, ap, ◌∙◌, arith, eqb-true, ltb-false, ltb-true, eq-eqb, ne_eqb}
 use Rattle.std.proofs.lemmas.Bool.{false≢true}
-use Rattle.identity.specs.declared.answer.Answer.TheVariants.{Accepted}
+use Rattle.identity.specs.Answer.{Accepted}
 use Rattle.records.specs.declared.records.VoterSlotTable.{VoterSlotTable}
 use Rattle.records.specs.Records.{slot_at, member_at}
 use Rattle.records.specs.Validation.{is_active, claims_of, has_target, validity, validate}

@@ -30,7 +30,7 @@
 -- `is_retired` is the retired test's yes on a valid table (`valid-yes` of RetiredLaws).
 -- Assumes nothing.
 use Rattle.std.specs.Prelude.{ℕ, ◌+◌, ◌*◌, ◌≤◌, ◌<◌, ◌≡◌, Bool, true, false, cond, not, ◌&&◌, ◌||◌, List, [], ◌∷◌, ◌⊎◌, ◌↔◌, length, eqb, ltb}
-use Rattle.identity.specs.declared.answer.Answer.TheVariants.{Accepted}
+use Rattle.identity.specs.Answer.{Accepted}
 use Rattle.records.specs.Held.{HeldVoterSlotTable}
 use Rattle.records.specs.Records.{joint, uniform, member_at}
 use Rattle.records.specs.Validation.{validate}

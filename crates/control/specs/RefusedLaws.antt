@@ -6,8 +6,7 @@
 use Rattle.std.specs.Prelude.{ℕ, refl, ◌≡◌, false, ◌&&◌, List}
 use Rattle.std.proofs.Common.{sym}
 use Rattle.std.proofs.lemmas.Bool.{false≢true}
-use Rattle.identity.specs.Answer.{is_accepted}
-use Rattle.identity.specs.declared.answer.Answer.{Answer}
+use Rattle.identity.specs.Answer.{is_accepted, Answer}
 use Rattle.records.specs.declared.records.VoterSlotLogId.{VoterSlotLogId}
 use Rattle.records.specs.declared.records.VoterSlotTable.{VoterSlotTable}
 use Rattle.records.specs.Evidence.{valid_log_id}

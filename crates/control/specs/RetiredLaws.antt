@@ -4,19 +4,17 @@
 -- retired test says yes exactly where `is_retired` does, on every valid table: `test-yes`,
 -- `valid-yes`; and its number tells its cases apart: `number-tells`.
 -- Assumes nothing.
-use Rattle.std.specs.Prelude.{ℕ, ◌<◌, ◌≤◌, ◌↔◌, refl, ◌≡◌, Bool, false, cond}
+use Rattle.identity.specs.AnswerLaws.{number-small, number-injective}
+use Rattle.std.specs.Prelude.{Result, Ok, Err, ℕ, ◌<◌, ◌≤◌, ◌↔◌, refl, ◌≡◌, Bool, false}
 use Rattle.std.proofs.Common.{sym, ap, ◌∙◌, eq-eqb, le-leb}
 use Rattle.std.proofs.Math.Bool.{true, not}
 use native.Mathlib.Omega.{arith}
 use Rattle.identity.specs.Identity.{is_slot_id, is_voter_incarnation, validate_voter_incarnation, validate_voter_slot_identity, node_id, from_node_id, value_of_number}
 use Rattle.identity.proofs.IdentityLaws.{read_made}
-use Rattle.identity.specs.Answer.{number_of}
-use Rattle.identity.specs.AnswerLaws.{number-injective}
-use Rattle.identity.specs.declared.answer.Answer.{Answer}
-use Rattle.identity.specs.declared.answer.Answer.TheVariants.{Accepted, InvalidSlot, InvalidIncarnation, IncarnationExhausted, FreshInstallationRequired, TooLarge, InvalidRecord, Regression, InvalidLossEvidence, StaleIncarnation, IdempotencyConflict, ReplacementInProgress, NoSurvivingQuorum, ReplacementPastFence, ConfigurationEpochExhausted, RevisionExhausted, InvalidTransition, Unrepresentable, NotRising, BufferTooShort, BadRecord}
-use Rattle.identity.specs.declared.identity.NumberResult.{NumberResult}
+use Rattle.identity.specs.Answer.{number_of, Answer, Accepted}
+use Rattle.identity.specs.declared.answer.Refusal.{Refusal}
+use Rattle.identity.specs.declared.answer.Refusal.TheVariants.{Unrepresentable}
 use Rattle.identity.specs.declared.identity.VoterSlotIdentity.{VoterSlotIdentity}
-use Rattle.identity.specs.declared.identity.VoterSlotIdentityResult.{VoterSlotIdentityResult}
 use Rattle.records.specs.declared.records.VoterSlotTable.{VoterSlotTable}
 use Rattle.records.specs.Records.{slot_at, member_at}
 use Rattle.records.specs.Validation.{claims_of, validate}
@@ -24,8 +22,6 @@ use Rattle.records.specs.Representable.{representable}
 use Rattle.records.specs.TestLaws.{says, and_both, some_below, cond-true}
 use Rattle.records.specs.ValidParts.{member-number, member-target, valid-parts}
 use Rattle.records.specs.RepresentableParts.{member_is, member-fits}
-use Rattle.control.specs.declared.retired.Retirement.{Retirement}
-use Rattle.control.specs.declared.retired.Retirement.TheVariants.{NotRetired, Retired, Refused}
 use Rattle.control.specs.Control.{target_index}
 use Rattle.control.specs.Observation.{member_node}
 use Rattle.control.specs.Retired.{is_below_floor, is_retired_identity, is_retired, retired_test, retired_number}
@@ -34,69 +30,50 @@ use Rattle.control.specs.OpenLaws.{Open, open-of-valid}
 -- ---- the whole test
 
 -- a table that is not refused
-pub test-says : (t : VoterSlotTable) (node : ℕ) → representable t ≡ true → retired_test t node ≡ cond (is_retired t node) Retired NotRetired
+pub test-says : (t : VoterSlotTable) (node : ℕ) → representable t ≡ true → retired_test t node ≡ Ok (is_retired t node)
 unfolding retired_test
-test-says t node h = cond-true (representable t) (cond (is_retired t node) Retired NotRetired) (Refused Unrepresentable) h
+test-says t node h = cond-true (representable t) (Ok (is_retired t node)) (Err Unrepresentable) h
 
-pub test-yes : (t : VoterSlotTable) (node : ℕ) → representable t ≡ true → (retired_test t node ≡ Retired) ↔ (is_retired t node ≡ true)
-test-yes t node h = ((λ e. only (is_retired t node) (sym (test-says t node h) ∙ e)), λ e. test-says t node h ∙ cond-true (is_retired t node) Retired NotRetired e)
+pub test-yes : (t : VoterSlotTable) (node : ℕ) → representable t ≡ true → (retired_test t node ≡ Ok true) ↔ (is_retired t node ≡ true)
+test-yes t node h = ((λ e. ap says-yes (sym (test-says t node h) ∙ e)), λ e. test-says t node h ∙ ap Ok e)
   where
-    only : (b : Bool) → cond b Retired NotRetired ≡ Retired → b ≡ true
-    only true e = refl
-    only false e = absurd (let n : ◌≡◌ {A = ℕ} 100 101 = ap retired_number e in omega arith)
+    says-yes : Result Bool Refusal → Bool
+    says-yes (Ok b) = b
+    says-yes (Err refusal) = false
 
 -- so of every table of a line of history
-pub valid-yes : (t : VoterSlotTable) (node : ℕ) → validate t ≡ Accepted → (retired_test t node ≡ Retired) ↔ (is_retired t node ≡ true)
+pub valid-yes : (t : VoterSlotTable) (node : ℕ) → validate t ≡ Accepted → (retired_test t node ≡ Ok true) ↔ (is_retired t node ≡ true)
 valid-yes t node v = test-yes t node (valid-parts t v).0
 
 -- ---- its number leaves one case
 
-low : (a : Answer) → number_of a < 100
-low Accepted = omega arith
-low InvalidSlot = omega arith
-low InvalidIncarnation = omega arith
-low IncarnationExhausted = omega arith
-low FreshInstallationRequired = omega arith
-low TooLarge = omega arith
-low InvalidRecord = omega arith
-low Regression = omega arith
-low InvalidLossEvidence = omega arith
-low StaleIncarnation = omega arith
-low IdempotencyConflict = omega arith
-low ReplacementInProgress = omega arith
-low NoSurvivingQuorum = omega arith
-low ReplacementPastFence = omega arith
-low ConfigurationEpochExhausted = omega arith
-low RevisionExhausted = omega arith
-low InvalidTransition = omega arith
-low Unrepresentable = omega arith
-low NotRising = omega arith
-low BufferTooShort = omega arith
-low BadRecord = omega arith
-
 no_answer : (a : Answer) (n : ℕ) → 100 ≤ n → n ≡ number_of a → ⊥
-no_answer a n h e = let l = low a in omega arith
+no_answer a n h e = let l = number-small a in omega arith
 
-pub number-tells : (x y : Retirement) → retired_number x ≡ retired_number y → x ≡ y
-number-tells NotRetired NotRetired e = refl
-number-tells NotRetired Retired e = absurd (omega arith)
-number-tells NotRetired (Refused b) e = absurd (no_answer b 100 (omega arith) e)
-number-tells Retired NotRetired e = absurd (omega arith)
-number-tells Retired Retired e = refl
-number-tells Retired (Refused b) e = absurd (no_answer b 101 (omega arith) e)
-number-tells (Refused a) NotRetired e = absurd (no_answer a 100 (omega arith) (sym e))
-number-tells (Refused a) Retired e = absurd (no_answer a 101 (omega arith) (sym e))
-number-tells (Refused a) (Refused b) e = ap Refused (number-injective a b e)
+abbrev refused-as : Answer → Result Bool Refusal
+refused-as (Ok nothing) = Ok false
+refused-as (Err refusal) = Err refusal
+
+pub number-tells : (x y : Result Bool Refusal) → retired_number x ≡ retired_number y → x ≡ y
+number-tells (Ok false) (Ok false) e = refl
+number-tells (Ok false) (Ok true) e = absurd (omega arith)
+number-tells (Ok false) (Err b) e = absurd (no_answer (Err b) 100 (omega arith) e)
+number-tells (Ok true) (Ok false) e = absurd (omega arith)
+number-tells (Ok true) (Ok true) e = refl
+number-tells (Ok true) (Err b) e = absurd (no_answer (Err b) 101 (omega arith) e)
+number-tells (Err a) (Ok false) e = absurd (no_answer (Err a) 100 (omega arith) (sym e))
+number-tells (Err a) (Ok true) e = absurd (no_answer (Err a) 101 (omega arith) (sym e))
+number-tells (Err a) (Err b) e = ap refused-as (number-injective (Err a) (Err b) e)
 
 -- ---- a node id that is made is read again
 
 is_made : (identity : VoterSlotIdentity) → is_slot_id identity.slot ≡ true → is_voter_incarnation identity.incarnation ≡ true
-    → node_id identity ≡ NumberResult.Ok (value_of_number (node_id identity))
+    → node_id identity ≡ Ok (value_of_number (node_id identity))
 unfolding node_id validate_voter_slot_identity validate_voter_incarnation
 is_made identity s i = rw (s, i)
 
 pub node-read : (identity : VoterSlotIdentity) → is_slot_id identity.slot ≡ true → is_voter_incarnation identity.incarnation ≡ true
-    → from_node_id (value_of_number (node_id identity)) ≡ VoterSlotIdentityResult.Ok identity
+    → from_node_id (value_of_number (node_id identity)) ≡ Ok identity
 node-read identity s i = read_made identity (value_of_number (node_id identity)) (is_made identity s i)
 
 module _ (t : VoterSlotTable) (v : validate t ≡ Accepted) (is_open : t.has_replacement ≡ true) where

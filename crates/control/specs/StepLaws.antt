@@ -8,9 +8,8 @@ use Rattle.std.proofs.Common.{subst, ap₂, sym, ◌∙◌, arith}
 use Rattle.std.proofs.Math.Path.{refl, ap}
 use Rattle.std.proofs.Math.Bool.{true, not, and-true}
 use borrow.Author.Tests.{eqb-true, eqb-false, le-leb, ne_eqb, eq-eqb}
-use Rattle.identity.specs.Answer.{is_accepted}
+use Rattle.identity.specs.Answer.{is_accepted, Accepted}
 use Rattle.identity.specs.Identity.{is_configuration_epoch}
-use Rattle.identity.specs.declared.answer.Answer.TheVariants.{Accepted}
 use Rattle.records.specs.declared.records.VoterSlotLogId.{VoterSlotLogId}
 use Rattle.records.specs.declared.records.VoterSlotMember.{VoterSlotMember}
 use Rattle.records.specs.declared.records.VoterSlotRecord.{VoterSlotRecord}

@@ -3,17 +3,22 @@
 -- Each name here is a step of a proof; what is right is said in Control, and how code decides it in
 -- Judgement.
 -- Assumes nothing.
-use Rattle.std.specs.Prelude.{ℕ, ◌<◌, ◌≤◌, ◌≡◌, Bool, not, ◌&&◌, ◌||◌, List}
+use Rattle.std.specs.Bool.{then_some}
+use Rattle.std.specs.Option.{ok_or}
+use Rattle.std.specs.Result.{result_and}
+use Rattle.std.specs.Prelude.{Result, Ok, Err, ℕ, ◌<◌, ◌≤◌, ◌≡◌, Bool, not, ◌&&◌, ◌||◌, List}
+use Rattle.identity.specs.declared.answer.Refusal.{Refusal}
+use Rattle.identity.specs.declared.answer.Refusal.TheVariants as refusal
+use Rattle.control.specs.declared.judge.Judged.{Judged}
+use Rattle.control.specs.declared.judge.Judged.TheVariants as code
 use Rattle.std.proofs.Math.Path.{refl}
 use Rattle.std.proofs.Common.{sym, ap, ◌∙◌, eq-eqb}
 use Rattle.std.proofs.Math.Bool.{cond, false, true, false≢true}
 use Rattle.std.proofs.Math.Dec.{eqb, leb, ltb}
-use Rattle.identity.specs.declared.answer.Answer.{Answer}
-use Rattle.identity.specs.declared.answer.Answer.TheVariants.{Accepted, InvalidTransition, StaleIncarnation, Unrepresentable}
+use Rattle.identity.specs.Answer.{Answer, Accepted, InvalidTransition, StaleIncarnation, Unrepresentable, is_accepted}
 use Rattle.records.specs.declared.records.VoterSlotLogId.{VoterSlotLogId}
 use Rattle.records.specs.declared.records.VoterSlotTable.{VoterSlotTable}
 use Rattle.records.specs.Equality.{eq_bytes, same_voter_slot_log_id, same_voter_snapshot_evidence}
-use Rattle.identity.specs.Answer.{is_accepted}
 use Rattle.identity.specs.Utf8Laws.{and_left}
 use Rattle.records.specs.Evidence.{follows, valid_log_id}
 use Rattle.records.specs.Representable.{representable}
@@ -32,7 +37,7 @@ use Rattle.control.specs.Judgement.Move.{begins, records_snapshot, records_caugh
 use Rattle.control.specs.OpenLaws.{open-of-valid}
 use Rattle.records.specs.RepresentableLaws.{representable-count}
 use Rattle.control.specs.declared.control.VoterAdvance.{VoterAdvance}
-use Rattle.control.specs.Verdicts.{advance_in, advance_outcome, answer_of, applied_of, checked_of, entry_verdict, judge_of, paired, route_of, step_made}
+use Rattle.control.specs.Verdicts.{advance_in, advance_outcome, applied_of, checked_of, entry_verdict, judge_of, paired, route_of, step_made, verdict_of}
 
 -- ---- what is made
 
@@ -181,16 +186,24 @@ module _ (t : VoterSlotTable) (c : VoterSlotControl) (cut : VoterSlotLogId) wher
   unfolding judge
   begin-begins e = begin-by (eqb c.kind begin_kind) (eqb c.kind advance_kind) e
 
+-- ---- what the code's picks come to
+
+-- a refusal, or else what comes next
+pub and-judged : (a : Answer) (next : Result Judged Refusal) → verdict_of (result_and a next) ≡ cond (is_accepted a) (verdict_of next) (refused a)
+and-judged (Ok nothing) next = refl
+and-judged (Err e) next = refl
+
+-- a Begin, or else 25
+pub change-judged : (b : Bool) → verdict_of (ok_or (then_some b code.Begin) refusal.InvalidTransition) ≡ cond b (moves begins) (refused InvalidTransition)
+change-judged true = refl
+change-judged false = refl
+
 -- ---- what a case of the code's verdict tells
 
 count_fits : (t : VoterSlotTable) → validate t ≡ Accepted → t.count ≤ 9
 count_fits t valid = representable-count t (valid-parts t valid).0
 
 module _ (t : VoterSlotTable) (c : VoterAdvance) (v : Verdict Move) (is : judge_of t c ≡ v) where
-  -- the answer and the table
-  pub carried-as : carried (step_made t c.step c.cut) t v ≡ advance_outcome t c
-  carried-as = ap (carried (step_made t c.step c.cut) t) (sym is)
-
   -- where something is made: there is room, and the slot being replaced is there
   pub room_as : is_move v ≡ true → t.revision ≡ full → ⊥
   room_as h = has_room t _ _ c.step c.cut (ap is_move is ∙ h)
@@ -219,33 +232,6 @@ pub routed-to : (v : Verdict Move) (m : Move) → route_of v ≡ route_of (moves
 routed-to (refused answer) m e some = absurd (some (sym e))
 routed-to kept m e some = absurd (some (sym e))
 routed-to (moves k) m e some = ap moves (one_number k m e)
-
--- the number of no step of an Advance: nothing is made
-pub routed-none : (t : VoterSlotTable) (s : VoterReplacementStep) (cut : VoterSlotLogId) (v : Verdict Move)
-    → (route_of v ≡ 1 → ⊥) → (route_of v ≡ 2 → ⊥) → (route_of v ≡ 3 → ⊥) → (route_of v ≡ 4 → ⊥) → (route_of v ≡ 5 → ⊥) → paired (answer_of v) t ≡ carried (step_made t s cut) t v
-unfolding carried step_made
-routed-none t s cut (refused answer) a b c d e = refl
-routed-none t s cut kept a b c d e = refl
-routed-none t s cut (moves begins) a b c d e = refl
-routed-none t s cut (moves records_snapshot) a b c d e = absurd (a refl)
-routed-none t s cut (moves records_caught_up) a b c d e = absurd (b refl)
-routed-none t s cut (moves continues) a b c d e = absurd (c refl)
-routed-none t s cut (moves fences) a b c d e = absurd (d refl)
-routed-none t s cut (moves finalizes) a b c d e = absurd (e refl)
-
--- the same of a command of any kind
-pub command-none : (t : VoterSlotTable) (c : VoterSlotControl) (cut : VoterSlotLogId) (v : Verdict Move)
-    → (route_of v ≡ 1 → ⊥) → (route_of v ≡ 2 → ⊥) → (route_of v ≡ 3 → ⊥) → (route_of v ≡ 4 → ⊥) → (route_of v ≡ 5 → ⊥) → (route_of v ≡ 6 → ⊥)
-    → paired (answer_of v) t ≡ carried (made t c cut) t v
-unfolding carried made
-command-none t c cut (refused answer) a b d e f g = refl
-command-none t c cut kept a b d e f g = refl
-command-none t c cut (moves begins) a b d e f g = absurd (g refl)
-command-none t c cut (moves records_snapshot) a b d e f g = absurd (a refl)
-command-none t c cut (moves records_caught_up) a b d e f g = absurd (b refl)
-command-none t c cut (moves continues) a b d e f g = absurd (d refl)
-command-none t c cut (moves fences) a b d e f g = absurd (e refl)
-command-none t c cut (moves finalizes) a b d e f g = absurd (f refl)
 
 -- ---- the entry point: its tests, and then the verdict
 

@@ -1,38 +1,37 @@
--- The cases of the code's enum `Judged` as verdicts of Judgement, and what a verdict comes to in
+-- What the code's judges return, an enum or a refusal, as verdicts of Judgement, and what a verdict comes to in
 -- the code: an answer, a number, a table.
 -- From `apply_control` of control.rs, as Judgement cuts it; that the entry point is `apply_control`
 -- is proved by the laws of VerdictLaws.
 -- Assumes nothing.
-use Rattle.std.specs.Prelude.{ℕ, cond, ◌&&◌}
-use Rattle.identity.specs.Answer.{is_accepted}
+use Rattle.std.specs.Prelude.{ℕ, cond, ◌&&◌, Result, Ok, Err}
+use Rattle.identity.specs.Answer.{is_accepted, Answer, Accepted, InvalidTransition, Unrepresentable}
+use Rattle.identity.specs.declared.answer.Refusal.{Refusal}
 use Rattle.records.specs.Evidence.{valid_log_id}
 use Rattle.records.specs.Representable.{representable}
 use Rattle.records.specs.Validation.{validity}
 use Rattle.control.specs.declared.control.VoterSlotControl.{VoterSlotControl}
-use Rattle.identity.specs.declared.answer.Answer.{Answer}
-use Rattle.identity.specs.declared.answer.Answer.TheVariants.{Accepted, InvalidTransition, Unrepresentable}
 use Rattle.records.specs.declared.records.VoterSlotLogId.{VoterSlotLogId}
 use Rattle.records.specs.declared.records.VoterSlotTable.{VoterSlotTable}
 use Rattle.control.specs.declared.begin.VoterBegin.{VoterBegin}
 use Rattle.control.specs.declared.control.VoterAdvance.{VoterAdvance}
 use Rattle.control.specs.declared.control.VoterReplacementStep.{VoterReplacementStep}
 use Rattle.control.specs.declared.judge.Judged.{Judged}
-use Rattle.control.specs.declared.judge.Judged.TheVariants.{Refuse, Keep, Begin, RecordSnapshot, RecordCaughtUp, Continue, Fence, Finalize}
+use Rattle.control.specs.declared.judge.Judged.TheVariants.{Keep, Begin, RecordSnapshot, RecordCaughtUp, Continue, Fence, Finalize}
 use Rattle.control.specs.Control.{caught_up_recorded, continued, fenced_at, finalized, representable_control, snapshot_recorded}
 use Rattle.control.specs.Judgement.{Move, Verdict, carried, judge, judge_advance, made}
 use Rattle.control.specs.Judgement.Verdict.{refused, kept, moves}
 use Rattle.control.specs.Judgement.Move.{begins, records_snapshot, records_caught_up, continues, fences, finalizes}
 
--- each case of the enum
-abbrev pub verdict_of : Judged → Verdict Move
-verdict_of (Refuse answer) = refused answer
-verdict_of Keep = kept
-verdict_of Begin = moves begins
-verdict_of RecordSnapshot = moves records_snapshot
-verdict_of RecordCaughtUp = moves records_caught_up
-verdict_of Continue = moves continues
-verdict_of Fence = moves fences
-verdict_of Finalize = moves finalizes
+-- a refusal, or each case of the enum
+abbrev pub verdict_of : Result Judged Refusal → Verdict Move
+verdict_of (Err e) = refused (Err e)
+verdict_of (Ok Keep) = kept
+verdict_of (Ok Begin) = moves begins
+verdict_of (Ok RecordSnapshot) = moves records_snapshot
+verdict_of (Ok RecordCaughtUp) = moves records_caught_up
+verdict_of (Ok Continue) = moves continues
+verdict_of (Ok Fence) = moves fences
+verdict_of (Ok Finalize) = moves finalizes
 
 -- ---- what a verdict comes to
 

@@ -4,22 +4,21 @@
 // Ported from crates/opc-consensus/src/voter_slots/control.rs (`apply_control`) of
 // openpacketcore-sdk, commit 717de332e7, Apache-2.0 (see NOTICE). Changed: what a command does is
 // judged first, and then the next table is made, if there is one. It is neither validated nor
-// compared: that it would pass the successor check is proved (specs/SettleLaws.antt). A table goes
-// in by value and comes back with the answer, or it is lent, and a thin call changes it in place.
+// compared: that it would pass the successor check is proved (specs/SettleLaws.antt). A table is
+// lent, and a thin call changes it in place; or it goes in by value, and comes back with the answer.
 ghost use Rattle.std.specs.Prelude.{◌≡◌};
-ghost use Rattle.identity.specs.declared.answer.Answer.TheVariants.{Accepted};
+ghost use Rattle.identity.specs.Answer.{Accepted};
 ghost use Rattle.records.specs.Validation.{validate};
 ghost use Rattle.control.specs.Control.{apply_control};
 ghost use Rattle.control.specs.Judgement.{judge_marker};
-ghost use Rattle.control.specs.Verdicts.{advance_outcome, answer_of, applied_of, checked_of, entry_verdict, paired, verdict_of};
+ghost use Rattle.control.specs.Verdicts.{advance_outcome, answer_of, applied_of, checked_of};
 
-use crate::begin::begin;
-use crate::command::*;
+use crate::begin::{VoterBegin, begin_in_place};
 use crate::control::*;
 use crate::judge::*;
 use crate::make::*;
 use crate::representable::is_representable_control;
-use identity::answer::{Answer, accepted};
+use identity::answer::{Answer, Refusal};
 use records::evidence::is_valid_log_id;
 use records::records::{VoterSlotLogId, VoterSlotTable};
 use records::representable::is_representable;
@@ -40,70 +39,38 @@ pub fn apply_control(
 ) -> Controlled
     ensures { (result.answer, result.table) ≡ apply_control table control cut }
 {
-    let answer = checked(table, control, cut);
-    if !accepted(answer) {
-        return Controlled { answer, table };
+    let mut next = table;
+    let answer = apply_control_in_place(&mut next, VoterCommand { control, cut });
+    Controlled {
+        answer,
+        table: next,
     }
-    let command = VoterCommand { control, cut };
-    apply_to_valid(table, command)
 }
 
 // The tests of the entry point: 30, and 25 for an invalid table or a zero in the cut.
+#[tactic(auto, unfolding(crate::specs::Verdicts::checked_of))]
 fn checked(table: VoterSlotTable, control: VoterSlotControl, cut: VoterSlotLogId) -> Answer
     ensures { result ≡ checked_of table control cut }
 {
     let fits = is_representable(table);
     let command = is_representable_control(control);
     if !(fits & command) {
-        return Answer::Unrepresentable;
+        return Err(Refusal::Unrepresentable);
     }
-    let valid = accepted(validate_representable(table));
+    let valid = validate_representable(table).is_ok();
     let nonzero = is_valid_log_id(cut);
     if !(valid & nonzero) {
-        return Answer::InvalidTransition;
+        return Err(Refusal::InvalidTransition);
     }
-    Answer::Accepted
+    Ok(())
 }
 
 // `apply_control` on a table that is lent: any table, any command and any cut.
 pub fn apply_control_in_place(table: &mut VoterSlotTable, command: VoterCommand) -> Answer
     ensures { (result, table.new) ≡ apply_control table.old command.control command.cut }
 {
-    let judged = judge_entry(*table, command);
-    match route(judged) {
-        ROUTE_SNAPSHOT => {
-            *table = make_snapshot(*table, command);
-        }
-        ROUTE_CAUGHT_UP => {
-            *table = make_caught_up(*table, command);
-        }
-        ROUTE_CONTINUATION => {
-            *table = make_continuation(*table, command);
-        }
-        ROUTE_FENCE => {
-            *table = make_fence(*table, command);
-        }
-        ROUTE_FINALIZE => {
-            *table = make_finalize(*table, command);
-        }
-        ROUTE_BEGIN => {
-            *table = make_begin(*table, command);
-        }
-        _ => {}
-    }
-    answer_of(judged)
-}
-
-// The verdict of the entry point. The command is judged in any case: judges have no requirements.
-fn judge_entry(table: VoterSlotTable, command: VoterCommand) -> Judged
-    ensures { verdict_of result ≡ entry_verdict table command.control command.cut }
-{
-    let control = command.control;
-    let cut = command.cut;
-    let answer = checked(table, control, cut);
-    let judged = judge_command(table, command);
-    let passed = accepted(answer);
-    either(passed, judged, Judged::Refuse(answer))
+    checked(*table, command.control, command.cut)?;
+    apply_in_place(table, command)
 }
 
 // A command on a table that is known to be valid, by value. The caller has tested that the cut has
@@ -113,23 +80,36 @@ pub fn apply_to_valid(table: VoterSlotTable, command: VoterCommand) -> Controlle
     requires { validate table ≡ Accepted }
     ensures { (result.answer, result.table) ≡ applied_of table command.control command.cut }
 {
-    let kind = command.control.kind;
-    match kind {
-        BEGIN => begin(table, begin_of(command)),
-        ADVANCE => advance(table, advance_of(command)),
-        _ => mark(table, command),
+    let mut next = table;
+    let answer = apply_in_place(&mut next, command);
+    Controlled {
+        answer,
+        table: next,
     }
 }
 
-// A Marker, by value: the table stays as it is.
-fn mark(table: VoterSlotTable, command: VoterCommand) -> Controlled
-    ensures { (result.answer, result.table) ≡ paired (answer_of (judge_marker table command.control.request_id command.control.request_digest)) table }
+// `apply_to_valid` on a table that is lent: the same tests. It takes 5 KB: calls by kind are
+// faster.
+#[tactic(auto, unfolding(crate::specs::Judgement::carried, crate::specs::Judgement::made))]
+pub fn apply_in_place(table: &mut VoterSlotTable, command: VoterCommand) -> Answer
+    requires { validate table.old ≡ Accepted }
+    ensures { (result, table.new) ≡ applied_of table.old command.control command.cut }
 {
-    let judged = judge_named(table, command);
-    Controlled {
-        answer: answer_of(judged),
-        table,
+    let kind = command.control.kind;
+    match kind {
+        BEGIN => begin_in_place(table, VoterBegin::from(command)),
+        ADVANCE => advance_in_place(table, VoterAdvance::from(command)),
+        _ => mark(*table, command),
     }
+}
+
+// A Marker: the table stays as it is.
+fn mark(table: VoterSlotTable, command: VoterCommand) -> Answer
+    ensures { result ≡ answer_of (judge_marker table command.control.request_id command.control.request_digest) }
+{
+    let request_id = command.control.request_id;
+    let request_digest = command.control.request_digest;
+    answer_of(judge_marker(table, request_id, request_digest))
 }
 
 // An Advance, by value. The caller has made the tests that `apply_to_valid` names
@@ -138,94 +118,27 @@ pub fn advance(table: VoterSlotTable, advance: VoterAdvance) -> Controlled
     requires { validate table ≡ Accepted }
     ensures { (result.answer, result.table) ≡ advance_outcome table advance }
 {
-    let judged = judge_advance(table, advance);
-    match judged {
-        Judged::Refuse(answer) => Controlled { answer, table },
-        Judged::Keep => Controlled {
-            answer: Answer::Accepted,
-            table,
-        },
-        Judged::Begin => Controlled {
-            answer: Answer::Accepted,
-            table,
-        },
-        Judged::RecordSnapshot => Controlled {
-            answer: Answer::Accepted,
-            table: snapshot_table(table, advance),
-        },
-        Judged::RecordCaughtUp => Controlled {
-            answer: Answer::Accepted,
-            table: catch_up_table(table, advance),
-        },
-        Judged::Continue => Controlled {
-            answer: Answer::Accepted,
-            table: continue_table(table, advance),
-        },
-        Judged::Fence => Controlled {
-            answer: Answer::Accepted,
-            table: fence_table(table, advance),
-        },
-        Judged::Finalize => Controlled {
-            answer: Answer::Accepted,
-            table: finalize_table(table, advance),
-        },
+    let mut next = table;
+    let answer = advance_in_place(&mut next, advance);
+    Controlled {
+        answer,
+        table: next,
     }
-}
-
-// `apply_to_valid` on a table that is lent: the same tests. It takes 5 KB: calls by kind are
-// faster.
-pub fn apply_in_place(table: &mut VoterSlotTable, command: VoterCommand) -> Answer
-    requires { validate table.old ≡ Accepted }
-    ensures { (result, table.new) ≡ applied_of table.old command.control command.cut }
-{
-    let judged = judge_command(*table, command);
-    match route(judged) {
-        ROUTE_SNAPSHOT => {
-            *table = make_snapshot(*table, command);
-        }
-        ROUTE_CAUGHT_UP => {
-            *table = make_caught_up(*table, command);
-        }
-        ROUTE_CONTINUATION => {
-            *table = make_continuation(*table, command);
-        }
-        ROUTE_FENCE => {
-            *table = make_fence(*table, command);
-        }
-        ROUTE_FINALIZE => {
-            *table = make_finalize(*table, command);
-        }
-        ROUTE_BEGIN => {
-            *table = make_begin(*table, command);
-        }
-        _ => {}
-    }
-    answer_of(judged)
 }
 
 // `advance` on a table that is lent: the caller has made the same tests.
+#[tactic(auto, unfolding(crate::specs::Judgement::carried, crate::specs::Verdicts::step_made))]
 pub fn advance_in_place(table: &mut VoterSlotTable, advance: VoterAdvance) -> Answer
     requires { validate table.old ≡ Accepted }
     ensures { (result, table.new) ≡ advance_outcome table.old advance }
 {
-    let judged = judge_advance(*table, advance);
-    match route(judged) {
-        ROUTE_SNAPSHOT => {
-            *table = snapshot_table(*table, advance);
-        }
-        ROUTE_CAUGHT_UP => {
-            *table = catch_up_table(*table, advance);
-        }
-        ROUTE_CONTINUATION => {
-            *table = continue_table(*table, advance);
-        }
-        ROUTE_FENCE => {
-            *table = fence_table(*table, advance);
-        }
-        ROUTE_FINALIZE => {
-            *table = finalize_table(*table, advance);
-        }
-        _ => {}
+    match judge_advance(*table, advance)? {
+        Judged::RecordSnapshot => *table = snapshot_table(*table, advance),
+        Judged::RecordCaughtUp => *table = catch_up_table(*table, advance),
+        Judged::Continue => *table = continue_table(*table, advance),
+        Judged::Fence => *table = fence_table(*table, advance),
+        Judged::Finalize => *table = finalize_table(*table, advance),
+        Judged::Keep | Judged::Begin => {}
     }
-    answer_of(judged)
+    Ok(())
 }

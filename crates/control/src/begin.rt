@@ -3,10 +3,10 @@
 // Ported from crates/opc-consensus/src/voter_slots/control.rs (`begin`) of openpacketcore-sdk,
 // commit 717de332e7, Apache-2.0 (see NOTICE). Changed: everything is judged before anything is
 // made, and the successor check of the table that is made stands here as a test of the cut. All
-// parts are judged before the first refusal is picked, as in judge.rt.
+// parts are judged before the first refusal is picked, as in judge.rt: so the answers are joined by
+// `and` in place of `?`.
 ghost use Rattle.std.specs.Prelude.{◌<◌, ◌≤◌, ◌≡◌, cond, map};
-ghost use Rattle.identity.specs.Answer.{is_accepted};
-ghost use Rattle.identity.specs.declared.answer.Answer.TheVariants.{Accepted, IdempotencyConflict};
+ghost use Rattle.identity.specs.Answer.{Accepted, IdempotencyConflict};
 ghost use Rattle.records.specs.Equality.{eq_bytes};
 ghost use Rattle.records.specs.Successor.{first_refusal};
 ghost use Rattle.records.specs.Validation.{validate};
@@ -17,13 +17,11 @@ ghost use Rattle.control.specs.Judgement.{begin_test, judge_begin};
 ghost use Rattle.control.specs.Verdicts.{verdict_of};
 
 use crate::apply::Controlled;
-use crate::control::VoterReplacementRequest;
+use crate::control::{VoterCommand, VoterReplacementRequest};
 use crate::judge::*;
 use crate::request::*;
-use identity::answer::{Answer, accepted};
-use records::blank::{
-    blank_optional_log_id, blank_voter_slot_member, blank_voter_snapshot_evidence,
-};
+use identity::answer::{Answer, Refusal};
+use records::blank::{blank_optional_log_id, blank_voter_snapshot_evidence};
 use records::equality::{same16, same32};
 use records::evidence::{latest_cut, log_id_follows};
 use records::records::*;
@@ -37,8 +35,22 @@ pub struct VoterBegin {
     pub cut: VoterSlotLogId,
 }
 
+// The Begin that a command holds.
+impl From<VoterCommand> for VoterBegin {
+    ghost use Rattle.std.specs.Prelude.{◌≡◌};
+    ghost use Rattle.control.specs.Verdicts.{begin_in};
+
+    ghost from_gives = { λ command begin. begin ≡ begin_in command.control command.cut };
+
+    fn from(command: VoterCommand) -> VoterBegin {
+        let request = command.control.request;
+        let cut = command.cut;
+        VoterBegin { request, cut }
+    }
+}
+
 // `begin`, up to the first change of the table.
-pub fn judge_begin(table: VoterSlotTable, begin: VoterBegin) -> Judged
+pub fn judge_begin(table: VoterSlotTable, begin: VoterBegin) -> Result<Judged, Refusal>
     ensures { verdict_of result ≡ judge_begin table begin.request begin.cut }
 {
     let request = begin.request;
@@ -46,39 +58,21 @@ pub fn judge_begin(table: VoterSlotTable, begin: VoterBegin) -> Judged
     let valid = validate_request(request);
     let check = begin_check(table, request, cut, valid);
     let later = is_later(table, cut);
-    let change = change_if(later, Judged::Begin);
-    let fresh = or_refuse(check, change);
-    let again = or_refuse(valid, Judged::Keep);
+    let change = later
+        .then_some(Judged::Begin)
+        .ok_or(Refusal::InvalidTransition);
+    let fresh = check.and(change);
+    let again = valid.and(Ok(Judged::Keep));
     judge_known_request(table, request, again, fresh)
-}
-
-// What follows an answer that is no refusal.
-fn or_refuse(answer: Answer, next: Judged) -> Judged
-    ensures { verdict_of result ≡ cond (is_accepted answer) (verdict_of next) (refused answer) }
-{
-    if accepted(answer) {
-        return next;
-    }
-    Judged::Refuse(answer)
-}
-
-// The first of two answers that is a refusal.
-fn first_refusal(answer: Answer, next: Answer) -> Answer
-    ensures { result ≡ first_refusal answer next }
-{
-    if accepted(answer) {
-        return next;
-    }
-    answer
 }
 
 // A request that the open one or a receipt has: again, or 14 with another digest. Else a fresh one.
 fn judge_known_request(
     table: VoterSlotTable,
     request: VoterReplacementRequest,
-    again: Judged,
-    fresh: Judged,
-) -> Judged
+    again: Result<Judged, Refusal>,
+    fresh: Result<Judged, Refusal>,
+) -> Result<Judged, Refusal>
     ensures { verdict_of result ≡ cond (is_known table request.attestation.request_id) (cond (eq_bytes (known_digest table request.attestation.request_id) request.attestation.request_digest) (verdict_of again) (refused IdempotencyConflict)) (verdict_of fresh) }
 {
     let id = request.attestation.request_id;
@@ -89,9 +83,11 @@ fn judge_known_request(
     let own = same32(open_digest, digest);
     let receipt = find_receipt(table, id, digest);
     let open = table.has_replacement & same_id;
-    let same = (open & own) | (!open & receipt.same);
-    let repeated = either(same, again, Judged::Refuse(Answer::IdempotencyConflict));
-    either(open | receipt.found, repeated, fresh)
+    match open.then_some(own).or(receipt) {
+        None => fresh,
+        Some(true) => again,
+        Some(false) => Err(Refusal::IdempotencyConflict),
+    }
 }
 
 // The tests of a fresh request, in the order of the Rust, with the request check as it was
@@ -107,12 +103,11 @@ fn begin_check(
     let open = open_check(table, request, cut);
     let slot = slot_check(table, request);
     let full = full_check(table);
-    let last = first_refusal(slot, full);
-    let rest = first_refusal(valid, last);
-    first_refusal(open, rest)
+    open.and(valid).and(slot).and(full)
 }
 
 // The open request against the one that is to supersede it: 15, 19, 25.
+#[tactic(auto, unfolding(crate::specs::Control::open_check))]
 fn open_check(
     table: VoterSlotTable,
     request: VoterReplacementRequest,
@@ -121,39 +116,32 @@ fn open_check(
     ensures { result ≡ open_check table request cut }
 {
     let prepare = table.replacement.evidence.prepare;
-    let early = answer_by(
-        cut.index <= prepare.index,
-        Answer::InvalidTransition,
-        Answer::Accepted,
-    );
-    let fenced = answer_by(
-        FENCED <= table.replacement.phase,
-        Answer::ReplacementPastFence,
-        early,
-    );
-    let other = answer_by(
-        !(table.replacement.attestation.slot == request.attestation.slot),
-        Answer::ReplacementInProgress,
-        fenced,
-    );
-    answer_by(!table.has_replacement, Answer::Accepted, other)
+    if !table.has_replacement {
+        Ok(())
+    } else if table.replacement.attestation.slot != request.attestation.slot {
+        Err(Refusal::ReplacementInProgress)
+    } else if FENCED <= table.replacement.phase {
+        Err(Refusal::ReplacementPastFence)
+    } else if cut.index <= prepare.index {
+        Err(Refusal::InvalidTransition)
+    } else {
+        Ok(())
+    }
 }
 
 // A full epoch or revision: 23, 24.
+#[tactic(auto, unfolding(crate::specs::Control::full_check))]
 fn full_check(table: VoterSlotTable) -> Answer
     ensures { result ≡ full_check table }
 {
-    let revision = answer_by(
-        table.revision == u64::MAX,
-        Answer::RevisionExhausted,
-        Answer::Accepted,
-    );
     let epoch = current_epoch(table);
-    answer_by(
-        epoch == u64::MAX,
-        Answer::ConfigurationEpochExhausted,
-        revision,
-    )
+    if epoch == u64::MAX {
+        Err(Refusal::ConfigurationEpochExhausted)
+    } else if table.revision == u64::MAX {
+        Err(Refusal::RevisionExhausted)
+    } else {
+        Ok(())
+    }
 }
 
 // A request that is superseded has all its evidence before this cut.
@@ -168,6 +156,7 @@ fn is_later(table: VoterSlotTable, cut: VoterSlotLogId) -> bool
 
 // The table with the request opened. No test is made again. The request is put together here: made
 // by a call of its own, the whole table would be copied once more.
+#[tactic(auto, unfolding(crate::specs::Control::begun_operation, crate::specs::BeginJudge::prepared_at))]
 pub fn begin_table(table: VoterSlotTable, begin: VoterBegin) -> VoterSlotTable
     requires { (table.revision ≡ full → ⊥) × (((current_configuration table).epoch ≡ full → ⊥) × ((table.count ≤ 9) × (named_index table begin.request < table.count))) }
     ensures { result ≡ begun table begin.request begin.cut }
@@ -210,15 +199,13 @@ fn begun_slots(table: VoterSlotTable, begin: VoterBegin) -> [VoterSlotRecord; MA
     let number = begin.request.attestation.slot;
     let count = table.count;
     let mut slots = table.slots;
-    let mut i = 0;
-    while i < count {
+    for i in 0..count {
         if slots[i].member.identity.slot == number {
             let old = slots[i];
             let slot = begun_slot(table, begin, old);
             slots[i] = slot;
             return slots;
         }
-        i += 1;
     }
     slots
 }
@@ -267,6 +254,7 @@ fn left_receipt(
 }
 
 // `current_configuration`.
+#[tactic(auto, unfolding(crate::specs::Control::current_configuration))]
 fn current_configuration(table: VoterSlotTable) -> VoterConfiguration
     ensures { result ≡ current_configuration table }
 {
@@ -289,19 +277,15 @@ fn members_of(
 ) -> [VoterSlotMember; MAX_FIXED_VOTER_SLOTS]
     ensures { result ≡ map (λ s. s.member) slots }
 {
-    let blank = blank_voter_slot_member();
-    let mut members = [blank; MAX_FIXED_VOTER_SLOTS];
-    let mut i: usize = 0;
-    while i < MAX_FIXED_VOTER_SLOTS {
-        let slot = slots[i];
-        let member = slot.member;
-        members[i] = member;
-        i += 1;
-    }
-    members
+    slots.map(
+        |slot|
+            ensures { result ≡ slot.member }
+        { slot.member },
+    )
 }
 
 // The evidence of a request that has just begun.
+#[tactic(auto, unfolding(crate::specs::BeginJudge::prepared_at))]
 fn prepared_at(cut: VoterSlotLogId) -> VoterReplacementEvidence
     ensures { result ≡ prepared_at cut }
 {
@@ -326,26 +310,22 @@ pub fn begin(table: VoterSlotTable, begin: VoterBegin) -> Controlled
     requires { validate table ≡ Accepted }
     ensures { (result.answer, result.table) ≡ begin_outcome table begin }
 {
-    let judged = judge_begin(table, begin);
-    let answer = answer_of(judged);
-    if route(judged) == ROUTE_BEGIN {
-        let table = begin_table(table, begin);
-        return Controlled { answer, table };
+    let mut next = table;
+    let answer = begin_in_place(&mut next, begin);
+    Controlled {
+        answer,
+        table: next,
     }
-    Controlled { answer, table }
 }
 
 // `begin` on a table that is lent: the caller has made the same tests.
+#[tactic(auto, unfolding(crate::specs::Judgement::carried, crate::specs::BeginJudge::begin_made))]
 pub fn begin_in_place(table: &mut VoterSlotTable, begin: VoterBegin) -> Answer
     requires { validate table.old ≡ Accepted }
     ensures { (result, table.new) ≡ begin_outcome table.old begin }
 {
-    let judged = judge_begin(*table, begin);
-    match route(judged) {
-        ROUTE_BEGIN => {
-            *table = begin_table(*table, begin);
-        }
-        _ => {}
+    if let Judged::Begin = judge_begin(*table, begin)? {
+        *table = begin_table(*table, begin);
     }
-    answer_of(judged)
+    Ok(())
 }

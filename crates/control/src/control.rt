@@ -3,7 +3,8 @@
 // Ported from crates/opc-consensus/src/voter_slots/control.rs of openpacketcore-sdk, commit
 // 717de332e7, Apache-2.0 (see NOTICE). Changed: a command and a step are a kind with its parts as
 // fields, and parts that the kind does not use are zero; the caller supplies the request digest as
-// recomputed and the id of the current configuration.
+// recomputed and the id of the current configuration. Kinds stay numbers, and no enums: document 01
+// lets a caller hand in any number, and gives 30 for those that the Rust types cannot hold.
 use identity::identity::{ConsensusConfigurationId, ConsensusIdentity, ConsensusRequestId};
 use records::records::*;
 
@@ -96,4 +97,25 @@ pub struct VoterCommand {
     pub control: VoterSlotControl,
     // Engine cut of the command.
     pub cut: VoterSlotLogId,
+}
+
+// The Advance that a command holds.
+impl From<VoterCommand> for VoterAdvance {
+    ghost use Rattle.std.specs.Prelude.{◌≡◌};
+    ghost use Rattle.control.specs.Verdicts.{advance_in};
+
+    ghost from_gives = { λ command advance. advance ≡ advance_in command.control command.cut };
+
+    fn from(command: VoterCommand) -> VoterAdvance {
+        let request_id = command.control.request_id;
+        let request_digest = command.control.request_digest;
+        let step = command.control.step;
+        let cut = command.cut;
+        VoterAdvance {
+            request_id,
+            request_digest,
+            step,
+            cut,
+        }
+    }
 }

@@ -8,26 +8,23 @@
 // another question each, a judge makes all its tests before it picks the first refusal: a call
 // after many early returns counts as cold to the compiler, which then copies the table for it.
 ghost use Rattle.std.specs.Prelude.{◌≡◌, cond, false, not, ◌||◌};
-ghost use Rattle.identity.specs.declared.answer.Answer.TheVariants.{InvalidTransition};
 ghost use Rattle.records.specs.Equality.{eq_bytes};
 ghost use Rattle.records.specs.Evidence.{follows, in_order};
 ghost use Rattle.records.specs.With.{present};
 ghost use Rattle.control.specs.Control.{is_completed, is_receipt_of};
-ghost use Rattle.control.specs.Judgement.Verdict.{kept, refused};
 ghost use Rattle.control.specs.Judgement.{judge_advance, judge_caught_up, judge_continuation, judge_fence, judge_finalize, judge_marker, judge_open, judge_snapshot, judge_step};
 ghost use Rattle.control.specs.Verdicts.{answer_of, route_of, verdict_of};
 
 use crate::control::*;
-use identity::answer::Answer;
+use identity::answer::{Answer, Refusal};
 use identity::identity::ConsensusRequestId;
 use records::equality::*;
 use records::evidence::{is_in_order, is_valid_snapshot_id, log_id_follows};
 use records::records::*;
 
-// Refused; accepted and unchanged; or the change that is to be made.
+// What a command that is not refused does to the table: nothing, or which change.
 #[derive(Clone, Copy)]
 pub enum Judged {
-    Refuse(Answer),
     Keep,
     Begin,
     RecordSnapshot,
@@ -37,60 +34,11 @@ pub enum Judged {
     Finalize,
 }
 
-// The picks: each is one test of a definition, and what it leads to. A change, or else 25;
-pub fn change_if(test: bool, change: Judged) -> Judged
-    ensures { verdict_of result ≡ cond test (verdict_of change) (refused InvalidTransition) }
-{
-    if test {
-        return change;
-    }
-    Judged::Refuse(Answer::InvalidTransition)
-}
-
-// accepted and unchanged, or else what comes next;
-fn keep_if(test: bool, otherwise: Judged) -> Judged
-    ensures { verdict_of result ≡ cond test kept (verdict_of otherwise) }
-{
-    if test {
-        return Judged::Keep;
-    }
-    otherwise
-}
-
-// a refusal, or else what comes next;
-pub fn refuse_if(test: bool, answer: Answer, otherwise: Judged) -> Judged
-    ensures { verdict_of result ≡ cond test (refused answer) (verdict_of otherwise) }
-{
-    if test {
-        return Judged::Refuse(answer);
-    }
-    otherwise
-}
-
-// one of two verdicts.
-pub fn either(test: bool, one: Judged, other: Judged) -> Judged
-    ensures { verdict_of result ≡ cond test (verdict_of one) (verdict_of other) }
-{
-    if test {
-        return one;
-    }
-    other
-}
-
 // The answer of a call that was so judged.
-pub fn answer_of(judged: Judged) -> Answer
+pub fn answer_of(judged: Result<Judged, Refusal>) -> Answer
     ensures { result ≡ answer_of (verdict_of judged) }
 {
-    match judged {
-        Judged::Refuse(answer) => answer,
-        Judged::Keep => Answer::Accepted,
-        Judged::Begin => Answer::Accepted,
-        Judged::RecordSnapshot => Answer::Accepted,
-        Judged::RecordCaughtUp => Answer::Accepted,
-        Judged::Continue => Answer::Accepted,
-        Judged::Fence => Answer::Accepted,
-        Judged::Finalize => Answer::Accepted,
-    }
+    judged.and(Ok(()))
 }
 
 // The number of the table that a command makes.
@@ -110,27 +58,28 @@ pub const ROUTE_BEGIN: u64 = 6;
 pub const ROUTE_NONE: u64 = 0;
 
 // Which table is to be made: a thin call goes by this number.
-pub fn route(judged: Judged) -> u64
+pub fn route(judged: Result<Judged, Refusal>) -> u64
     ensures { result ≡ route_of (verdict_of judged) }
 {
     match judged {
-        Judged::Refuse(_) => ROUTE_NONE,
-        Judged::Keep => ROUTE_NONE,
-        Judged::RecordSnapshot => ROUTE_SNAPSHOT,
-        Judged::RecordCaughtUp => ROUTE_CAUGHT_UP,
-        Judged::Continue => ROUTE_CONTINUATION,
-        Judged::Fence => ROUTE_FENCE,
-        Judged::Finalize => ROUTE_FINALIZE,
-        Judged::Begin => ROUTE_BEGIN,
+        Err(_) => ROUTE_NONE,
+        Ok(Judged::Keep) => ROUTE_NONE,
+        Ok(Judged::RecordSnapshot) => ROUTE_SNAPSHOT,
+        Ok(Judged::RecordCaughtUp) => ROUTE_CAUGHT_UP,
+        Ok(Judged::Continue) => ROUTE_CONTINUATION,
+        Ok(Judged::Fence) => ROUTE_FENCE,
+        Ok(Judged::Finalize) => ROUTE_FINALIZE,
+        Ok(Judged::Begin) => ROUTE_BEGIN,
     }
 }
 
 // The arm `Marker` of `apply_control`. A full revision is not tested: nothing is changed.
+#[tactic(auto, unfolding(crate::specs::Judgement::judge_marker, crate::specs::Control::is_open_request))]
 pub fn judge_marker(
     table: VoterSlotTable,
     request_id: ConsensusRequestId,
     request_digest: [u8; 32],
-) -> Judged
+) -> Result<Judged, Refusal>
     ensures { verdict_of result ≡ judge_marker table request_id request_digest }
 {
     let id = same_id(table, request_id);
@@ -138,10 +87,11 @@ pub fn judge_marker(
     let phase = table.replacement.phase;
     let named = (table.has_replacement & id) & digest;
     let catching_up = (phase == LEARNER_ADDED) | (phase == CAUGHT_UP);
-    keep_if(
-        named & catching_up,
-        Judged::Refuse(Answer::InvalidTransition),
-    )
+    if named & catching_up {
+        Ok(Judged::Keep)
+    } else {
+        Err(Refusal::InvalidTransition)
+    }
 }
 
 // The id is that of the open request.
@@ -162,24 +112,24 @@ fn same_digest(table: VoterSlotTable, request_digest: [u8; 32]) -> bool
 
 // `advance`. The revision is tested before all else, also where nothing would change. The slots are
 // searched for a receipt only where no request is open: the search takes longer than most steps.
-pub fn judge_advance(table: VoterSlotTable, advance: VoterAdvance) -> Judged
+#[tactic(auto, unfolding(crate::specs::Judgement::judge_advance))]
+pub fn judge_advance(table: VoterSlotTable, advance: VoterAdvance) -> Result<Judged, Refusal>
     ensures { verdict_of result ≡ judge_advance table advance.request_id advance.request_digest advance.step advance.cut }
 {
-    let request_id = advance.request_id;
-    let request_digest = advance.request_digest;
-    let step = advance.step;
-    let cut = advance.cut;
     if table.revision == u64::MAX {
-        return Judged::Refuse(Answer::RevisionExhausted);
+        return Err(Refusal::RevisionExhausted);
     }
     if table.has_replacement {
-        return judge_open(table, request_id, request_digest, step, cut);
+        return judge_open(table, advance);
     }
+    let request_id = advance.request_id;
+    let request_digest = advance.request_digest;
     let completed = is_completed(table, request_id, request_digest);
-    keep_if(
-        (step.kind == FINALIZE) & completed,
-        Judged::Refuse(Answer::StaleIncarnation),
-    )
+    if (advance.step.kind == FINALIZE) & completed {
+        Ok(Judged::Keep)
+    } else {
+        Err(Refusal::StaleIncarnation)
+    }
 }
 
 // Whether a slot has the completed receipt of that request. All nine places are passed, so that no
@@ -188,12 +138,10 @@ fn is_completed(table: VoterSlotTable, id: ConsensusRequestId, digest: [u8; 32])
     ensures { result ≡ is_completed table id digest }
 {
     let mut none = true;
-    let mut i: usize = 0;
-    while i < MAX_FIXED_VOTER_SLOTS {
+    for i in 0..MAX_FIXED_VOTER_SLOTS {
         let slot = table.slots[i];
         let receipt = is_receipt_of(slot, id, digest);
         none = none & ((table.count <= i) | !receipt);
-        i += 1;
     }
     !none
 }
@@ -210,27 +158,37 @@ fn is_receipt_of(slot: VoterSlotRecord, id: ConsensusRequestId, digest: [u8; 32]
 }
 
 // The open request is the one that the command names, and the cut lies after its beginning.
-fn judge_open(
-    table: VoterSlotTable,
-    request_id: ConsensusRequestId,
-    request_digest: [u8; 32],
-    step: VoterReplacementStep,
-    cut: VoterSlotLogId,
-) -> Judged
-    ensures { verdict_of result ≡ judge_open table request_id request_digest step cut }
+#[tactic(auto, unfolding(crate::specs::Judgement::judge_open))]
+fn judge_open(table: VoterSlotTable, advance: VoterAdvance) -> Result<Judged, Refusal>
+    ensures { verdict_of result ≡ judge_open table advance.request_id advance.request_digest advance.step advance.cut }
 {
+    let request_id = advance.request_id;
+    let request_digest = advance.request_digest;
+    let step = advance.step;
+    let cut = advance.cut;
     let id = same_id(table, request_id);
     let digest = same_digest(table, request_digest);
     let prepare = table.replacement.evidence.prepare;
     let judged = judge_step(table, step, cut);
     let early = (cut.index <= prepare.index) | (cut.term < prepare.term);
-    let later = refuse_if(early, Answer::InvalidTransition, judged);
-    let same = refuse_if(!digest, Answer::IdempotencyConflict, later);
-    refuse_if(!id, Answer::StaleIncarnation, same)
+    if !id {
+        Err(Refusal::StaleIncarnation)
+    } else if !digest {
+        Err(Refusal::IdempotencyConflict)
+    } else if early {
+        Err(Refusal::InvalidTransition)
+    } else {
+        judged
+    }
 }
 
 // The arms of `advance`, by the kind of the step.
-fn judge_step(table: VoterSlotTable, step: VoterReplacementStep, cut: VoterSlotLogId) -> Judged
+#[tactic(auto, unfolding(crate::specs::Judgement::judge_step))]
+fn judge_step(
+    table: VoterSlotTable,
+    step: VoterReplacementStep,
+    cut: VoterSlotLogId,
+) -> Result<Judged, Refusal>
     ensures { verdict_of result ≡ judge_step table step cut }
 {
     let snapshot = step.snapshot;
@@ -246,17 +204,22 @@ fn judge_step(table: VoterSlotTable, step: VoterReplacementStep, cut: VoterSlotL
 }
 
 // The arm `RecordSnapshot` of `advance`.
+#[tactic(auto, unfolding(crate::specs::Judgement::judge_snapshot))]
 fn judge_snapshot(
     table: VoterSlotTable,
     snapshot: VoterSnapshotEvidence,
     cut: VoterSlotLogId,
-) -> Judged
+) -> Result<Judged, Refusal>
     ensures { verdict_of result ≡ judge_snapshot table snapshot cut }
 {
     if table.replacement.evidence.has_snapshot {
         let held = table.replacement.evidence.snapshot;
         let same = same_voter_snapshot_evidence(held, snapshot);
-        return keep_if(same, Judged::Refuse(Answer::IdempotencyConflict));
+        return if same {
+            Ok(Judged::Keep)
+        } else {
+            Err(Refusal::IdempotencyConflict)
+        };
     }
     let id = snapshot.snapshot_id;
     let at = snapshot.cut;
@@ -267,7 +230,11 @@ fn judge_snapshot(
     let fits = fits_continuation(continuation, at, true);
     let due = (table.replacement.phase == PREPARED)
         & ((at.index < cut.index) & (at.term <= cut.term));
-    change_if(due & (valid & (later & fits)), Judged::RecordSnapshot)
+    if due & (valid & (later & fits)) {
+        Ok(Judged::RecordSnapshot)
+    } else {
+        Err(Refusal::InvalidTransition)
+    }
 }
 
 // A cut that is added to the evidence is in order with the continuation, if there is one.
@@ -285,7 +252,12 @@ pub fn fits_continuation(
 }
 
 // The arm `RecordCaughtUp` of `advance`.
-fn judge_caught_up(table: VoterSlotTable, mark: VoterSlotLogId, cut: VoterSlotLogId) -> Judged
+#[tactic(auto, unfolding(crate::specs::Judgement::judge_caught_up))]
+fn judge_caught_up(
+    table: VoterSlotTable,
+    mark: VoterSlotLogId,
+    cut: VoterSlotLogId,
+) -> Result<Judged, Refusal>
     ensures { verdict_of result ≡ judge_caught_up table mark cut }
 {
     let phase = table.replacement.phase;
@@ -298,8 +270,13 @@ fn judge_caught_up(table: VoterSlotTable, mark: VoterSlotLogId, cut: VoterSlotLo
     let fits = fits_continuation(continuation, mark, false);
     let catching_up = (phase == LEARNER_ADDED) | (phase == CAUGHT_UP);
     let due = catching_up & ((mark.term == cut.term) & (mark.index < cut.index));
-    let change = change_if(due & (later & fits), Judged::RecordCaughtUp);
-    keep_if(caught_up.is_some & same, change)
+    if caught_up.is_some & same {
+        Ok(Judged::Keep)
+    } else if due & (later & fits) {
+        Ok(Judged::RecordCaughtUp)
+    } else {
+        Err(Refusal::InvalidTransition)
+    }
 }
 
 // A mark after the one that is there, or else after the learner's cut.
@@ -314,7 +291,8 @@ fn follows_mark(caught_up: OptionalLogId, mark: VoterSlotLogId, learner: VoterSl
 }
 
 // The arm `RecordContinuation` of `advance`.
-fn judge_continuation(table: VoterSlotTable, cut: VoterSlotLogId) -> Judged
+#[tactic(auto, unfolding(crate::specs::Judgement::judge_continuation))]
+fn judge_continuation(table: VoterSlotTable, cut: VoterSlotLogId) -> Result<Judged, Refusal>
     ensures { verdict_of result ≡ judge_continuation table cut }
 {
     let phase = table.replacement.phase;
@@ -328,16 +306,18 @@ fn judge_continuation(table: VoterSlotTable, cut: VoterSlotLogId) -> Judged
     let fits_snapshot = is_in_order(cut, snapshot, true);
     let fits_learner = is_in_order(cut, learner, false);
     let fits_caught_up = is_in_order(cut, caught_up, false);
-    let change = change_if(
-        fits_snapshot & (fits_learner & fits_caught_up),
-        Judged::Continue,
-    );
-    let unfenced = refuse_if(FENCED <= phase, Answer::InvalidTransition, change);
-    keep_if(table.replacement.evidence.continuation.is_some, unfenced)
+    if table.replacement.evidence.continuation.is_some {
+        Ok(Judged::Keep)
+    } else if (phase < FENCED) & (fits_snapshot & (fits_learner & fits_caught_up)) {
+        Ok(Judged::Continue)
+    } else {
+        Err(Refusal::InvalidTransition)
+    }
 }
 
 // The arm `Fence` of `advance`.
-fn judge_fence(table: VoterSlotTable, cut: VoterSlotLogId) -> Judged
+#[tactic(auto, unfolding(crate::specs::Judgement::judge_fence))]
+fn judge_fence(table: VoterSlotTable, cut: VoterSlotLogId) -> Result<Judged, Refusal>
     ensures { verdict_of result ≡ judge_fence table cut }
 {
     let phase = table.replacement.phase;
@@ -349,18 +329,25 @@ fn judge_fence(table: VoterSlotTable, cut: VoterSlotLogId) -> Judged
     let after_continuation = log_id_follows(cut, continued, false);
     let due = (phase == CAUGHT_UP) & (caught_up.is_some & (mark.term == cut.term));
     let later = after_mark & (!continuation.is_some | after_continuation);
-    let change = change_if(due & later, Judged::Fence);
-    keep_if(FENCED <= phase, change)
+    if FENCED <= phase {
+        Ok(Judged::Keep)
+    } else if due & later {
+        Ok(Judged::Fence)
+    } else {
+        Err(Refusal::InvalidTransition)
+    }
 }
 
 // The arm `Finalize` of `advance`.
-fn judge_finalize(table: VoterSlotTable, cut: VoterSlotLogId) -> Judged
+#[tactic(auto, unfolding(crate::specs::Judgement::judge_finalize))]
+fn judge_finalize(table: VoterSlotTable, cut: VoterSlotLogId) -> Result<Judged, Refusal>
     ensures { verdict_of result ≡ judge_finalize table cut }
 {
     let uniform = table.replacement.evidence.uniform.cut;
     let later = log_id_follows(cut, uniform, false);
-    change_if(
-        (table.replacement.phase == UNIFORM) & later,
-        Judged::Finalize,
-    )
+    if (table.replacement.phase == UNIFORM) & later {
+        Ok(Judged::Finalize)
+    } else {
+        Err(Refusal::InvalidTransition)
+    }
 }

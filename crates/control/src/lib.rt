@@ -4,7 +4,6 @@
 
 pub mod apply;
 pub mod begin;
-pub mod command;
 pub mod control;
 pub mod judge;
 pub mod make;

@@ -114,6 +114,7 @@ fn with_snapshot(
 
 // The arm `Finalize` of `advance`: the slot being replaced gets the completed receipt, and no
 // request is open any more.
+#[tactic(auto, unfolding(crate::specs::Control::finalized_slot))]
 pub fn finalize_table(table: VoterSlotTable, advance: VoterAdvance) -> VoterSlotTable
     requires { (table.revision ≡ full → ⊥) × ((table.count ≤ 9) × (target_index table < table.count)) }
     ensures { result ≡ finalized table advance.cut }

@@ -20,6 +20,7 @@ use records::representable::{
 use records::zero::*;
 
 // A kind of the three; the request is a Begin's, the step an Advance's.
+#[tactic(auto, unfolding(crate::specs::Control::representable_control))]
 pub fn is_representable_control(control: VoterSlotControl) -> bool
     ensures { result ≡ representable_control control }
 {
@@ -99,6 +100,7 @@ fn is_step_part(is_advance: bool, step: VoterReplacementStep) -> bool
 
 // A kind of the five; the snapshot is RecordSnapshot's, the mark RecordCaughtUp's. Any numbers are
 // a mark.
+#[tactic(auto, unfolding(crate::specs::Control::representable_step))]
 pub fn is_representable_step(step: VoterReplacementStep) -> bool
     ensures { result ≡ representable_step step }
 {

@@ -4,33 +4,25 @@
 // Ported from crates/opc-consensus/src/voter_slots/control.rs (`VoterReplacementRequest::validate`,
 // `begin`) of openpacketcore-sdk, commit 717de332e7, Apache-2.0 (see NOTICE). Changed: the caller
 // supplies the digest as recomputed and the id of the current configuration. Loops pass all nine
-// places, from the last to the first, and a place found later takes the place of one found before.
-ghost use Rattle.std.specs.Prelude.{◌≡◌, cond};
+// places, from the last to the first, and a place found later takes the place of one found before;
+// it is picked by `then_some` and `or`, since after an `if` in the loop the compiler copies the
+// request once more.
+ghost use Rattle.std.specs.Prelude.{◌≡◌};
 ghost use Rattle.records.specs.Successor.{first_refusal};
 ghost use Rattle.records.specs.Validation.{valid_attestation};
 ghost use Rattle.control.specs.Control.{candidate_check, current_configuration, is_expected, request_check, stale_check, valid_request};
 ghost use Rattle.control.specs.BeginJudge.{attested_member, has_digest, has_receipt, named_of, newer_than, receipt_state};
 
 use crate::control::VoterReplacementRequest;
-use identity::answer::Answer;
+use identity::answer::{Answer, Refusal};
 use identity::identity::{ConsensusConfigurationEpoch, ConsensusRequestId, SlotId};
-use records::blank::blank_voter_slot_member;
 use records::equality::{same16, same32};
 use records::number::is_next;
 use records::records::*;
 use records::validation::{are_valid_times, is_valid_spiffe_id};
 
-// One of two answers.
-pub fn answer_by(test: bool, one: Answer, other: Answer) -> Answer
-    ensures { result ≡ cond test one other }
-{
-    if test {
-        return one;
-    }
-    other
-}
-
 // `VoterReplacementRequest::validate`: 12.
+#[tactic(auto, unfolding(crate::specs::Control::request_check))]
 pub fn validate_request(request: VoterReplacementRequest) -> Answer
     ensures { result ≡ request_check request }
 {
@@ -38,10 +30,15 @@ pub fn validate_request(request: VoterReplacementRequest) -> Answer
     let supplied = request.supplied_request_digest;
     let attested = request.attestation.request_digest;
     let same = same32(supplied, attested);
-    answer_by(valid & same, Answer::Accepted, Answer::InvalidLossEvidence)
+    if valid & same {
+        Ok(())
+    } else {
+        Err(Refusal::InvalidLossEvidence)
+    }
 }
 
 // The claims are valid, and the request says the same as they do.
+#[tactic(auto, unfolding(crate::specs::Control::valid_request))]
 fn is_valid_request(request: VoterReplacementRequest) -> bool
     ensures { result ≡ valid_request request }
 {
@@ -67,6 +64,7 @@ fn is_valid_request(request: VoterReplacementRequest) -> bool
 }
 
 // `LostVoterAttestationV1::validate`, part by part: of the attestation itself a copy would be made.
+#[tactic(auto, unfolding(records::specs::Validation::valid_attestation))]
 fn are_valid_claims(request: VoterReplacementRequest) -> bool
     ensures { result ≡ valid_attestation request.attestation }
 {
@@ -90,32 +88,20 @@ fn are_valid_claims(request: VoterReplacementRequest) -> bool
     candidate_valid & (controller_valid & times_valid)
 }
 
-// What the slots' receipts say of a request.
-#[derive(Clone, Copy)]
-pub struct Receipt {
-    // A slot has a receipt of that request.
-    pub found: bool,
-    // The first such receipt has that digest.
-    pub same: bool,
-}
-
-// What the receipts of the slots in use say of the request of that id.
-pub fn find_receipt(table: VoterSlotTable, id: ConsensusRequestId, digest: [u8; 32]) -> Receipt
+// Whether the first receipt of the request of that id, among those of the slots in use, has that
+// digest; nothing where there is none.
+pub fn find_receipt(table: VoterSlotTable, id: ConsensusRequestId, digest: [u8; 32]) -> Option<bool>
     ensures { result ≡ receipt_state table id digest }
 {
-    let mut found = false;
-    let mut same = false;
-    let mut i: usize = MAX_FIXED_VOTER_SLOTS;
-    while 0 < i {
-        i -= 1;
+    let mut found = None;
+    for i in (0..MAX_FIXED_VOTER_SLOTS).rev() {
         let slot = table.slots[i];
         let held = has_receipt(slot, id);
         let own = has_digest(slot, digest);
         let one = (i < table.count) & held;
-        found = one | found;
-        same = (one & own) | (!one & same);
+        found = one.then_some(own).or(found);
     }
-    Receipt { found, same }
+    found
 }
 
 // The slot has a receipt of the request of that id.
@@ -140,63 +126,43 @@ fn has_digest(slot: VoterSlotRecord, digest: [u8; 32]) -> bool
 pub fn slot_check(table: VoterSlotTable, request: VoterReplacementRequest) -> Answer
     ensures { result ≡ first_refusal (stale_check table request) (candidate_check table request) }
 {
-    let named = named_member(table, request.attestation.slot);
-    let member = named.member;
     let expected = is_expected(table, request);
     let cluster = table.cluster_instance;
     let attested_cluster = request.attestation.cluster_instance;
     let same_cluster = same32(attested_cluster, cluster);
+    let Some(member) = named_member(table, request.attestation.slot) else {
+        return Err(Refusal::StaleIncarnation);
+    };
     let attested = is_attested(member, request);
     let newer = is_newer(member, request);
-    let current = named.found
-        & ((table.revision == request.expected_revision) & (expected & (same_cluster & attested)));
-    let fits = answer_by(newer, Answer::Accepted, Answer::InvalidLossEvidence);
-    let enough = answer_by(
-        MIN_REPLACEMENT_SLOTS <= table.count,
-        fits,
-        Answer::NoSurvivingQuorum,
-    );
-    answer_by(current, enough, Answer::StaleIncarnation)
-}
-
-// The first slot of a number.
-#[derive(Clone, Copy)]
-pub struct Named {
-    // There is such a slot.
-    pub found: bool,
-    // Its member, or a blank.
-    pub member: VoterSlotMember,
+    let current = (table.revision == request.expected_revision)
+        & (expected & (same_cluster & attested));
+    if !current {
+        Err(Refusal::StaleIncarnation)
+    } else if table.count < MIN_REPLACEMENT_SLOTS {
+        Err(Refusal::NoSurvivingQuorum)
+    } else if !newer {
+        Err(Refusal::InvalidLossEvidence)
+    } else {
+        Ok(())
+    }
 }
 
 // `position(..)` and the member there.
-fn named_member(table: VoterSlotTable, number: SlotId) -> Named
+fn named_member(table: VoterSlotTable, number: SlotId) -> Option<VoterSlotMember>
     ensures { result ≡ named_of table number }
 {
-    let mut found = false;
-    let mut member = blank_voter_slot_member();
-    let mut i: usize = MAX_FIXED_VOTER_SLOTS;
-    while 0 < i {
-        i -= 1;
+    let mut member = None;
+    for i in (0..MAX_FIXED_VOTER_SLOTS).rev() {
         let slot = table.slots[i];
-        let own = slot.member;
         let one = (i < table.count) & (slot.member.identity.slot == number);
-        found = one | found;
-        member = member_by(one, own, member);
+        member = one.then_some(slot.member).or(member);
     }
-    Named { found, member }
-}
-
-// One of two members.
-fn member_by(test: bool, one: VoterSlotMember, other: VoterSlotMember) -> VoterSlotMember
-    ensures { result ≡ cond test one other }
-{
-    if test {
-        return one;
-    }
-    other
+    member
 }
 
 // The current configuration is the one that the request names.
+#[tactic(auto, unfolding(crate::specs::Control::is_expected))]
 fn is_expected(table: VoterSlotTable, request: VoterReplacementRequest) -> bool
     ensures { result ≡ is_expected table request }
 {
@@ -211,6 +177,7 @@ fn is_expected(table: VoterSlotTable, request: VoterReplacementRequest) -> bool
 }
 
 // The epoch of the current configuration.
+#[tactic(auto, unfolding(crate::specs::Control::current_configuration))]
 pub fn current_epoch(table: VoterSlotTable) -> ConsensusConfigurationEpoch
     ensures { result ≡ (current_configuration table).epoch }
 {

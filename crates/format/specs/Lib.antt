@@ -6,3 +6,5 @@ pub mod Through
 pub mod Copy
 pub mod Put
 pub mod Fill
+pub mod Reads
+pub mod ReadsMore

@@ -3,16 +3,14 @@
 -- Each name here is a step of a proof or a law for the layers above; what is right is said in
 -- Identity.
 -- Assumes nothing.
-use Rattle.std.specs.Prelude.{ℕ, ◌+◌, ◌-◌, ◌*◌, ◌/◌, ◌%◌, ◌≤◌, ◌≡◌, refl, Bool, true, false, cond, ◌&&◌, eqb, leb}
+use Rattle.std.specs.Prelude.{ℕ, ◌+◌, ◌-◌, ◌*◌, ◌/◌, ◌%◌, ◌≤◌, ◌≡◌, refl, Bool, true, false, cond, ◌&&◌, eqb, leb, Result, Ok, Err}
 use Rattle.std.proofs.Common.{sym, ap, ◌∙◌, arith, leb-true, le-leb}
-use Rattle.identity.specs.Answer.{number_of, is_accepted}
-use Rattle.identity.specs.AnswerLaws.{number-injective}
-use Rattle.identity.specs.Identity.{max_slot_id, max_voter_incarnation, max_consensus_node_id, node_id_span, is_slot_id, is_voter_incarnation, is_consensus_node_id, validate_voter_incarnation, validate_voter_slot_identity, number_where, identity_where, next_voter_incarnation, identity_of, new_voter_slot_identity, node_id, from_node_id, number_and_value, number_and_identity}
-use Rattle.identity.specs.declared.answer.Answer.{Answer}
-use Rattle.identity.specs.declared.answer.Answer.TheVariants.{Accepted, InvalidSlot, InvalidIncarnation, IncarnationExhausted}
-use Rattle.identity.specs.declared.identity.NumberResult.{NumberResult}
+use Rattle.identity.specs.declared.answer.Refusal.{Refusal}
+use Rattle.identity.specs.declared.answer.Refusal.TheVariants as refusal
+use Rattle.identity.specs.Answer.{Answer, is_accepted, Accepted, InvalidIncarnation, InvalidSlot}
+use Rattle.identity.specs.AnswerLaws.{refusal-injective, refusal-not-0}
+use Rattle.identity.specs.Identity.{max_slot_id, max_voter_incarnation, max_consensus_node_id, node_id_span, is_slot_id, is_voter_incarnation, is_consensus_node_id, validate_voter_incarnation, validate_voter_slot_identity, passed_with, next_voter_incarnation, identity_of, new_voter_slot_identity, node_id, from_node_id, number_and_value, number_and_identity}
 use Rattle.identity.specs.declared.identity.VoterSlotIdentity.{VoterSlotIdentity}
-use Rattle.identity.specs.declared.identity.VoterSlotIdentityResult.{VoterSlotIdentityResult}
 
 -- A number within two bounds.
 pub record Within (low high value : ℕ) : Type 0 where
@@ -52,46 +50,40 @@ identity-sound identity h =
 abbrev number_of_node : VoterSlotIdentity → ℕ
 number_of_node identity = (identity.incarnation - 1) * node_id_span + identity.slot
 
-number-where : (t : Answer) (value node : ℕ) → number_where t value ≡ NumberResult.Ok node → (is_accepted t ≡ true) × (value ≡ node)
-number-where t value node h = go (is_accepted t) refl
-  where
-    go : (b : Bool) → is_accepted t ≡ b → (is_accepted t ≡ true) × (value ≡ node)
-    go true e = (e, let k : NumberResult.Ok value ≡ NumberResult.Ok node = rw e at h in cc)
-    go false e = absurd (let k : NumberResult.Err t ≡ NumberResult.Ok node = rw e at h in let z : ◌≡◌ {A = ℕ} 0 1 = cc in omega arith)
+passed : {A : Type 0} (t : Answer) (value found : A) → passed_with t value ≡ Ok found → (is_accepted t ≡ true) × (value ≡ found)
+passed (Ok nothing) value found h = (refl, cc)
+passed (Err e) value found h = absurd (let z : ◌≡◌ {A = ℕ} 0 1 = cc in omega arith)
 
-identity-where : (t : Answer) (found identity : VoterSlotIdentity) → identity_where t found ≡ VoterSlotIdentityResult.Ok identity → (is_accepted t ≡ true) × (found ≡ identity)
-identity-where t found identity h = go (is_accepted t) refl
-  where
-    go : (b : Bool) → is_accepted t ≡ b → (is_accepted t ≡ true) × (found ≡ identity)
-    go true e = (e, let k : VoterSlotIdentityResult.Ok found ≡ VoterSlotIdentityResult.Ok identity = rw e at h in cc)
-    go false e = absurd (let k : VoterSlotIdentityResult.Err t ≡ VoterSlotIdentityResult.Ok identity = rw e at h in let z : ◌≡◌ {A = ℕ} 0 1 = cc in omega arith)
+passes : {A : Type 0} (t : Answer) (value : A) → is_accepted t ≡ true → passed_with t value ≡ Ok value
+passes (Ok nothing) value h = refl
+passes (Err e) value h = absurd (let z : ◌≡◌ {A = ℕ} 0 1 = cc in omega arith)
 
 -- The identity that a node id was made of is the one that is read.
-pub read_made : (identity : VoterSlotIdentity) (node : ℕ) → node_id identity ≡ NumberResult.Ok node → from_node_id node ≡ VoterSlotIdentityResult.Ok identity
+pub read_made : (identity : VoterSlotIdentity) (node : ℕ) → node_id identity ≡ Ok node → from_node_id node ≡ Ok identity
 unfolding node_id from_node_id new_voter_slot_identity
 read_made identity node h =
-    let e = number-where (validate_voter_slot_identity identity) (number_of_node identity) node h in
+    let e = passed (validate_voter_slot_identity identity) (number_of_node identity) node h in
     let s = identity-sound identity e.0 in
     let n : number_of_node identity ≡ node = e.1 in
     let p : node % 65536 ≡ identity.slot = omega (arith, s.slot.below, s.incarnation.above) in
     let q : node / 65536 + 1 ≡ identity.incarnation = omega (arith, s.slot.below, s.incarnation.above) in
     let i : identity_of (node % 65536) (node / 65536 + 1) ≡ identity = λ j. record { slot = p j; incarnation = q j } in
-    rw (i, e.0)
+    rw i (passes (validate_voter_slot_identity identity) identity e.0)
 
 -- The node id that an identity was read from is the one that is made of it.
-pub made-read : (node : ℕ) (identity : VoterSlotIdentity) → from_node_id node ≡ VoterSlotIdentityResult.Ok identity → node_id identity ≡ NumberResult.Ok node
+pub made-read : (node : ℕ) (identity : VoterSlotIdentity) → from_node_id node ≡ Ok identity → node_id identity ≡ Ok node
 unfolding node_id from_node_id new_voter_slot_identity
 made-read node identity h =
     let found = identity_of (node % 65536) (node / 65536 + 1) in
-    let e = identity-where (validate_voter_slot_identity found) found identity h in
+    let e = passed (validate_voter_slot_identity found) found identity h in
     let n : number_of_node found ≡ node = omega arith in
-    rw (sym e.1, e.0, n)
+    rw (sym e.1) (passes (validate_voter_slot_identity found) (number_of_node found) e.0 ∙ ap (λ (n : ℕ). Ok n) n)
 
 -- A node id that was made is one that `ConsensusNodeId::new` takes.
-pub made_held : (identity : VoterSlotIdentity) (node : ℕ) → node_id identity ≡ NumberResult.Ok node → is_consensus_node_id node ≡ true
+pub made_held : (identity : VoterSlotIdentity) (node : ℕ) → node_id identity ≡ Ok node → is_consensus_node_id node ≡ true
 unfolding node_id
 made_held identity node h =
-    let e = number-where (validate_voter_slot_identity identity) (number_of_node identity) node h in
+    let e = passed (validate_voter_slot_identity identity) (number_of_node identity) node h in
     let s = identity-sound identity e.0 in
     let n : number_of_node identity ≡ node = e.1 in
     let p : 1 ≤ node = omega (arith, s.slot.above) in
@@ -101,57 +93,46 @@ made_held identity node h =
 -- ---- document 01's number and value leave one result
 
 -- A result that its number and value tell from every other: a value that is no refusal's, or a
--- refusal whose number is not 0.
-abbrev pub TellingNumber : NumberResult → Type 0
-TellingNumber (NumberResult.Ok value) = 1 ≤ value
-TellingNumber (NumberResult.Err answer) = is_accepted answer ≡ false
+-- refusal, whose number is never 0.
+abbrev pub TellingNumber : Result ℕ Refusal → Type 0
+TellingNumber (Ok value) = 1 ≤ value
+TellingNumber (Err e) = Unit {0}
 
-abbrev pub TellingIdentity : VoterSlotIdentityResult → Type 0
-TellingIdentity (VoterSlotIdentityResult.Ok identity) = Sound identity
-TellingIdentity (VoterSlotIdentityResult.Err answer) = is_accepted answer ≡ false
+abbrev pub TellingIdentity : Result VoterSlotIdentity Refusal → Type 0
+TellingIdentity (Ok identity) = Sound identity
+TellingIdentity (Err e) = Unit {0}
 
-not-zero : (a : Answer) → is_accepted a ≡ false → 0 ≡ number_of a → ⊥
-not-zero a h e = let z : true ≡ false = ap (λ (n : ℕ). eqb n 0) e ∙ h in let y : ◌≡◌ {A = ℕ} 0 1 = cc in omega arith
-
--- What a contract says of number and value, made an equation of results: `number-told r (node_id
--- identity) (node-telling identity) c.node-id.ensures`.
-pub number-told : (r d : NumberResult) → TellingNumber d → number_and_value r ≡ number_and_value d → r ≡ d
-number-told (NumberResult.Ok v) (NumberResult.Ok w) t e = λ i. NumberResult.Ok (e i).1
-number-told (NumberResult.Ok v) (NumberResult.Err b) t e = absurd (not-zero b t (λ i. (e i).0))
-number-told (NumberResult.Err a) (NumberResult.Ok w) t e = absurd (let z : 0 ≡ w = λ i. (e i).1 in omega arith)
-number-told (NumberResult.Err a) (NumberResult.Err b) t e = ap NumberResult.Err (number-injective a b (λ i. (e i).0))
+-- What document 01's number and value of a result say, made an equation of results.
+pub number-told : (r d : Result ℕ Refusal) → TellingNumber d → number_and_value r ≡ number_and_value d → r ≡ d
+number-told (Ok v) (Ok w) t e = λ i. Ok (e i).1
+number-told (Ok v) (Err b) t e = absurd (refusal-not-0 b (λ i. (e i).0))
+number-told (Err a) (Ok w) t e = absurd (let z : 0 ≡ w = λ i. (e i).1 in omega arith)
+number-told (Err a) (Err b) t e = ap Err (refusal-injective a b (λ i. (e i).0))
 
 -- The same of an identity.
-pub identity-told : (r d : VoterSlotIdentityResult) → TellingIdentity d → number_and_identity r ≡ number_and_identity d → r ≡ d
-identity-told (VoterSlotIdentityResult.Ok v) (VoterSlotIdentityResult.Ok w) t e = λ i. VoterSlotIdentityResult.Ok (e i).1
-identity-told (VoterSlotIdentityResult.Ok v) (VoterSlotIdentityResult.Err b) t e = absurd (not-zero b t (λ i. (e i).0))
-identity-told (VoterSlotIdentityResult.Err a) (VoterSlotIdentityResult.Ok w) t e =
+pub identity-told : (r d : Result VoterSlotIdentity Refusal) → TellingIdentity d → number_and_identity r ≡ number_and_identity d → r ≡ d
+identity-told (Ok v) (Ok w) t e = λ i. Ok (e i).1
+identity-told (Ok v) (Err b) t e = absurd (refusal-not-0 b (λ i. (e i).0))
+identity-told (Err a) (Ok w) t e =
     absurd (let z : 0 ≡ w.slot = λ i. (e i).1.slot in omega (arith, t.slot.above))
-identity-told (VoterSlotIdentityResult.Err a) (VoterSlotIdentityResult.Err b) t e = ap VoterSlotIdentityResult.Err (number-injective a b (λ i. (e i).0))
+identity-told (Err a) (Err b) t e = ap Err (refusal-injective a b (λ i. (e i).0))
 
 -- A check's answer with the value that it lets pass is such a result.
-number-telling : (t : Answer) (value : ℕ) → (is_accepted t ≡ true → 1 ≤ value) → TellingNumber (number_where t value)
-number-telling t value h = go (is_accepted t) refl
-  where
-    go : (b : Bool) → is_accepted t ≡ b → TellingNumber (cond b (NumberResult.Ok value) (NumberResult.Err t))
-    go true e = h e
-    go false e = e
+number-telling : (t : Answer) (value : ℕ) → (is_accepted t ≡ true → 1 ≤ value) → TellingNumber (passed_with t value)
+number-telling (Ok nothing) value h = h refl
+number-telling (Err e) value h = tt
 
-identity-telling : (identity : VoterSlotIdentity) → TellingIdentity (identity_where (validate_voter_slot_identity identity) identity)
-identity-telling identity = go (is_accepted (validate_voter_slot_identity identity)) refl
-  where
-    go : (b : Bool) → is_accepted (validate_voter_slot_identity identity) ≡ b
-        → TellingIdentity (cond b (VoterSlotIdentityResult.Ok identity) (VoterSlotIdentityResult.Err (validate_voter_slot_identity identity)))
-    go true e = identity-sound identity e
-    go false e = e
+identity-telling : (t : Answer) (identity : VoterSlotIdentity) → (is_accepted t ≡ true → Sound identity) → TellingIdentity (passed_with t identity)
+identity-telling (Ok nothing) identity h = h refl
+identity-telling (Err e) identity h = tt
 
 -- So is what each of the four definitions gives: of `next_voter_incarnation`,
 pub next-telling : (incarnation : ℕ) → TellingNumber (next_voter_incarnation incarnation)
 unfolding next_voter_incarnation
 next-telling incarnation = go (eqb incarnation max_voter_incarnation)
   where
-    go : (b : Bool) → TellingNumber (cond b (NumberResult.Err IncarnationExhausted) (number_where (validate_voter_incarnation incarnation) (incarnation + 1)))
-    go true = refl
+    go : (b : Bool) → TellingNumber (cond b (Err refusal.IncarnationExhausted) (passed_with (validate_voter_incarnation incarnation) (incarnation + 1)))
+    go true = tt
     go false = number-telling (validate_voter_incarnation incarnation) (incarnation + 1) (λ h. omega arith)
 
 -- of `VoterSlotIdentity::node_id`,
@@ -163,7 +144,9 @@ node-telling identity =
 -- of `VoterSlotIdentity::new`,
 pub new-telling : (slot incarnation : ℕ) → TellingIdentity (new_voter_slot_identity slot incarnation)
 unfolding new_voter_slot_identity
-new-telling slot incarnation = identity-telling (identity_of slot incarnation)
+new-telling slot incarnation =
+    let identity = identity_of slot incarnation in
+    identity-telling (validate_voter_slot_identity identity) identity (identity-sound identity)
 
 -- and of `VoterSlotIdentity::from_node_id`.
 pub read-telling : (node : ℕ) → TellingIdentity (from_node_id node)

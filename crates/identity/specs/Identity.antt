@@ -3,13 +3,11 @@
 -- From voter_slots/identity.rs and identity.rs: `SlotId`, `VoterIncarnation`, `VoterSlotIdentity`,
 -- `ConsensusNodeId`.
 -- Assumes nothing.
-use Rattle.std.specs.Prelude.{ℕ, ◌+◌, ◌-◌, ◌*◌, ◌/◌, ◌%◌, ◌^◌, Bool, cond, ◌&&◌, eqb, leb}
-use Rattle.identity.specs.Answer.{number_of, is_accepted}
-use Rattle.identity.specs.declared.answer.Answer.{Answer}
-use Rattle.identity.specs.declared.answer.Answer.TheVariants.{Accepted, InvalidSlot, InvalidIncarnation, IncarnationExhausted}
-use Rattle.identity.specs.declared.identity.NumberResult.{NumberResult}
+use Rattle.std.specs.Prelude.{ℕ, ◌+◌, ◌-◌, ◌*◌, ◌/◌, ◌%◌, ◌^◌, Bool, cond, ◌&&◌, eqb, leb, Result, Ok, Err}
+use Rattle.identity.specs.declared.answer.Refusal.{Refusal}
+use Rattle.identity.specs.declared.answer.Refusal.TheVariants.{IncarnationExhausted}
+use Rattle.identity.specs.Answer.{Answer, number_of_refusal, Accepted, InvalidSlot, InvalidIncarnation}
 use Rattle.identity.specs.declared.identity.VoterSlotIdentity.{VoterSlotIdentity}
-use Rattle.identity.specs.declared.identity.VoterSlotIdentityResult.{VoterSlotIdentityResult}
 
 -- "Slot 1 to 65,535, incarnation 1 to 2^47, epoch from 1."
 abbrev pub max_slot_id : ℕ
@@ -49,62 +47,60 @@ unfoldable pub validate_voter_slot_identity : VoterSlotIdentity → Answer
 validate_voter_slot_identity identity =
     cond (is_slot_id identity.slot) (validate_voter_incarnation identity.incarnation) InvalidSlot
 
--- a value that passed its check, or the check's answer
-abbrev pub number_where : Answer → ℕ → NumberResult
-number_where answer value = cond (is_accepted answer) (NumberResult.Ok value) (NumberResult.Err answer)
-
-abbrev pub identity_where : Answer → VoterSlotIdentity → VoterSlotIdentityResult
-identity_where answer identity = cond (is_accepted answer) (VoterSlotIdentityResult.Ok identity) (VoterSlotIdentityResult.Err answer)
+-- the Rust's `?`: a value that passed its check, or the check's refusal
+abbrev pub passed_with : {A : Type 0} → Answer → A → Result A Refusal
+passed_with (Ok nothing) value = Ok value
+passed_with (Err e) value = Err e
 
 -- `VoterIncarnation::next`: 3 after the largest; a number that is no incarnation has none after it
-unfoldable pub next_voter_incarnation : ℕ → NumberResult
+unfoldable pub next_voter_incarnation : ℕ → Result ℕ Refusal
 next_voter_incarnation incarnation =
-    cond (eqb incarnation max_voter_incarnation) (NumberResult.Err IncarnationExhausted)
-    (number_where (validate_voter_incarnation incarnation) (incarnation + 1))
+    cond (eqb incarnation max_voter_incarnation) (Err IncarnationExhausted)
+    (passed_with (validate_voter_incarnation incarnation) (incarnation + 1))
 
 -- a slot and an incarnation, whatever the numbers are
 abbrev pub identity_of : ℕ → ℕ → VoterSlotIdentity
 identity_of slot incarnation = record { slot = slot; incarnation = incarnation }
 
 -- `VoterSlotIdentity::new`, of numbers that are tested here
-unfoldable pub new_voter_slot_identity : ℕ → ℕ → VoterSlotIdentityResult
+unfoldable pub new_voter_slot_identity : ℕ → ℕ → Result VoterSlotIdentity Refusal
 new_voter_slot_identity slot incarnation =
-    identity_where (validate_voter_slot_identity (identity_of slot incarnation)) (identity_of slot incarnation)
+    passed_with (validate_voter_slot_identity (identity_of slot incarnation)) (identity_of slot incarnation)
 
 -- how many node ids one incarnation number takes: a place for each slot, and one for 0
 abbrev pub node_id_span : ℕ
 node_id_span = max_slot_id + 1
 
 -- `VoterSlotIdentity::node_id`: "Node id = (incarnation − 1) × 65,536 + slot"
-unfoldable pub node_id : VoterSlotIdentity → NumberResult
+unfoldable pub node_id : VoterSlotIdentity → Result ℕ Refusal
 node_id identity =
-    number_where (validate_voter_slot_identity identity) ((identity.incarnation - 1) * node_id_span + identity.slot)
+    passed_with (validate_voter_slot_identity identity) ((identity.incarnation - 1) * node_id_span + identity.slot)
 
 -- `VoterSlotIdentity::from_node_id`: "reading one tests the slot first"
-unfoldable pub from_node_id : ℕ → VoterSlotIdentityResult
+unfoldable pub from_node_id : ℕ → Result VoterSlotIdentity Refusal
 from_node_id node = new_voter_slot_identity (node % node_id_span) (node / node_id_span + 1)
 
 -- "For every case of an enum answer, a definition gives this paper's number and values": those of
 -- the two results. A refusal has the value 0, or slot 0 and incarnation 0. The contracts equate the
 -- pair of both.
-abbrev pub number_of_number : NumberResult → ℕ
-number_of_number (NumberResult.Ok value) = 0
-number_of_number (NumberResult.Err answer) = number_of answer
+abbrev pub number_of_number : Result ℕ Refusal → ℕ
+number_of_number (Ok value) = 0
+number_of_number (Err e) = number_of_refusal e
 
-abbrev pub value_of_number : NumberResult → ℕ
-value_of_number (NumberResult.Ok value) = value
-value_of_number (NumberResult.Err answer) = 0
+abbrev pub value_of_number : Result ℕ Refusal → ℕ
+value_of_number (Ok value) = value
+value_of_number (Err e) = 0
 
-abbrev pub number_and_value : NumberResult → ℕ × ℕ
+abbrev pub number_and_value : Result ℕ Refusal → ℕ × ℕ
 number_and_value r = (number_of_number r, value_of_number r)
 
-abbrev pub number_of_identity : VoterSlotIdentityResult → ℕ
-number_of_identity (VoterSlotIdentityResult.Ok identity) = 0
-number_of_identity (VoterSlotIdentityResult.Err answer) = number_of answer
+abbrev pub number_of_identity : Result VoterSlotIdentity Refusal → ℕ
+number_of_identity (Ok identity) = 0
+number_of_identity (Err e) = number_of_refusal e
 
-abbrev pub value_of_identity : VoterSlotIdentityResult → VoterSlotIdentity
-value_of_identity (VoterSlotIdentityResult.Ok identity) = identity
-value_of_identity (VoterSlotIdentityResult.Err answer) = identity_of 0 0
+abbrev pub value_of_identity : Result VoterSlotIdentity Refusal → VoterSlotIdentity
+value_of_identity (Ok identity) = identity
+value_of_identity (Err e) = identity_of 0 0
 
-abbrev pub number_and_identity : VoterSlotIdentityResult → ℕ × VoterSlotIdentity
+abbrev pub number_and_identity : Result VoterSlotIdentity Refusal → ℕ × VoterSlotIdentity
 number_and_identity r = (number_of_identity r, value_of_identity r)

@@ -2,12 +2,13 @@
 -- and the strict name read byte by byte.
 -- Each name here is a step of a proof; what is right is said in Text.
 -- Assumes nothing.
+use Rattle.std.specs.List.{starts_with as front}
 use Rattle.std.specs.Prelude.{ℕ, zero, suc, ◌+◌, ◌<◌, ◌≤◌, ◌≡◌, Bool, true, false, cond, not, ◌&&◌, ◌||◌, length, get_or, take, drop, eqb, leb, ltb}
 use Rattle.std.proofs.Math.Path.{refl}
-use Rattle.std.proofs.Common.{sym, ap, ◌∙◌, add-one, arith, drop-cons, ltb-true, ltb-false, lt-ltb, leb-true, le-leb, ne_eqb}
+use Rattle.std.proofs.Common.{sym, ap, ◌∙◌, add-one, arith, drop-cons, ltb-true, ltb-false, lt-ltb, leb-true, le-leb, ne_eqb, eq-eqb, eqb-true}
 use Rattle.std.proofs.Math.Bool.{and-true, and-false, and_assoc, or-false, or_assoc}
 use mathlib.Core.List.{List, [], ◌∷◌}
-use Rattle.std.proofs.lemmas.Bool.{not-true, lt-leb}
+use Rattle.std.proofs.lemmas.Bool.{not-true, lt-leb, eqb-false}
 use Rattle.identity.specs.Utf8.{Range, octets, within, chars_from, all_chars}
 use Rattle.identity.specs.Utf8Laws.{and_left, and_right, char-one, chars-end, chars-more}
 use Rattle.identity.specs.Text.{is_in, white_space, allows, first_ascii, last_ascii, every, starts_with, is_domain_byte, is_segment_byte, prepend, split, all_segments, are_strict_parts, next_part}
@@ -48,6 +49,20 @@ starts-suc (b ∷ s) (c ∷ p) (suc i) h k =
 pub starts_more : (s p : List ℕ) (i : ℕ) → i < length s → i < length p
     → starts_with s (take (i + 1) p) ≡ (starts_with s (take i p) && eqb (get_or s i 0) (get_or p i 0))
 starts_more s p i h k = rw add-one (starts-suc s p i h k)
+
+eqb-turned : (a b : ℕ) → eqb a b ≡ eqb b a
+eqb-turned a b = by (eqb a b) refl
+  where
+    by : (t : Bool) → eqb a b ≡ t → eqb a b ≡ eqb b a
+    by true e = e ∙ sym (eq-eqb b a (sym (eqb-true a b e)))
+    by false e = e ∙ sym (ne_eqb b a (λ q. eqb-false a b e (sym q)))
+
+-- It is the library's word for the front of a slice.
+pub starts_as : (s p : List ℕ) → front (λ a b. eqb a b) s p ≡ starts_with s p
+unfolding starts_with
+starts_as s [] = refl
+starts_as [] (c ∷ p) = refl
+starts_as (b ∷ s) (c ∷ p) = ap (λ (t : Bool). eqb c b && t) (starts_as s p) ∙ ap (λ (t : Bool). t && starts_with s p) (eqb-turned c b)
 
 -- What starts with p is no shorter than p.
 pub starts-length : (s p : List ℕ) → starts_with s p ≡ true → length p ≤ length s

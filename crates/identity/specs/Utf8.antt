@@ -2,9 +2,7 @@
 -- States "UTF-8 as RFC 3629 has it; the first byte is judged by its range" of document 01, section
 -- "Text".
 -- Assumes nothing.
-use Rattle.std.specs.Prelude.{ℕ, zero, suc, ◌+◌, ◌*◌, ◌%◌, Bool, true, false, cond, ◌&&◌, List, [], ◌∷◌, length, get_or, drop, eqb, leb}
-use Rattle.identity.specs.declared.utf8.Decoded.{Decoded}
-use Rattle.identity.specs.declared.utf8.Decoded.TheVariants.{Char, Malformed}
+use Rattle.std.specs.Prelude.{ℕ, zero, suc, ◌+◌, ◌*◌, ◌%◌, Bool, true, false, cond, ◌&&◌, List, [], ◌∷◌, length, get_or, drop, eqb, leb, Option, Some, None}
 
 -- A range of byte values, both ends included: the RFC's %x80-BF.
 pub record Range : Type 0 where
@@ -62,7 +60,18 @@ code_point width s =
     (cond (eqb width 3) ((get_or s 0 0 % 16 * 64 + get_or s 1 0 % 64) * 64 + get_or s 2 0 % 64)
     (((get_or s 0 0 % 8 * 64 + get_or s 1 0 % 64) * 64 + get_or s 2 0 % 64) * 64 + get_or s 3 0 % 64)))
 
--- What stands at the front of s: a character with its code point and its width, or none.
+-- What stands at the front of some bytes: a character, its code point and how many bytes it takes,
+-- or none.
+abbrev pub Decoded : Type 0
+Decoded = Option (ℕ × ℕ)
+
+pattern abbrev pub Char : ℕ → ℕ → Decoded
+Char code width = Some (code, width)
+
+pattern abbrev pub Malformed : Decoded
+Malformed = None
+
+-- that, of a width and the bytes
 abbrev pub decoded_of : ℕ → List ℕ → Decoded
 decoded_of zero s = Malformed
 decoded_of (suc n) s = Char (code_point (suc n) s) (suc n)

@@ -10,7 +10,7 @@ use Rattle.std.proofs.Math.Bool.{and-true, and-false}
 use mathlib.Core.List.{List, [], ◌∷◌, ◌++◌}
 use borrow.Author.Tests.{ltb-true, leb-true, le-leb, lt-leb, eq-eqb, ne_eqb}
 use Rattle.identity.specs.Utf8.{Range, octets, within, utf8_tail, utf8_char, fits, width_in, char_width, code_point, decoded_of, decoded_char, led_by, chars_from}
-use Rattle.identity.specs.declared.utf8.Decoded.TheVariants.{Char, Malformed}
+use Rattle.identity.specs.Utf8.{Char, Malformed}
 
 pub and_left : (p q : Bool) → (p && q) ≡ true → p ≡ true
 and_left true q h = refl
@@ -178,7 +178,10 @@ pub record Sized (s : List ℕ) (width : ℕ) : Type 0 where
 
 sized-by : (w : ℕ) (s : List ℕ) (code width : ℕ) → decoded_of w s ≡ Char code width → (w ≡ width) × (1 ≤ w)
 sized-by zero s code width e = absurd (let z : ◌≡◌ {A = ℕ} 0 1 = cc in omega arith)
-sized-by (suc n) s code width e = (cc, omega arith)
+sized-by (suc n) s code width e =
+    let p : ◌≡◌ {A = ℕ × ℕ} (code_point (suc n) s, suc n) (code, width) = cc in
+    let w : suc n ≡ width = ap (λ (q : ℕ × ℕ). q.1) p in
+    (w, omega arith)
 
 pub sized : (s : List ℕ) (code width : ℕ) → decoded_char s ≡ Char code width → Sized s width
 unfolding decoded_char

@@ -4,12 +4,11 @@
 // crates/opc-consensus/src/voter_slots/identity.rs of openpacketcore-sdk, commit 717de332e7,
 // Apache-2.0 (see NOTICE). Changed: a type that wraps one number or array is that number or array
 // (document 01 lets a table carry any value and refuses it with 30, so a type cannot rule one out),
-// and what made it is a check of the number; a `Result` is an enum of this file; what hashes,
-// serializes or prints is left out.
+// and what made it is a check of the number; what hashes, serializes or prints is left out.
 ghost use Rattle.std.specs.Prelude.{◌≡◌};
-ghost use Rattle.identity.specs.Identity.{validate_slot_id, validate_voter_incarnation, next_voter_incarnation, is_configuration_epoch, is_consensus_node_id, validate_voter_slot_identity, new_voter_slot_identity, node_id, from_node_id, number_and_value, number_and_identity};
+ghost use Rattle.identity.specs.Identity.{validate_slot_id, validate_voter_incarnation, next_voter_incarnation, is_configuration_epoch, is_consensus_node_id, validate_voter_slot_identity, new_voter_slot_identity, node_id, from_node_id};
 
-use crate::answer::{Answer, accepted};
+use crate::answer::{Answer, Refusal};
 
 // Fixed-width, domain-separated identity of one consensus cluster.
 pub type ConsensusClusterId = [u8; 32];
@@ -54,7 +53,7 @@ pub struct ConsensusIdentity {
 
 // Incarnation-qualified identity, scoped by the enclosing installation id.
 #[repr(C)]
-#[derive(Clone, Copy)]
+#[derive(Clone, Copy, PartialEq, Eq)]
 pub struct VoterSlotIdentity {
     // Stable ordinal assigned by the immutable installation manifest, 1 to 65,535.
     pub slot: SlotId,
@@ -62,28 +61,14 @@ pub struct VoterSlotIdentity {
     pub incarnation: VoterIncarnation,
 }
 
-// A number (a node id, an incarnation), or why there is none.
-#[derive(Clone, Copy)]
-pub enum NumberResult {
-    Ok(u64),
-    Err(Answer),
-}
-
-// An identity, or why there is none.
-#[derive(Clone, Copy)]
-pub enum VoterSlotIdentityResult {
-    Ok(VoterSlotIdentity),
-    Err(Answer),
-}
-
 // `SlotId::new`: a slot is 1 to 65,535.
 pub fn validate_slot_id(value: SlotId) -> Answer
     ensures { result ≡ validate_slot_id value }
 {
     if value == 0 {
-        return Answer::InvalidSlot;
+        return Err(Refusal::InvalidSlot);
     }
-    Answer::Accepted
+    Ok(())
 }
 
 // `VoterIncarnation::new`: an incarnation is 1 to 2^47.
@@ -91,26 +76,24 @@ pub fn validate_voter_incarnation(value: VoterIncarnation) -> Answer
     ensures { result ≡ validate_voter_incarnation value }
 {
     if value == 0 {
-        return Answer::InvalidIncarnation;
+        return Err(Refusal::InvalidIncarnation);
     }
     if MAX_VOTER_INCARNATION < value {
-        return Answer::InvalidIncarnation;
+        return Err(Refusal::InvalidIncarnation);
     }
-    Answer::Accepted
+    Ok(())
 }
 
 // `VoterIncarnation::next`. A number that is no incarnation has none after it.
-pub fn next_voter_incarnation(incarnation: VoterIncarnation) -> NumberResult
-    ensures { number_and_value result ≡ number_and_value (next_voter_incarnation incarnation) }
+#[tactic(auto, unfolding(crate::specs::Identity::next_voter_incarnation))]
+pub fn next_voter_incarnation(incarnation: VoterIncarnation) -> Result<u64, Refusal>
+    ensures { result ≡ next_voter_incarnation incarnation }
 {
     if incarnation == MAX_VOTER_INCARNATION {
-        return NumberResult::Err(Answer::IncarnationExhausted);
+        return Err(Refusal::IncarnationExhausted);
     }
-    let answer = validate_voter_incarnation(incarnation);
-    if !accepted(answer) {
-        return NumberResult::Err(answer);
-    }
-    NumberResult::Ok(incarnation + 1)
+    validate_voter_incarnation(incarnation)?;
+    Ok(incarnation + 1)
 }
 
 // `ConsensusConfigurationEpoch::new`: an epoch is 1 or more.
@@ -130,15 +113,13 @@ pub fn is_consensus_node_id(value: ConsensusNodeId) -> bool
 
 impl VoterSlotIdentity {
     // The identity of an incarnation of a slot.
-    pub fn new(slot: SlotId, incarnation: VoterIncarnation) -> VoterSlotIdentityResult
-        ensures { number_and_identity result ≡ number_and_identity (new_voter_slot_identity slot incarnation) }
+    #[tactic(auto, unfolding(crate::specs::Identity::new_voter_slot_identity))]
+    pub fn new(slot: SlotId, incarnation: VoterIncarnation) -> Result<VoterSlotIdentity, Refusal>
+        ensures { result ≡ new_voter_slot_identity slot incarnation }
     {
         let identity = VoterSlotIdentity { slot, incarnation };
-        let answer = identity.validate();
-        if !accepted(answer) {
-            return VoterSlotIdentityResult::Err(answer);
-        }
-        VoterSlotIdentityResult::Ok(identity)
+        identity.validate()?;
+        Ok(identity)
     }
 
     // Whether the slot and the incarnation are in their ranges. The slot is tested first.
@@ -146,25 +127,23 @@ impl VoterSlotIdentity {
         ensures { result ≡ validate_voter_slot_identity self }
     {
         if self.slot == 0 {
-            return Answer::InvalidSlot;
+            return Err(Refusal::InvalidSlot);
         }
         validate_voter_incarnation(self.incarnation)
     }
 
     // The engine's number for the identity: (incarnation - 1) * 65,536 + slot.
-    pub fn node_id(self) -> NumberResult
-        ensures { number_and_value result ≡ number_and_value (node_id self) }
+    #[tactic(auto, unfolding(crate::specs::Identity::node_id))]
+    pub fn node_id(self) -> Result<u64, Refusal>
+        ensures { result ≡ node_id self }
     {
-        let answer = self.validate();
-        if !accepted(answer) {
-            return NumberResult::Err(answer);
-        }
-        NumberResult::Ok((self.incarnation - 1) * NODE_ID_SPAN + self.slot as u64)
+        self.validate()?;
+        Ok((self.incarnation - 1) * NODE_ID_SPAN + self.slot as u64)
     }
 
     // Reverses `node_id`, for any 64-bit number.
-    pub fn from_node_id(node: ConsensusNodeId) -> VoterSlotIdentityResult
-        ensures { number_and_identity result ≡ number_and_identity (from_node_id node) }
+    pub fn from_node_id(node: ConsensusNodeId) -> Result<VoterSlotIdentity, Refusal>
+        ensures { result ≡ from_node_id node }
     {
         VoterSlotIdentity::new((node % NODE_ID_SPAN) as u16, node / NODE_ID_SPAN + 1)
     }

@@ -9,7 +9,7 @@ ghost use Rattle.std.specs.Prelude.{◌≡◌, ◌<◌};
 ghost use Rattle.identity.specs.Utf8.{octets, within, all_chars};
 ghost use Rattle.identity.specs.Text.{is_control, is_in, is_whitespace, allows, first_ascii, last_ascii, is_utf8, every, starts_with, is_name, is_snapshot_id, is_domain_byte, is_segment_byte, split, are_strict_parts, is_strict_name, next_part};
 
-use crate::utf8::{Decoded, decode};
+use crate::utf8::decode;
 
 // Bytes of `spiffe://`, with which every name begins.
 const SCHEME_BYTES: usize = 9;
@@ -65,7 +65,7 @@ pub fn is_name(bytes: &[u8]) -> bool
     if MAX_VOTER_SPIFFE_ID_BYTES < bytes.len() {
         return false;
     }
-    if !starts_with(bytes, b"spiffe://") {
+    if !bytes.starts_with(b"spiffe://") {
         return false;
     }
     all_allowed(bytes, Allowed::NoControlNoWhitespace)
@@ -91,7 +91,7 @@ pub fn is_strict_name(bytes: &[u8]) -> bool
     if MAX_VOTER_SPIFFE_ID_BYTES < bytes.len() {
         return false;
     }
-    if !starts_with(bytes, b"spiffe://") {
+    if !bytes.starts_with(b"spiffe://") {
         return false;
     }
     are_strict_parts(&bytes[SCHEME_BYTES..])
@@ -122,14 +122,13 @@ pub fn is_whitespace(code: u32) -> bool
 }
 
 // Whether the code point is in the list. No early exit, so that several are compared at once.
+#[tactic(auto, unfolding(crate::specs::Text::is_in))]
 fn contains(list: &[u32], code: u32) -> bool
     ensures { result ≡ is_in list.now code }
 {
     let mut found = false;
-    let mut i = 0;
-    while i < list.len() {
-        found = found | (list[i] == code);
-        i += 1;
+    for one in list {
+        found = found | (*one == code);
     }
     found
 }
@@ -179,14 +178,13 @@ fn last_ascii(rule: Allowed) -> u8
 }
 
 // Whether every byte lies from low to high. No early exit, so that sixteen are compared at once.
+#[tactic(auto, using(crate::specs::TextLaws::all_more), unfolding(crate::specs::Text::every))]
 fn all_within(bytes: &[u8], low: u8, high: u8) -> bool
     ensures { result ≡ every (within (octets low high)) bytes.now }
 {
     let mut all = true;
-    let mut i = 0;
-    while i < bytes.len() {
-        all = all & ((low <= bytes[i]) & (bytes[i] <= high));
-        i += 1;
+    for byte in bytes {
+        all = all & ((low <= *byte) & (*byte <= high));
     }
     all
 }
@@ -197,7 +195,7 @@ fn all_chars(bytes: &[u8], rule: Allowed) -> bool
 {
     let mut at = 0;
     while at < bytes.len() {
-        let Decoded::Char { code, width } = decode(&bytes[at..]) else {
+        let Some((code, width)) = decode(&bytes[at..]) else {
             return false;
         };
         if !is_allowed(rule, code) {
@@ -206,21 +204,6 @@ fn all_chars(bytes: &[u8], rule: Allowed) -> bool
         at += width;
     }
     true
-}
-
-fn starts_with(bytes: &[u8], prefix: &[u8]) -> bool
-    ensures { result ≡ starts_with bytes.now prefix.now }
-{
-    if bytes.len() < prefix.len() {
-        return false;
-    }
-    let mut same = true;
-    let mut i = 0;
-    while i < prefix.len() {
-        same = same & (bytes[i] == prefix[i]);
-        i += 1;
-    }
-    same
 }
 
 // The trust domain and the segments after it, with slashes between them.
@@ -232,10 +215,8 @@ fn are_strict_parts(bytes: &[u8]) -> bool
         in_domain: true,
         run: 0,
     };
-    let mut i = 0;
-    while i < bytes.len() {
-        part = next_part(part, bytes[i]);
-        i += 1;
+    for byte in bytes {
+        part = next_part(part, *byte);
     }
     part.good & (0 < part.run)
 }

@@ -3,32 +3,20 @@
 ghost use Rattle.std.specs.Prelude.{◌<◌, ◌≡◌, [], ◌∷◌, get_or};
 ghost use Rattle.identity.specs.Utf8.{octets, within, utf8_tail, led_by, decoded_char};
 
-// What stands at the front of some bytes.
-#[derive(Clone, Copy)]
-pub enum Decoded {
-    // A character: its code point, and how many bytes it takes.
-    Char { code: u32, width: usize },
-    // No character: a wrong or a missing byte, an overlong form, a surrogate, or a code point above
-    // 10FFFF.
-    Malformed,
-}
-
-// The character at the front of bytes. The first byte is judged by its range, which decides how
-// many bytes there are and the bounds of the second: an arm for each alternative of RFC 3629's
-// grammar. The narrower bounds shut out overlong forms (after E0 and F0), surrogates (ED) and what
+// The character at the front of bytes: its code point, and how many bytes it takes. There is none
+// for a wrong or a missing byte, an overlong form, a surrogate, or a code point above 10FFFF. The
+// first byte is judged by its range, which decides how many bytes there are and the bounds of the
+// second: an arm for each alternative of RFC 3629's grammar. The narrower bounds shut out overlong forms (after E0 and F0), surrogates (ED) and what
 // is above 10FFFF (F4).
-pub fn decode(bytes: &[u8]) -> Decoded
+pub fn decode(bytes: &[u8]) -> Option<(u32, usize)>
     ensures { result ≡ decoded_char bytes.now }
 {
     if bytes.len() == 0 {
-        return Decoded::Malformed;
+        return None;
     }
     let lead = bytes[0];
     match lead {
-        0x00..=0x7F => Decoded::Char {
-            code: lead as u32,
-            width: 1,
-        },
+        0x00..=0x7F => Some((lead as u32, 1)),
         0xC2..=0xDF => decode_two(bytes),
         0xE0 => decode_three(bytes, 0xA0, 0xBF),
         0xE1..=0xEC => decode_three(bytes, 0x80, 0xBF),
@@ -37,7 +25,7 @@ pub fn decode(bytes: &[u8]) -> Decoded
         0xF0 => decode_four(bytes, 0x90, 0xBF),
         0xF1..=0xF3 => decode_four(bytes, 0x80, 0xBF),
         0xF4 => decode_four(bytes, 0x80, 0x8F),
-        _ => Decoded::Malformed,
+        _ => None,
     }
 }
 
@@ -45,7 +33,7 @@ pub fn decode(bytes: &[u8]) -> Decoded
 fn byte_at(bytes: &[u8], i: usize) -> u8
     ensures { result ≡ get_or bytes.now i 0 }
 {
-    if i < bytes.len() { bytes[i] } else { 0 }
+    bytes.get(i).copied().unwrap_or(0)
 }
 
 // Every byte after the second is one of these.
@@ -59,23 +47,20 @@ fn is_tail(b: u8) -> bool
 // three or four bytes the low five, four or three, and of each byte after it the low six.
 
 // The lead of two bytes was read.
-fn decode_two(bytes: &[u8]) -> Decoded
+fn decode_two(bytes: &[u8]) -> Option<(u32, usize)>
     ensures { result ≡ led_by (utf8_tail ∷ []) bytes.now }
 {
     let lead = byte_at(bytes, 0);
     let second = byte_at(bytes, 1);
     if is_tail(second) {
-        Decoded::Char {
-            code: (lead % 32) as u32 * 64 + (second % 64) as u32,
-            width: 2,
-        }
+        Some(((lead % 32) as u32 * 64 + (second % 64) as u32, 2))
     } else {
-        Decoded::Malformed
+        None
     }
 }
 
 // The lead of three bytes was read; the second lies from low, which is above 0, to high.
-fn decode_three(bytes: &[u8], low: u8, high: u8) -> Decoded
+fn decode_three(bytes: &[u8], low: u8, high: u8) -> Option<(u32, usize)>
     requires { 0 < low }
     ensures { result ≡ led_by (octets low high ∷ utf8_tail ∷ []) bytes.now }
 {
@@ -83,17 +68,17 @@ fn decode_three(bytes: &[u8], low: u8, high: u8) -> Decoded
     let second = byte_at(bytes, 1);
     let third = byte_at(bytes, 2);
     if ((low <= second) & (second <= high)) & is_tail(third) {
-        Decoded::Char {
-            code: ((lead % 16) as u32 * 64 + (second % 64) as u32) * 64 + (third % 64) as u32,
-            width: 3,
-        }
+        Some((
+            ((lead % 16) as u32 * 64 + (second % 64) as u32) * 64 + (third % 64) as u32,
+            3,
+        ))
     } else {
-        Decoded::Malformed
+        None
     }
 }
 
 // The lead of four bytes was read; the second lies from low, which is above 0, to high.
-fn decode_four(bytes: &[u8], low: u8, high: u8) -> Decoded
+fn decode_four(bytes: &[u8], low: u8, high: u8) -> Option<(u32, usize)>
     requires { 0 < low }
     ensures { result ≡ led_by (octets low high ∷ utf8_tail ∷ utf8_tail ∷ []) bytes.now }
 {
@@ -103,11 +88,8 @@ fn decode_four(bytes: &[u8], low: u8, high: u8) -> Decoded
     let fourth = byte_at(bytes, 3);
     if ((low <= second) & (second <= high)) & (is_tail(third) & is_tail(fourth)) {
         let upper = ((lead % 8) as u32 * 64 + (second % 64) as u32) * 64 + (third % 64) as u32;
-        Decoded::Char {
-            code: upper * 64 + (fourth % 64) as u32,
-            width: 4,
-        }
+        Some((upper * 64 + (fourth % 64) as u32, 4))
     } else {
-        Decoded::Malformed
+        None
     }
 }

@@ -1,4 +1,3 @@
-pub mod Attested
 pub mod StepLaws
 pub mod MakerLaws
 pub mod PlayLaws

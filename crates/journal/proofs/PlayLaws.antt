@@ -4,18 +4,20 @@
 use Prim.Native.Nat.{ℕ, zero, suc, ◌+◌, ◌-◌, ◌/◌, ◌^◌, ◌<◌, ◌≤◌, min}
 use native.Mathlib.Omega.{arith}
 use Rattle.std.proofs.Math.Nat.{div-add-mod'}
-use Rattle.std.specs.Prelude.{◌≡◌, Bool, ◌&&◌, ◌||◌, drop, eqb, leb, ltb}
+use Rattle.std.specs.Prelude.{◌≡◌, Bool, ◌&&◌, ◌||◌, drop, eqb, leb, ltb, Result, Ok, Err, IfOk, is_ok}
+use Rattle.std.specs.Result.{result_and, result_unwrap_or}
 use Rattle.std.proofs.Math.Path.{refl, sym, ap, ap₂, subst}
-use Rattle.std.proofs.Common.{◌∙◌, length-take, length-append, drop-drop, lit<}
+use Rattle.std.proofs.Common.{◌∙◌, Fits, w8, length-take, length-append, drop-drop}
 use Rattle.std.proofs.Math.Bool.{true, false, cond, not}
 use Rattle.std.proofs.lemmas.Bool.{false≢true}
 use mathlib.Core.List.{List, [], ◌∷◌, ◌++◌, append_assoc, append-nil}
-use Rattle.std.proofs.Math.ListN.{length, take, length-drop}
+use Rattle.std.proofs.Math.ListN.{length, get_or, take, length-drop}
 use Rattle.std.proofs.Math.Seq.{get_or-drop}
 use borrow.Author.Tests.{eqb-true, eqb-false, leb-true, leb-false, ltb-true, ltb-false, eq-eqb, ne_eqb, not-true}
-use Rattle.identity.specs.Answer.{is_accepted, number_of}
-use Rattle.identity.specs.declared.answer.Answer.{Answer}
-use Rattle.identity.specs.declared.answer.Answer.TheVariants.{Accepted, InvalidSlot, InvalidIncarnation, IncarnationExhausted, FreshInstallationRequired, TooLarge, InvalidRecord, Regression, InvalidLossEvidence, StaleIncarnation, IdempotencyConflict, ReplacementInProgress, NoSurvivingQuorum, ReplacementPastFence, ConfigurationEpochExhausted, RevisionExhausted, InvalidTransition, Unrepresentable, NotRising, BufferTooShort, BadRecord}
+use Rattle.identity.specs.Answer.{is_accepted, number_of, Answer, Accepted}
+use Rattle.identity.specs.declared.answer.Refusal.{Refusal}
+use Rattle.layout.specs.Told.{told_whole}
+use Rattle.identity.specs.AnswerLaws.{number-small}
 use Rattle.format.specs.Combinators.{Bytes, dep, held, via}
 use Rattle.format.specs.Put.{Put, put, length-put, put-nothing, then}
 use Rattle.format.specs.Res.{Res, no_ok, ok-count, ok-value}
@@ -23,9 +25,7 @@ use Rattle.format.specs.Res.Res.{ok, no}
 use Rattle.format.specs.Num.{raw, uint}
 use Rattle.records.specs.Validation.{validate}
 use Rattle.records.specs.ValidationLaws.{is-accepted}
-use Rattle.records.specs.Blank.{blank_voter_slot_table}
-use Rattle.records.specs.ValidParts.{valid-parts, valid-slots-hold}
-use Rattle.codec.specs.Codec.{decoded, decode_voter_slot_table}
+use Rattle.codec.specs.Codec.{decode_voter_slot_table}
 use Rattle.codec.specs.CodecLaws.{read-valid}
 use Rattle.identity.specs.Utf8Laws.{and_left, and_right}
 use Rattle.records.specs.declared.records.VoterSlotTable.{VoterSlotTable}
@@ -35,16 +35,16 @@ use Rattle.journal.specs.declared.play.Opened.{Opened}
 use Rattle.journal.specs.declared.play.Place.{Place}
 use Rattle.journal.specs.declared.record.Record.{Record}
 use Rattle.journal.specs.declared.replay.Mark.{Mark}
-use Rattle.journal.specs.declared.replay.Mark.TheVariants.{Tb, Mk, Ad, Bg, Ob, Unknown}
+use Rattle.journal.specs.declared.replay.Mark.TheVariants.{Unknown}
 use Rattle.journal.specs.Records.{frame, is_known_mark, mark_of, sized_bytes}
-use Rattle.journal.specs.Replay.{Entry, Standing, asking, called, bad_record, ended, line_of, line, lines, opened, opening, revision_of, run, shown_mark, step, turn}
+use Rattle.journal.specs.Replay.{Entry, Standing, asking, called, ended, line_of, line, lines, opened, opening, revision_of, run, shown_mark, step, turn}
 use Rattle.journal.specs.Replay.Entry.{framed, broken}
 use Rattle.journal.specs.Replay.Standing.{absent, stands}
 use Rattle.journal.specs.ReplayLaws.{decimal-long, ended-append, frame-cut, frame-got, frame-short, frame-sizeless, frame-takes, frame-unknown, head_mark, head_size, lines-append, mark-long, run-append, run_long}
 use Rattle.journal.specs.Step.{Judges, ValidStanding, answer_of_called, made_by}
 use Rattle.journal.proofs.StepLaws.{made-valid, step-called}
 use Rattle.journal.specs.declared.step.Called.{Called}
-use Rattle.journal.specs.Play.{Goes, PutTurn, Safe, brings, cut_short, ends_in, first_ready, first_taken, is_broken, is_standing, journal_after, journal_of, longest_line, opened_to, place_after, play_of, ready, record_at, record_by, standing, standing_in, start_answer, start_of, table_in, taken, text_of, turn_text, turns_after, turns_of}
+use Rattle.journal.specs.Play.{Goes, PutTurn, Safe, cut_short, ends_in, first_ready, first_taken, is_broken, is_standing, journal_after, journal_of, longest_line, opened_to, place_after, play_of, ready, record_at, record_by, standing, standing_in, start_answer, start_of, table_in, taken, text_of, turn_text, turns_after, turns_of}
 
 -- ---- the record at a place
 
@@ -185,6 +185,13 @@ module _ (bs : List ℕ) (last : Bool) (at : ℕ) (h : at ≤ length bs) (z : By
   pub here : Here bs last at (record_at bs at last)
   unfolding record_at rest
   here = here-by (is_broken last rest) (frame.dec rest) refl refl
+
+-- the record that the code found
+pub found : (bs : List ℕ) (last : Bool) (at : ℕ) → at ≤ length bs → ((i : ℕ) → Fits w8 (get_or bs i 0)) → (r : Record) → r ≡ record_at bs at last → Here bs last at r
+unfolding Bytes
+found bs last at h fits r e =
+    let bytes : Bytes bs = λ i. omega (arith, fits i) in
+    subst (Here bs last at) (sym e) (here bs last at h bytes)
 
 -- ---- from one place to a later one
 
@@ -442,95 +449,19 @@ module _ (j : Journal) (bs : List ℕ) (last : Bool) (xs : List ℕ) where
 
 -- ---- a record with no table
 
-blank-count : blank_voter_slot_table.count ≡ 0
-unfolding blank_voter_slot_table
-blank-count = refl
-
-blank_none : (t : VoterSlotTable) → t ≡ blank_voter_slot_table → standing (brings t) t ≡ absent
-unfolding standing
-blank_none t e = ap (λ (x : VoterSlotTable). standing (brings x) x) e ∙ ap (λ (n : ℕ). standing (ltb 0 n) blank_voter_slot_table) blank-count
-
-read_some : (t : VoterSlotTable) → validate t ≡ Accepted → standing (brings t) t ≡ stands t
-unfolding standing
-read_some t v =
-    ap (λ (b : Bool). standing b t) (and_left (ltb 0 t.count) _ (valid-slots-hold t (valid-parts t v).1).odd)
-
-abbrev pub Opens : Answer → VoterSlotTable → ℕ × Standing → Type 0
-Opens answer t x = (opened_to answer t ≡ x) × ValidStanding (standing (brings t) t)
-
-opened-table : (body : List ℕ) → Bytes body → (r : Res VoterSlotTable) → decode_voter_slot_table body ≡ r → (answer : Answer) (t : VoterSlotTable)
-    → ◌≡◌ {A = ℕ × VoterSlotTable} (number_of answer, t) (decoded blank_voter_slot_table r) → Opens answer t (opened r)
-unfolding decoded opened
-opened-table body z (ok u n) f answer t e =
-    let v = read-valid body z f in
-    let same : t ≡ u = ap (λ (x : ℕ × VoterSlotTable). x.1) e in
-    let s : standing (brings t) t ≡ stands u = ap (λ (x : VoterSlotTable). standing (brings x) x) same ∙ read_some u v in
-    (ap₂ (λ (k : ℕ) (g : Standing). (k, g)) (ap (λ (x : ℕ × VoterSlotTable). x.0) e) s, subst ValidStanding (sym s) v)
-opened-table body z (no k) f answer t e =
-    let s = blank_none t (ap (λ (x : ℕ × VoterSlotTable). x.1) e) in
-    (ap₂ (λ (k : ℕ) (g : Standing). (k, g)) (ap (λ (x : ℕ × VoterSlotTable). x.0) e) s, subst ValidStanding (sym s) tt)
-
-pub opening-table : (body : List ℕ) → Bytes body → (asks : Mark) → asks ≡ Tb → (answer : Answer) (t : VoterSlotTable)
-    → ◌≡◌ {A = ℕ × VoterSlotTable} (number_of answer, t) (decoded blank_voter_slot_table (decode_voter_slot_table body)) → Opens answer t (opening asks body)
-unfolding opening
-opening-table body z asks a answer t e =
-    subst (λ (m : Mark). Opens answer t (opening m body)) (sym a) (opened-table body z (decode_voter_slot_table body) refl answer t e)
-
-abbrev pub is_table : Mark → Bool
-is_table Tb = true
-is_table Mk = false
-is_table Ad = false
-is_table Bg = false
-is_table Ob = false
-is_table Unknown = false
-
-other-mark : (body : List ℕ) (asks : Mark) → is_table asks ≡ false → (bad_record, absent) ≡ opening asks body
-unfolding opening
-other-mark body Tb n = absurd (false≢true (sym n))
-other-mark body Mk n = refl
-other-mark body Ad n = refl
-other-mark body Bg n = refl
-other-mark body Ob n = refl
-other-mark body Unknown n = refl
-
-pub opening-bad : (body : List ℕ) (asks m : Mark) → asks ≡ m → is_table m ≡ false → (answer : Answer) (t : VoterSlotTable) → answer ≡ BadRecord → t ≡ blank_voter_slot_table
-    → Opens answer t (opening asks body)
-opening-bad body asks m a n answer t e f =
-    let s = blank_none t f in (
-      ap₂ (λ (k : Answer) (g : Standing). (number_of k, g)) e s ∙ (other-mark body m n ∙ ap (λ (x : Mark). opening x body) (sym a)),
-      subst ValidStanding (sym s) tt,
-    )
+pub opened_valid : (body : List ℕ) → Bytes body → (r : Result VoterSlotTable Refusal) → told_whole r (length body) ≡ decode_voter_slot_table body
+    → (opened_to r ≡ opened (decode_voter_slot_table body)) × IfOk r (λ t. validate t ≡ Accepted)
+unfolding opened
+opened_valid body z (Ok t) e = (ap opened e, read-valid body z (sym e))
+opened_valid body z (Err x) e = (ap opened e, tt)
 
 -- ---- a line is no longer than the longest
-
-number_small : (a : Answer) → number_of a < 2 ^ 64
-number_small Accepted = lit< tt
-number_small InvalidSlot = lit< tt
-number_small InvalidIncarnation = lit< tt
-number_small IncarnationExhausted = lit< tt
-number_small FreshInstallationRequired = lit< tt
-number_small TooLarge = lit< tt
-number_small InvalidRecord = lit< tt
-number_small Regression = lit< tt
-number_small InvalidLossEvidence = lit< tt
-number_small StaleIncarnation = lit< tt
-number_small IdempotencyConflict = lit< tt
-number_small ReplacementInProgress = lit< tt
-number_small NoSurvivingQuorum = lit< tt
-number_small ReplacementPastFence = lit< tt
-number_small ConfigurationEpochExhausted = lit< tt
-number_small RevisionExhausted = lit< tt
-number_small InvalidTransition = lit< tt
-number_small Unrepresentable = lit< tt
-number_small NotRising = lit< tt
-number_small BufferTooShort = lit< tt
-number_small BadRecord = lit< tt
 
 pub line-short : (number : ℕ) (mark : Mark) (answer : Answer) (revision : ℕ) → number < 2 ^ 64 → revision < 2 ^ 64 → length (line_of number mark (number_of answer) revision) ≤ longest_line
 unfolding line_of
 line-short number mark answer revision a b =
     let x = decimal-long number a in
-    let y = decimal-long (number_of answer) (number_small answer) in
+    let y = decimal-long (number_of answer) (let s = number-small answer in omega arith) in
     let z = decimal-long revision b in
     let m = mark-long mark in
     simp length-append (omega arith)
@@ -600,13 +531,24 @@ module _ (p : Place) (r : Record) (answer : Answer) (revision : ℕ) (xs : List 
       }
 
 -- a turn with no table: a table that a TB brings takes the place of the one before
-abbrev pub Brought : Bool → VoterSlotTable → VoterSlotTable → VoterSlotTable → Type 0
-Brought b u before after = (standing b after ≡ standing b u) × ((b ≡ false → after ≡ before) × (cond b after.revision 0 ≡ revision_of (standing b after)))
+abbrev pub Brought : VoterSlotTable → Result VoterSlotTable Refusal → Answer → Bool → VoterSlotTable → Type 0
+Brought before r answer b after =
+    ((number_of answer, standing b after) ≡ opened_to r)
+    × (ValidStanding (standing b after) × ((b ≡ false → after ≡ before) × (cond b after.revision 0 ≡ revision_of (standing b after))))
 
-pub brought : (b : Bool) (u before after : VoterSlotTable) → (b ≡ true → after ≡ u) → (b ≡ false → after ≡ before) → Brought b u before after
+brought-by : (before : VoterSlotTable) (r : Result VoterSlotTable Refusal) → IfOk r (λ t. validate t ≡ Accepted)
+    → Brought before r (result_and r Accepted) (is_ok r) (result_unwrap_or r before)
 unfolding standing revision_of
-brought true u before after f g = (ap stands (f refl), ((λ k. absurd (false≢true (sym k))), refl))
-brought false u before after f g = (refl, (g, refl))
+brought-by before (Ok t) v = (refl, (v, ((λ k. absurd (false≢true (sym k))), refl)))
+brought-by before (Err e) v = (refl, (tt, ((λ k. refl), refl)))
+
+pub brought : (before : VoterSlotTable) (r : Result VoterSlotTable Refusal) → IfOk r (λ t. validate t ≡ Accepted)
+    → {answer : Answer} {b : Bool} {after : VoterSlotTable} → answer ≡ result_and r Accepted → b ≡ is_ok r → after ≡ result_unwrap_or r before
+    → Brought before r answer b after
+brought before r v {answer} {b} {after} p q s =
+    subst (λ (x : Answer). Brought before r x b after) (sym p)
+    (subst (λ (x : Bool). Brought before r (result_and r Accepted) x after) (sym q)
+    (subst (Brought before r (result_and r Accepted) (is_ok r)) (sym s) (brought-by before r v)))
 
 pub opens : (o : Opened) (m : Mark) (body : List ℕ) → o.stands ≡ false → step (standing_in o) (framed m body) ≡ opening m body
 unfolding step standing

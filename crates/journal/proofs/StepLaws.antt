@@ -6,12 +6,10 @@ use Prim.Native.Nat.{ℕ, ◌+◌, ◌<◌, ◌≤◌}
 use Rattle.std.proofs.Common.{arith, sym, ap₂, ◌∙◌}
 use Rattle.std.proofs.Math.Path.{◌≡◌, refl, ap, subst}
 use Rattle.std.proofs.Math.Bool.{Bool, true, false, cond}
-use Rattle.std.specs.Prelude.{not, ◌&&◌, drop, take}
+use Rattle.std.specs.Prelude.{◌&&◌, drop, Option, Some, None, Result, Ok, Err, IfSome, IfOk}
 use Rattle.std.proofs.lemmas.Bool.{false≢true}
 use mathlib.Core.List.{List}
-use Rattle.identity.specs.Answer.{is_accepted, number_of}
-use Rattle.identity.specs.declared.answer.Answer.{Answer}
-use Rattle.identity.specs.declared.answer.Answer.TheVariants.{Accepted, BadRecord, InvalidTransition, Unrepresentable}
+use Rattle.identity.specs.Answer.{is_accepted, number_of, Answer, Accepted, InvalidTransition, Unrepresentable}
 use Rattle.format.specs.Combinators.{dec_seq, dep, mapped, via}
 use Rattle.format.specs.Res.{Res, and_then, began, ok-value}
 use Rattle.format.specs.Res.Res.{ok, no}
@@ -35,7 +33,6 @@ use Rattle.control.specs.declared.control.VoterAdvance.{VoterAdvance}
 use Rattle.control.specs.declared.control.VoterReplacementRequest.{VoterReplacementRequest}
 use Rattle.control.specs.declared.control.VoterSlotControl.{VoterSlotControl}
 use Rattle.control.specs.declared.judge.Judged.{Judged}
-use Rattle.control.specs.declared.judge.Judged.TheVariants.{Refuse}
 use Rattle.control.specs.declared.observe.Observed.{Observed}
 use Rattle.control.specs.Blank.{blank_voter_replacement_request, blank_voter_replacement_step, blank_request_id, blank_request_digest}
 use Rattle.control.specs.BlankLaws.{same_voter_replacement_request-refl, same_voter_replacement_step-refl}
@@ -51,59 +48,44 @@ use Rattle.control.specs.ObserveSight.{Room, answer_of_observed, is_change, verd
 use Rattle.control.specs.Verdicts.{answer_of, checked_of, entry_verdict, judge_of, step_made, verdict_of}
 use Rattle.control.specs.VerdictLaws.{advance-made, begin-begins, entry-carried, entry-moves, is_move, is_step, step-advance}
 use Rattle.control.specs.BeginVerdictLaws.{begin-room}
-use Rattle.journal.specs.declared.bodies.AdvanceRead.{AdvanceRead}
-use Rattle.journal.specs.declared.bodies.Asks.{Asks}
-use Rattle.journal.specs.declared.bodies.Asks.TheVariants.{Bad, Refused, Begin}
-use Rattle.journal.specs.declared.bodies.BeginRead.{BeginRead}
 use Rattle.journal.specs.declared.bodies.MarkerBody.{MarkerBody}
-use Rattle.journal.specs.declared.bodies.MarkerRead.{MarkerRead}
-use Rattle.journal.specs.declared.observation.ObservationRead.{ObservationRead}
 use Rattle.journal.specs.declared.replay.Mark.{Mark}
 use Rattle.journal.specs.declared.replay.Mark.TheVariants.{Tb, Mk, Ad, Bg, Ob, Unknown}
 use Rattle.journal.specs.declared.step.Called.{Called}
 use Rattle.journal.specs.declared.step.Called.TheVariants.{Command, Observation}
-use Rattle.journal.specs.Bodies.{advance_asking, begin_asking, begin_asking_by, marker_asking, observation_asking}
+use Rattle.identity.specs.declared.answer.Refusal.{Refusal}
+use Rattle.identity.specs.declared.answer.Refusal.TheVariants as refusal
+use Rattle.journal.specs.Bodies.{advance_asking, begin_asking}
 use Rattle.journal.specs.Records.{AdvanceBody, BeginBody, ObservationBody, advance_body, begin_body, marker_body, node_ids, node_sets, observation_body}
 use Rattle.journal.specs.Replay.{Asked, Asking, Standing, advance_asked, advance_control, advance_of, answered, asking, attested, bad_record, begin_asked, begin_control, begin_of, called, formed, marker_asked, marker_control, observation_asked, step}
 use Rattle.journal.specs.Replay.Asked.{command, observation}
 use Rattle.journal.specs.Replay.Asking.{bad, refused, asks}
 use Rattle.journal.specs.Replay.Entry.{framed}
 use Rattle.journal.specs.Replay.Standing.{stands}
-use Rattle.journal.specs.Step.{Judges, Makes, ValidStanding, answer_of_called, begin_verdict, is_changing, checked_call, cut_at, cut_by, is_made, command_in, command_verdict, made_by, made_by_command, made_by_observation, mark_of_move, numbered, observation_verdict}
+use Rattle.journal.specs.Step.{HoldsAdvance, HoldsBegin, Judges, Makes, ValidStanding, answer_of_called, is_changing, checked_call, cut_at, cut_by, is_made, command_in, command_verdict, made_by, made_by_command, made_by_observation, mark_of_move, numbered, observation_verdict}
 use Rattle.journal.specs.Step.Numbered.{refused_by, moves_by}
 
 -- ---- the command of a body passes the representability check where the part does that it uses
 
-pub fits-marker : (b : MarkerBody) → representable_control (marker_control b) ≡ true
+pub fits_marker : (b : MarkerBody) → representable_control (marker_control b) ≡ true
 unfolding representable_control marker_control
-fits-marker b = and_both _ _ (same_voter_replacement_request-refl blank_voter_replacement_request) (same_voter_replacement_step-refl blank_voter_replacement_step)
+fits_marker b = and_both _ _ (same_voter_replacement_request-refl blank_voter_replacement_request) (same_voter_replacement_step-refl blank_voter_replacement_step)
 
-pub fits-advance : (a : VoterAdvance) → representable_control (advance_control a) ≡ representable_step a.step
+pub fits_advance : (a : VoterAdvance) → representable_control (advance_control a) ≡ representable_step a.step
 unfolding representable_control advance_control
-fits-advance a = ap (λ (b : Bool). b && representable_step a.step) (same_voter_replacement_request-refl blank_voter_replacement_request)
+fits_advance a = ap (λ (b : Bool). b && representable_step a.step) (same_voter_replacement_request-refl blank_voter_replacement_request)
 
 and-two : (b p q : Bool) → p ≡ true → q ≡ true → ((b && p) && q) ≡ b
 and-two true p q h k = and_both p q h k
 and-two false p q h k = refl
 
-pub fits-begin : (r : VoterReplacementRequest) → representable_control (begin_control r) ≡ representable_request r
+pub fits_begin : (r : VoterReplacementRequest) → representable_control (begin_control r) ≡ representable_request r
 unfolding representable_control begin_control
-fits-begin r =
+fits_begin r =
     and-two (representable_request r) _ _ (and_both _ _ (same_bytes blank_request_id _ refl) (same_bytes blank_request_digest _ refl))
     (same_voter_replacement_step-refl blank_voter_replacement_step)
 
 -- ---- the entry point on a valid table
-
-not-cond : {A : Type 0} (b : Bool) (x y : A) → cond (not b) x y ≡ cond b y x
-not-cond true x y = refl
-not-cond false x y = refl
-
--- the tests as the code makes them
-pub checked-as : (fits : Bool) (cut : VoterSlotLogId) (v : Verdict Move)
-    → cond (not fits) (refuses Unrepresentable) (cond (not (valid_log_id cut)) (refuses InvalidTransition) v) ≡ checked_call fits cut v
-checked-as fits cut v =
-    ap (λ (w : Verdict Move). cond (not fits) (refuses Unrepresentable) w) (not-cond (valid_log_id cut) (refuses InvalidTransition) v)
-    ∙ not-cond fits (refuses Unrepresentable) (cond (valid_log_id cut) v (refuses InvalidTransition))
 
 module _ (t : VoterSlotTable) (valid : validate t ≡ Accepted) where
   entry-by : (p q : Bool) (v : Verdict Move)
@@ -121,55 +103,22 @@ module _ (t : VoterSlotTable) (valid : validate t ≡ Accepted) where
       ap (λ (a : Answer). cond (is_accepted a) (judge t c cut) (refuses a)) (ap₂ f p.0 p.1)
       ∙ entry-by (representable_control c) (valid_log_id cut) (judge t c cut)
 
-  pub marker-entry : (b : MarkerBody) → entry_verdict t (marker_control b) b.cut ≡ checked_call true b.cut (judge_marker t b.request_id b.request_digest)
+  pub marker_entry : (b : MarkerBody) → entry_verdict t (marker_control b) b.cut ≡ checked_call true b.cut (judge_marker t b.request_id b.request_digest)
   unfolding judge marker_control
-  marker-entry b =
+  marker_entry b =
       entry-as (marker_control b) b.cut
-      ∙ ap (λ (f : Bool). checked_call f b.cut (judge_marker t b.request_id b.request_digest)) (fits-marker b)
+      ∙ ap (λ (f : Bool). checked_call f b.cut (judge_marker t b.request_id b.request_digest)) (fits_marker b)
 
-  pub advance-entry : (a : VoterAdvance) → entry_verdict t (advance_control a) a.cut ≡ checked_call (representable_step a.step) a.cut (judge_of t a)
+  pub advance_entry : (a : VoterAdvance) → entry_verdict t (advance_control a) a.cut ≡ checked_call (representable_step a.step) a.cut (judge_of t a)
   unfolding judge advance_control
-  advance-entry a =
-      entry-as (advance_control a) a.cut ∙ ap (λ (f : Bool). checked_call f a.cut (judge_of t a)) (fits-advance a)
+  advance_entry a =
+      entry-as (advance_control a) a.cut ∙ ap (λ (f : Bool). checked_call f a.cut (judge_of t a)) (fits_advance a)
 
-  pub begin-entry : (b : VoterBegin) → entry_verdict t (begin_control b.request) b.cut ≡ checked_call (representable_request b.request) b.cut (judge_begin t b.request b.cut)
+  pub begin_entry : (b : VoterBegin) → entry_verdict t (begin_control b.request) b.cut ≡ checked_call (representable_request b.request) b.cut (judge_begin t b.request b.cut)
   unfolding judge begin_control
-  begin-entry b =
+  begin_entry b =
       entry-as (begin_control b.request) b.cut
-      ∙ ap (λ (f : Bool). checked_call f b.cut (judge_begin t b.request b.cut)) (fits-begin b.request)
-
-  -- ---- the judges of bodies: 33 first, or what the reader says
-
-  pub marker-verdict : (r : MarkerRead) (body : List ℕ) → marker_asking r ≡ asking Mk body
-      → numbered (cond (not r.formed) (refuses BadRecord) (checked_call true r.value.cut (judge_marker t r.value.request_id r.value.request_digest)))
-      ≡ command_verdict t (asking Mk body)
-  unfolding command_verdict marker_asked
-  marker-verdict r body e = by r.formed ∙ ap (command_verdict t) e
-    where
-      by : (b : Bool) → numbered (cond (not b) (refuses BadRecord) (checked_call true r.value.cut (judge_marker t r.value.request_id r.value.request_digest)))
-          ≡ command_verdict t (cond b (asks (marker_asked r.value)) bad)
-      by true = ap numbered (sym (marker-entry r.value))
-      by false = refl
-
-  pub advance-verdict : (r : AdvanceRead) (body : List ℕ) → advance_asking r ≡ asking Ad body
-      → numbered (cond (not r.formed) (refuses BadRecord) (checked_call (representable_step r.value.step) r.value.cut (judge_of t r.value)))
-      ≡ command_verdict t (asking Ad body)
-  unfolding command_verdict
-  advance-verdict r body e = by r.formed ∙ ap (command_verdict t) e
-    where
-      by : (b : Bool) → numbered (cond (not b) (refuses BadRecord) (checked_call (representable_step r.value.step) r.value.cut (judge_of t r.value)))
-          ≡ command_verdict t (cond b (asks (command (advance_control r.value) r.value.cut)) bad)
-      by true = ap numbered (sym (advance-entry r.value))
-      by false = refl
-
-  pub begin-verdict : (r : BeginRead) (body : List ℕ) → begin_asking r ≡ asking Bg body → numbered (begin_verdict t r.asks r.value) ≡ command_verdict t (asking Bg body)
-  unfolding command_verdict begin_asking_by
-  begin-verdict r body e = by r.asks ∙ ap (command_verdict t) e
-    where
-      by : (a : Asks) → numbered (begin_verdict t a r.value) ≡ command_verdict t (begin_asking_by a r.value)
-      by Bad = refl
-      by (Refused answer) = refl
-      by Begin = ap numbered (sym (begin-entry r.value))
+      ∙ ap (λ (f : Bool). checked_call f b.cut (judge_begin t b.request b.cut)) (fits_begin b.request)
 
 -- ---- which verdict makes a table
 
@@ -402,17 +351,21 @@ module _ (t : VoterSlotTable) (body : List ℕ) where
       ((t.revision ≡ full → ⊥) × (((current_configuration t).epoch ≡ full → ⊥) × ((t.count ≤ 9) × (named_index t b.request < t.count))))
       × (begun t b.request b.cut ≡ made t (command_in a).0 (command_in a).1 begins)
 
-  pub begin-need : (r : BeginRead) → begin_asking r ≡ asking Bg body → command_verdict t (asking Bg body) ≡ moves_by begins → BeginNeed r.value (asking Bg body)
-  unfolding begin_asking_by command_verdict made begin_control
-  begin-need r e = subst (λ (a : Asking). command_verdict t a ≡ moves_by begins → BeginNeed r.value a) e (by r.asks)
+  pub begin_need : (b : VoterBegin) → HoldsBegin body b → command_verdict t (asking Bg body) ≡ moves_by begins → BeginNeed b (asking Bg body)
+  unfolding command_verdict made begin_control
+  begin_need b h q = by h.0 h.1.0 h.1.1
     where
-      by : (a : Asks) → command_verdict t (begin_asking_by a r.value) ≡ moves_by begins → BeginNeed r.value (begin_asking_by a r.value)
-      by Bad h = absurd (let z : ◌≡◌ {A = ℕ} 0 1 = cc in omega arith)
-      by (Refused answer) h = absurd (let z : ◌≡◌ {A = ℕ} 0 1 = cc in omega arith)
-      by Begin h =
-          let q = r.value.request in
-          let j = judged-moves t (begin_control q) r.value.cut begins h in
-          (begin-room t r.value j.0 (ap is_move (begin-begins t (begin_control q) r.value.cut j.1)), refl)
+      asked : (v : VoterBegin) → command_verdict t (asks (command (begin_control v.request) v.cut)) ≡ moves_by begins → BeginNeed v (asks (command (begin_control v.request) v.cut))
+      asked v k =
+          let j = judged-moves t (begin_control v.request) v.cut begins k in
+          (begin-room t v j.0 (ap is_move (begin-begins t (begin_control v.request) v.cut j.1)), refl)
+
+      by : (o : Option (Result VoterBegin Refusal)) → begin_asking o ≡ asking Bg body → IfSome o (λ r. IfOk r (λ v. v ≡ b)) → BeginNeed b (asking Bg body)
+      by None e i = absurd (let k = ap (command_verdict t) e ∙ q in let z : ◌≡◌ {A = ℕ} 0 1 = cc in omega arith)
+      by (Some (Err x)) e i = absurd (let k = ap (command_verdict t) e ∙ q in let z : ◌≡◌ {A = ℕ} 0 1 = cc in omega arith)
+      by (Some (Ok v)) e i =
+          subst (λ (x : VoterBegin). BeginNeed x (asking Bg body)) i
+          (subst (λ (a : Asking). command_verdict t a ≡ moves_by begins → BeginNeed v a) e (asked v) q)
 
   -- a step of an Advance
   abbrev pub AdvanceNeed : VoterAdvance → Move → Asking → Type 0
@@ -428,17 +381,21 @@ module _ (t : VoterSlotTable) (body : List ℕ) where
   step-made v fences h = refl
   step-made v finalizes h = refl
 
-  pub advance-need : (r : AdvanceRead) (m : Move) → is_step (moves m) ≡ true → advance_asking r ≡ asking Ad body → command_verdict t (asking Ad body) ≡ moves_by m
-      → AdvanceNeed r.value m (asking Ad body)
+  pub advance_need : (a : VoterAdvance) (m : Move) → is_step (moves m) ≡ true → HoldsAdvance body a → command_verdict t (asking Ad body) ≡ moves_by m
+      → AdvanceNeed a m (asking Ad body)
   unfolding command_verdict advance_control
-  advance-need r m s e = subst (λ (a : Asking). command_verdict t a ≡ moves_by m → AdvanceNeed r.value m a) e (by r.formed)
+  advance_need a m s h q = by h.0 h.1.0 h.1.1
     where
-      by : (b : Bool) → command_verdict t (cond b (asks (command (advance_control r.value) r.value.cut)) bad) ≡ moves_by m
-          → AdvanceNeed r.value m (cond b (asks (command (advance_control r.value) r.value.cut)) bad)
-      by true h =
-          let j = judged-moves t (advance_control r.value) r.value.cut m h in
-          (j.0, (step-advance t (advance_control r.value) r.value.cut m s j.1, step-made r.value m s))
-      by false h = absurd (let z : ◌≡◌ {A = ℕ} 0 1 = cc in omega arith)
+      asked : (v : VoterAdvance) → command_verdict t (asks (command (advance_control v) v.cut)) ≡ moves_by m → AdvanceNeed v m (asks (command (advance_control v) v.cut))
+      asked v k =
+          let j = judged-moves t (advance_control v) v.cut m k in
+          (j.0, (step-advance t (advance_control v) v.cut m s j.1, step-made v m s))
+
+      by : (o : Option VoterAdvance) → advance_asking o ≡ asking Ad body → IfSome o (λ v. v ≡ a) → AdvanceNeed a m (asking Ad body)
+      by None e i = absurd (let k = ap (command_verdict t) e ∙ q in let z : ◌≡◌ {A = ℕ} 0 1 = cc in omega arith)
+      by (Some v) e i =
+          subst (λ (x : VoterAdvance). AdvanceNeed x m (asking Ad body)) i
+          (subst (λ (y : Asking). command_verdict t y ≡ moves_by m → AdvanceNeed v m y) e (asked v) q)
 
   -- an observation: there is room
   room_by : (a : Asking) (m : Addition) → observation_verdict t a ≡ moves_by m → Room t
@@ -448,8 +405,8 @@ module _ (t : VoterSlotTable) (body : List ℕ) where
   room_by (asks (command c cut)) m e = absurd (let z : ◌≡◌ {A = ℕ} 0 1 = cc in omega arith)
   room_by (asks (observation ids counts nodes cut)) m e = weighed-room t ids counts nodes cut (ap is_change (moved (weighed t ids counts nodes cut) m e))
 
-  pub observation-room : (m : Addition) → observation_verdict t (asking Ob body) ≡ moves_by m → Room t
-  observation-room = room_by (asking Ob body)
+  pub observation_room : (m : Addition) → observation_verdict t (asking Ob body) ≡ moves_by m → Room t
+  observation_room = room_by (asking Ob body)
 
   -- and its cut is the log id that the body begins with
   cut-front : (b : ObservationBody) {n : ℕ} → observation_body.dec body ≡ ok b n → (k : ℕ) × (log_id.dec body ≡ ok b.cut k)
@@ -461,9 +418,9 @@ module _ (t : VoterSlotTable) (body : List ℕ) where
       let (j, g) = seq-front log_id.dec (λ a. node_sets.dec) body f in
       (j, g ∙ ap (λ (y : ObservationBody). ok y.cut j) e₂)
 
-  pub cut-is : (m : Addition) → observation_verdict t (asking Ob body) ≡ moves_by m → cut_at body ≡ (command_in (asking Ob body)).1
+  pub cut_is : (m : Addition) → observation_verdict t (asking Ob body) ≡ moves_by m → cut_at body ≡ (command_in (asking Ob body)).1
   unfolding asking formed observation_verdict observation_asked cut_by
-  cut-is m = by (whole observation_body body) refl
+  cut_is m = by (whole observation_body body) refl
     where
       by : (r : Res ObservationBody) → whole observation_body body ≡ r → observation_verdict t (formed r (λ b. asks (observation_asked b))) ≡ moves_by m
           → cut_at body ≡ (command_in (formed r (λ b. asks (observation_asked b)))).1
@@ -521,27 +478,6 @@ module _ (t : VoterSlotTable) (valid : validate t ≡ Accepted) where
   unfolding step
   made-valid mark body called j = subst ValidStanding (ap (λ (x : ℕ × Standing). x.1) (step-called t valid mark body called j)) (called-valid (asking mark body))
 
--- ---- an observation: what was read, judged
-
-module _ (t : VoterSlotTable) (r : ObservationRead) (ids counts body : List ℕ) (e : observation_asking r ids counts ≡ asking Ob body) where
-  observed-by : (b : Bool) → r.formed ≡ b
-      → observation_verdict t (cond b (asks (observation (take r.ids ids) (take r.sets counts) (take r.nodes (drop r.ids ids)) r.cut)) bad)
-      ≡ observation_verdict t (asking Ob body)
-  observed-by b h =
-      ap
-      (λ (x : Bool). observation_verdict t (cond x (asks (observation (take r.ids ids) (take r.sets counts) (take r.nodes (drop r.ids ids)) r.cut)) bad))
-      (sym h)
-      ∙ ap (observation_verdict t) e
-
-  pub observed-bad : r.formed ≡ false → refused_by bad_record ≡ observation_verdict t (asking Ob body)
-  unfolding observation_verdict
-  observed-bad h = observed-by false h
-
-  pub observed-formed : r.formed ≡ true → {v : Verdict Addition}
-      → v ≡ weighed t (take r.ids ids) (take r.sets counts) (take r.nodes (drop r.ids ids)) r.cut → numbered v ≡ observation_verdict t (asking Ob body)
-  unfolding observation_verdict
-  observed-formed h {v} w = ap numbered w ∙ observed-by true h
-
 -- ---- what was judged, by the mark
 
 abbrev pub is_observation : Mark → Bool
@@ -553,7 +489,7 @@ is_observation Ob = true
 is_observation Unknown = false
 
 module _ (t : VoterSlotTable) (mark : Mark) (body : List ℕ) (called : Called) where
-  pub judges-command : (judged : Judged) (m : Mark) → called ≡ Command judged → mark ≡ m → is_observation m ≡ false
+  pub judges-command : (judged : Result Judged Refusal) (m : Mark) → called ≡ Command judged → mark ≡ m → is_observation m ≡ false
       → numbered (verdict_of judged) ≡ command_verdict t (asking m body) → Judges t mark body called
   judges-command judged m e f n h =
       subst (Judges t mark body) (sym e) (
@@ -561,14 +497,14 @@ module _ (t : VoterSlotTable) (mark : Mark) (body : List ℕ) (called : Called) 
         h ∙ ap (λ (x : Mark). command_verdict t (asking x body)) (sym f),
       )
 
-  pub judges-observation : (observed : Observed) → called ≡ Observation observed → mark ≡ Ob
+  pub judges-observation : (observed : Result Observed Refusal) → called ≡ Observation observed → mark ≡ Ob
       → numbered (verdict_of_observed observed) ≡ observation_verdict t (asking Ob body) → Judges t mark body called
   judges-observation observed e f h = subst (Judges t mark body) (sym e) (f, h)
 
   -- of no known mark, or a TB
-  pub judges-bad : (m : Mark) → called ≡ Command (Refuse BadRecord) → mark ≡ m → asking m body ≡ bad → is_observation m ≡ false → Judges t mark body called
+  pub judges-bad : (m : Mark) → called ≡ Command (Err refusal.BadRecord) → mark ≡ m → asking m body ≡ bad → is_observation m ≡ false → Judges t mark body called
   unfolding command_verdict
-  judges-bad m e f b n = judges-command (Refuse BadRecord) m e f n (ap (command_verdict t) (sym b))
+  judges-bad m e f b n = judges-command (Err refusal.BadRecord) m e f n (ap (command_verdict t) (sym b))
 
 pub table-bad : (body : List ℕ) → asking Tb body ≡ bad
 unfolding asking

@@ -1,26 +1,18 @@
--- What the readers of bodies answer, as what the body asks; and the blanks that they return with a
--- refusal.
+-- What the readers of bodies answer, as what the body asks.
 -- From document 01, section "Replay program", by way of Records and Replay.
 -- Assumes nothing.
-use Rattle.std.specs.Prelude.{ℕ, Bool, false, cond, List, take, drop, eqb}
-use Rattle.identity.specs.Answer.{number_of}
+use Rattle.std.specs.Prelude.{ℕ, List, take, drop, Option, Some, None, Result, Ok, Err}
+use Rattle.identity.specs.Answer.{number_of_refusal}
+use Rattle.identity.specs.declared.answer.Refusal.{Refusal}
 use Rattle.format.specs.Copy.{zeros}
-use Rattle.records.specs.Blank.{blank_voter_slot_log_id, blank_voter_slot_member, blank_voter_snapshot_evidence}
+use Rattle.records.specs.Blank.{blank_voter_slot_log_id, blank_voter_snapshot_evidence}
 use Rattle.records.specs.declared.records.LostVoterAttestationV1.{LostVoterAttestationV1}
-use Rattle.layout.specs.declared.reading.Extent.{Extent}
-use Rattle.layout.specs.declared.reading.Extent.TheVariants as reading
 use Rattle.codec.specs.Codec.{decode_lost_voter_attestation}
-use Rattle.control.specs.Blank.{blank_consensus_identity}
 use Rattle.control.specs.declared.begin.VoterBegin.{VoterBegin}
 use Rattle.control.specs.declared.control.VoterAdvance.{VoterAdvance}
 use Rattle.control.specs.declared.control.VoterReplacementStep.{VoterReplacementStep}
-use Rattle.journal.specs.declared.bodies.AdvanceRead.{AdvanceRead}
-use Rattle.journal.specs.declared.bodies.Asks.{Asks}
-use Rattle.journal.specs.declared.bodies.Asks.TheVariants.{Bad, Refused, Begin}
 use Rattle.journal.specs.declared.bodies.BeginHead.{BeginHead}
-use Rattle.journal.specs.declared.bodies.BeginRead.{BeginRead}
 use Rattle.journal.specs.declared.bodies.MarkerBody.{MarkerBody}
-use Rattle.journal.specs.declared.bodies.MarkerRead.{MarkerRead}
 use Rattle.journal.specs.declared.observation.ObservationRead.{ObservationRead}
 use Rattle.journal.specs.Records.{BeginBody}
 use Rattle.journal.specs.Replay.{Asking, advance_control, attested, begin_asked, begin_control, marker_asked}
@@ -33,17 +25,7 @@ use Rattle.journal.specs.Replay.Asking.{bad, refused, asks}
 unfoldable pub blank_marker_body : MarkerBody
 blank_marker_body = record { cut = blank_voter_slot_log_id; request_id = zeros 16; request_digest = zeros 32 }
 
--- of a BG, before its attestation
-unfoldable pub blank_begin_head : BeginHead
-blank_begin_head =
-    record { cut = blank_voter_slot_log_id; expected_revision = 0; expected_configuration = blank_consensus_identity; candidate = blank_voter_slot_member }
-
 -- ---- parts of the answers
-
--- all of so many bytes were read
-abbrev pub is_whole : Extent → ℕ → Bool
-is_whole (reading.To n) len = eqb n len
-is_whole (reading.Refused a) len = false
 
 -- a step whose kind has no part
 abbrev pub partless : ℕ → VoterReplacementStep
@@ -68,38 +50,30 @@ begin_by head attestation digest configuration =
       cut = head.cut;
     }
 
--- the body of a BG from what stands before the attestation, the attestation's bytes, and the 64
--- bytes after them
-abbrev pub supplied_body : BeginHead → (attestation supplied : List ℕ) → BeginBody
-supplied_body head attestation supplied =
-    record { head = head; attestation = attestation; supplied_request_digest = take 32 supplied; supplied_configuration_id = take 32 (drop 32 supplied) }
-
 -- what a BG of the form asks: the attestation's own reader judges
 abbrev pub attested_asking : BeginBody → Asking
 attested_asking b = attested (decode_lost_voter_attestation b.attestation) (begin_asked b)
 
--- ---- what each answer asks; nobody looks at the value of a body that is not of its form
+-- ---- what each answer asks; none is a body that is not of its form
 
 -- an MK
-abbrev pub marker_asking : MarkerRead → Asking
-marker_asking r = cond r.formed (asks (marker_asked r.value)) bad
+abbrev pub marker_asking : Option MarkerBody → Asking
+marker_asking (Some b) = asks (marker_asked b)
+marker_asking None = bad
 
 -- an AD
-abbrev pub advance_asking : AdvanceRead → Asking
-advance_asking r = cond r.formed (asks (command (advance_control r.value) r.value.cut)) bad
+abbrev pub advance_asking : Option VoterAdvance → Asking
+advance_asking (Some a) = asks (command (advance_control a) a.cut)
+advance_asking None = bad
 
--- a BG: for each case of its answer document 01's number, or the Begin
-unfoldable pub begin_asking_by : Asks → VoterBegin → Asking
-begin_asking_by Bad b = bad
-begin_asking_by (Refused answer) b = refused (number_of answer)
-begin_asking_by Begin b = asks (command (begin_control b.request) b.cut)
-
--- that, of the answer of its reader
-abbrev pub begin_asking : BeginRead → Asking
-begin_asking r = begin_asking_by r.asks r.value
+-- a BG: the number of the attestation's reader, or the Begin
+abbrev pub begin_asking : Option (Result VoterBegin Refusal) → Asking
+begin_asking (Some (Ok b)) = asks (command (begin_control b.request) b.cut)
+begin_asking (Some (Err e)) = refused (number_of_refusal e)
+begin_asking None = bad
 
 -- an OB: the ids of the sets stand at the front of one array, the nodes after them, and the counts
 -- of the sets at the front of another
-abbrev pub observation_asking : ObservationRead → (ids counts : List ℕ) → Asking
-observation_asking r ids counts =
-    cond r.formed (asks (observation (take r.ids ids) (take r.sets counts) (take r.nodes (drop r.ids ids)) r.cut)) bad
+abbrev pub observation_asking : Option ObservationRead → (ids counts : List ℕ) → Asking
+observation_asking (Some r) ids counts = asks (observation (take r.ids ids) (take r.sets counts) (take r.nodes (drop r.ids ids)) r.cut)
+observation_asking None ids counts = bad

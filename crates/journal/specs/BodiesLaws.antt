@@ -1,303 +1,216 @@
--- What the proofs of the readers of bodies cite: sized bytes whose bound no size passes, an id in
--- its place, a step by its kind, and what each body asks.
+-- What reading a body leaves, part after part, and what each body asks by it; and an id in its
+-- place. For the readers of bodies.
 -- Assumes nothing.
-use Rattle.std.specs.Prelude.{ℕ, ◌+◌, ◌-◌, ◌≤◌, ◌<◌, ◌≡◌, Bool, List, ◌++◌, length, drop, replicate, leb, ltb}
-use Rattle.std.proofs.Common.{arith, add-zero, ◌∙◌, append-nil, length-take-le, take_at, take-take, drop-drop}
-use Rattle.std.proofs.Math.Path.{refl, sym, ap, ap₂}
-use Rattle.std.proofs.Math.Bool.{true, false, cond}
-use Rattle.std.proofs.Math.ListN.{take, length-drop}
+use Rattle.std.specs.Prelude.{ℕ, ◌+◌, ◌-◌, ◌≤◌, ◌≡◌, refl, Bool, true, false, cond, List, ◌++◌, length, take, drop, replicate, eqb, leb, min}
+use Rattle.std.proofs.Common.{arith, sym, ap, ◌∙◌, eqb-true, leb-true, leb-false, append-nil, take_at, take_all}
 use Rattle.std.proofs.lemmas.List.{length-replicate, replicate-append-replicate, take-append-le}
 use Rattle.std.proofs.Math.Seq.{take-append-add}
-use Rattle.std.proofs.Math.Dec.{eqb}
-use borrow.Author.Tests.{le-leb, ltb-true, ltb-false, eqb-true, eqb-false, eq-eqb, ne_eqb}
-use Rattle.format.specs.Res.{Res, too_large, and_then, no_ok}
+use Rattle.format.specs.Copy.{drop-replicate}
+use Rattle.format.specs.Res.{malformed}
 use Rattle.format.specs.Res.Res.{ok, no}
-use Rattle.format.specs.Combinators.{Codec, Bytes, check, dep, via, dec_seq, dec_map, map-ok, map-no, mapped, always, checked-ok, checked-no, dep-ok, dep-no-1, dep-no-2, via-ok, via-no}
-use Rattle.format.specs.Copy.{zeros}
-use Rattle.format.specs.Fill.{put-zeros}
+use Rattle.format.specs.Combinators.{Codec, always}
 use Rattle.format.specs.List.{either}
-use Rattle.format.specs.Num.{uint, raw, raw-got, raw-not, pick}
-use Rattle.format.specs.Put.{put}
-use Rattle.format.specs.Through.{whole, whole-no, whole-by-count}
+use Rattle.format.specs.Num.{raw, pick}
+use Rattle.format.specs.Reads.{Reading, reads, then_read, made_read, reads_two, reads_three, reads_four}
+use Rattle.format.specs.ReadsMore.{ended_read, reads_whole}
+use Rattle.format.specs.Through.{whole}
 use Rattle.records.specs.Blank.{blank_snapshot_id, blank_voter_slot_log_id, blank_voter_snapshot_evidence}
 use Rattle.records.specs.declared.records.SnapshotId.{SnapshotId}
 use Rattle.records.specs.declared.records.VoterSlotLogId.{VoterSlotLogId}
 use Rattle.records.specs.declared.records.VoterSnapshotEvidence.{VoterSnapshotEvidence}
-use Rattle.layout.specs.Layout.{sized, choice, log_id}
-use Rattle.layout.specs.Reading.{report, outcome}
-use Rattle.layout.specs.ReadingLaws.{told, told-not}
-use Rattle.layout.specs.declared.reading.Extent.{Extent}
-use Rattle.layout.specs.declared.reading.Extent.TheVariants as reading
-use Rattle.control.specs.Blank.{blank_voter_replacement_step}
+use Rattle.layout.specs.Layout.{choice, log_id}
 use Rattle.control.specs.Control.{record_snapshot_kind, record_caught_up_kind, finalize_kind}
 use Rattle.control.specs.declared.control.VoterReplacementStep.{VoterReplacementStep}
-use Rattle.journal.specs.declared.bodies.BeginHead.{BeginHead}
 use Rattle.journal.specs.declared.bodies.MarkerBody.{MarkerBody}
-use Rattle.journal.specs.declared.replay.Mark.TheVariants.{Ad, Bg}
-use Rattle.journal.specs.Bodies.{is_whole, partless, advance_by, supplied_body, attested_asking}
-use Rattle.journal.specs.Records.{sized_bytes, marker_body, no_snapshot_part, snapshot_part, step_body, advance_body, begin_head, begin_body}
-use Rattle.journal.specs.RefusalLaws.{number}
-use Rattle.journal.specs.Replay.{Asking, asking, formed, snapshot_id_of, snapshot_of, step_of, advance_of, advance_control, advance_asked}
+use Rattle.journal.specs.declared.replay.Mark.TheVariants.{Mk, Ad, Bg}
+use Rattle.journal.specs.Bodies.{partless, advance_by, attested_asking}
+use Rattle.journal.specs.Records.{sized_bytes, marker_body, SnapshotPart, no_snapshot_part, snapshot_part, StepBody, step_body, AdvanceBody, advance_body, BeginBody, begin_head, begin_body}
+use Rattle.journal.specs.Replay.{Asking, asking, formed, marker_asked, snapshot_id_of, snapshot_of, step_of, advance_of, advance_control, advance_asked}
 use Rattle.journal.specs.Replay.Asked.{command}
 use Rattle.journal.specs.Replay.Asking.{bad, asks}
 
--- ---- a form and what is made of its value
-
-module _ {A B : Type 0} (C : Codec A) (f : A → B) (bs : List ℕ) where
-  pub map-within : {b : B} {n : ℕ} → dec_map C.dec f bs ≡ ok b n → n ≤ length bs
-  map-within e = C.within bs (mapped C.dec f bs e).1
-
--- a refusal is that of the form
-refused-by : {A B : Type 0} (r : Res A) (f : A → B) {k : ℕ} → and_then r (λ a n. ok (f a) n) ≡ no k → r ≡ no k
-unfolding and_then
-refused-by (ok a n) f e = absurd (no_ok (sym e))
-refused-by (no j) f e = ap no (number e)
-
-map-refused : {A B : Type 0} (c : List ℕ → Res A) (f : A → B) (bs : List ℕ) {k : ℕ} → dec_map c f bs ≡ no k → c bs ≡ no k
-unfolding dec_map
-map-refused c f bs e = refused-by (c bs) f e
-
--- ---- bytes with their size before them: a size of two bytes never passes 65,535
-
-bound-same : (bs : List ℕ) → Bytes bs → (r : Res ℕ) → (uint 2).dec bs ≡ r → (check (uint 2) (λ n. pick (leb n 65535) 0 too_large)).dec bs ≡ r
-unfolding pick uint
-bound-same bs z (ok n k) e =
-    let h : n < 65536 = (uint 2).good bs z e in
-    checked-ok (uint 2) (λ n. pick (leb n 65535) 0 too_large) bs e (rw (le-leb n 65535 (omega arith)))
-bound-same bs z (no k) e = checked-no (uint 2) (λ n. pick (leb n 65535) 0 too_large) bs e
-
-sized-any : (bs : List ℕ) → Bytes bs → sized_bytes.dec bs ≡ dec_map (sized 65535).dec (λ p. p.1) bs
-unfolding sized sized_bytes via dep dec_seq dec_map
-sized-any bs z = rw (bound-same bs z ((uint 2).dec bs) refl)
-
-module _ (bs : List ℕ) (z : Bytes bs) where
-  pub any-ok : {p : ℕ × List ℕ} {n : ℕ} → (sized 65535).dec bs ≡ ok p n → sized_bytes.dec bs ≡ ok p.1 n
-  any-ok e = sized-any bs z ∙ map-ok (sized 65535).dec (λ p. p.1) bs e
-
-  pub any-no : {k : ℕ} → (sized 65535).dec bs ≡ no k → sized_bytes.dec bs ≡ no k
-  any-no e = sized-any bs z ∙ map-no (sized 65535).dec (λ p. p.1) bs e
-
 -- ---- an id in its place: as many of its bytes as have one, and zeros after them
 
-take-zeros : (k n : ℕ) → k ≤ n → take {A = ℕ} k (replicate n 0) ≡ replicate k 0
-take-zeros k n h =
-    let e : n ≡ k + (n - k) = omega arith in
-    ap (λ m. take k (replicate m 0)) e ∙ ap (take k) (sym (replicate-append-replicate k (n - k) 0)) ∙ take_at (replicate k 0) (replicate (n - k) 0) k (length-replicate k 0)
+zeros_after : (n k : ℕ) → n ≤ k → take {A = ℕ} (k - n) (replicate k 0) ≡ drop n (replicate k 0)
+zeros_after n k h =
+    let e : k ≡ k - n + n = omega arith in
+    ap (λ m. take (k - n) (replicate m 0)) e
+    ∙ ap (take (k - n)) (sym (replicate-append-replicate (k - n) n 0))
+    ∙ take_at (replicate (k - n) 0) (replicate n 0) (k - n) (length-replicate (k - n) 0)
+    ∙ sym (drop-replicate n k 0)
 
-placed_by : (size : ℕ) (l : List ℕ) (n : ℕ) (t : Bool) → n ≤ length l → ltb n size ≡ t
-    → take (cond t n size) l ++ replicate (size - cond t n size) 0 ≡ take size (take n l ++ replicate size 0)
-placed_by size l n true h e =
-    let k : n < size = ltb-true n size e in
-    let a : length (take n l) ≡ n = length-take-le n l h in
-    let s : length (take n l) + (size - n) ≡ size = omega arith in
-    ap (λ t. take n l ++ t) (sym (take-zeros (size - n) size (omega arith)))
-    ∙ sym (take-append-add (take n l) (replicate size 0) (size - n))
-    ∙ ap (λ m. take m (take n l ++ replicate size 0)) s
-placed_by size l n false h e =
-    let k : size ≤ n = ltb-false n size e in
-    let a : length (take n l) ≡ n = length-take-le n l h in
-    let s : size - size ≡ 0 = omega arith in
-    ap (λ m. take size l ++ replicate m 0) s
-    ∙ append-nil (take size l)
-    ∙ sym (take-take size n l k)
-    ∙ sym (take-append-le size (take n l) (replicate size 0) (omega arith))
-
--- that is never more than either
-pub at_most : (size n : ℕ) → (cond (ltb n size) n size ≤ n) × (cond (ltb n size) n size ≤ size)
-at_most size n = by (ltb n size) refl
+pub id_placed : (size : ℕ) (l : List ℕ) (n : ℕ) → n ≡ min (length l) size → take n l ++ drop n (replicate size 0) ≡ take size (l ++ replicate size 0)
+id_placed size l n e = by (leb (length l) size) refl
   where
-    by : (t : Bool) → ltb n size ≡ t → (cond t n size ≤ n) × (cond t n size ≤ size)
-    by true e = let k = ltb-true n size e in (omega arith, omega arith)
-    by false e = let k = ltb-false n size e in (omega arith, omega arith)
+    by : (t : Bool) → leb (length l) size ≡ t → take n l ++ drop n (replicate size 0) ≡ take size (l ++ replicate size 0)
+    by true p =
+        let h = leb-true (length l) size p in
+        let q : n ≡ length l = omega arith in
+        let s : length l + (size - length l) ≡ size = omega arith in
+        ap (λ m. take m l ++ drop m (replicate size 0)) q
+        ∙ ap (λ k. k ++ drop (length l) (replicate size 0)) (take_all (length l) l (omega arith))
+        ∙ ap (λ k. l ++ k) (sym (zeros_after (length l) size h))
+        ∙ sym (take-append-add l (replicate size 0) (size - length l))
+        ∙ ap (λ m. take m (l ++ replicate size 0)) s
+    by false p =
+        let h = leb-false (length l) size p in
+        let q : n ≡ size = omega arith in
+        let z : size - size ≡ 0 = omega arith in
+        ap (λ m. take m l ++ drop m (replicate size 0)) q
+        ∙ ap (λ k. take size l ++ k) (drop-replicate size size 0 ∙ ap (λ m. replicate m 0) z)
+        ∙ append-nil (take size l)
+        ∙ sym (take-append-le size l (replicate size 0) (omega arith))
 
-pub id-placed : (size : ℕ) (l : List ℕ) (n : ℕ) → n ≤ length l → put (take (cond (ltb n size) n size) l) 0 (zeros size) ≡ take size (take n l ++ replicate size 0)
-id-placed size l n h =
-    put-zeros (take (cond (ltb n size) n size) l) size
-    ∙ ap (λ m. take (cond (ltb n size) n size) l ++ replicate (size - m) 0) (length-take-le (cond (ltb n size) n size) l (omega (arith, (at_most size n).0)))
-    ∙ placed_by size l n (ltb n size) h refl
+-- ---- a snapshot, whose id is put into its place
 
--- ---- a snapshot
+abbrev snapshot_by : VoterSlotLogId → SnapshotId → List ℕ → VoterSnapshotEvidence
+snapshot_by cut id digest = record { cut = cut; snapshot_id = id; digest = digest }
 
-module _ (bs : List ℕ) where
-  pub part-no-1 : {k : ℕ} → log_id.dec bs ≡ no k → dec_map snapshot_part.dec snapshot_of bs ≡ no k
-  unfolding snapshot_part
-  part-no-1 e = map-no _ snapshot_of bs (via-no _ _ _ _ bs (dep-no-1 _ _ bs (dep-no-1 log_id (λ a. sized_bytes) bs e)))
+digest_read : (cut : VoterSlotLogId) (id : List ℕ) (x : Reading (List ℕ))
+    → made_read snapshot_of (made_read (λ d. record { cut = cut; id = id; digest = d }) x) ≡ made_read (snapshot_by cut (snapshot_id_of id)) x
+unfolding snapshot_of
+digest_read cut id (Reading.read d rest) = refl
+digest_read cut id (Reading.refused k) = refl
 
-  module _ {cut : VoterSlotLogId} {n : ℕ} (c : log_id.dec bs ≡ ok cut n) where
-    pub part-no-2 : {k : ℕ} → dec_map sized_bytes.dec snapshot_id_of (drop n bs) ≡ no k → dec_map snapshot_part.dec snapshot_of bs ≡ no k
-    unfolding snapshot_part
-    part-no-2 e = map-no _ snapshot_of bs (via-no _ _ _ _ bs (dep-no-1 _ _ bs (dep-no-2 log_id (λ a. sized_bytes) bs c (map-refused _ snapshot_id_of _ e))))
+id_read : (cut : VoterSlotLogId) (x : Reading (List ℕ))
+    → made_read snapshot_of (then_read x (λ id r. made_read {B = SnapshotPart} (λ d. record { cut = cut; id = id; digest = d }) (reads (raw 32) r)))
+    ≡ then_read {B = VoterSnapshotEvidence} (made_read snapshot_id_of x) (λ id r. made_read (snapshot_by cut id) (reads (raw 32) r))
+id_read cut (Reading.read id rest) = digest_read cut id (reads (raw 32) rest)
+id_read cut (Reading.refused k) = refl
 
-    module _ {id : SnapshotId} {m : ℕ} (d : dec_map sized_bytes.dec snapshot_id_of (drop n bs) ≡ ok id m) where
-      -- the cut and the id lie within
-      pub part-two : n + m ≤ length bs
-      part-two = (dep log_id (λ a. sized_bytes)).within bs (dep-ok log_id (λ a. sized_bytes) bs c (mapped _ snapshot_id_of _ d).1)
+cut_read : (x : Reading VoterSlotLogId)
+    → made_read snapshot_of (then_read x (λ cut r. then_read (reads sized_bytes r) (λ id s. made_read {B = SnapshotPart} (λ d. record { cut = cut; id = id; digest = d }) (reads (raw 32) s))))
+    ≡ then_read x (λ cut r. then_read {B = VoterSnapshotEvidence} (made_read snapshot_id_of (reads sized_bytes r)) (λ id s. made_read (snapshot_by cut id) (reads (raw 32) s)))
+cut_read (Reading.read cut rest) = id_read cut (reads sized_bytes rest)
+cut_read (Reading.refused k) = refl
 
-      pub part-no-3 : {k : ℕ} → (raw 32).dec (drop (n + m) bs) ≡ no k → dec_map snapshot_part.dec snapshot_of bs ≡ no k
-      unfolding snapshot_part
-      part-no-3 e = map-no _ snapshot_of bs (via-no _ _ _ _ bs (dep-no-2 _ _ bs (dep-ok log_id (λ a. sized_bytes) bs c (mapped _ snapshot_id_of _ d).1) e))
-
-      pub part-ok : {digest : List ℕ} {k : ℕ} → (raw 32).dec (drop (n + m) bs) ≡ ok digest k
-          → dec_map snapshot_part.dec snapshot_of bs ≡ ok (record { cut = cut; snapshot_id = id; digest = digest }) (n + m + k)
-      unfolding snapshot_part snapshot_of
-      part-ok {digest} {k} e =
-          let (l, e₁, e₂) = mapped sized_bytes.dec snapshot_id_of (drop n bs) d in
-          map-ok _ snapshot_of bs (via-ok _ _ _ _ bs (dep-ok _ _ bs (dep-ok log_id (λ a. sized_bytes) bs c e₁) e))
-          ∙ ap (λ v. ok (record { cut = cut; snapshot_id = v; digest = digest }) (n + m + k)) e₂
+pub snapshot_read : (bs : List ℕ) → made_read snapshot_of (reads snapshot_part bs)
+    ≡ then_read (reads log_id bs) (λ cut r. then_read {B = VoterSnapshotEvidence} (made_read snapshot_id_of (reads sized_bytes r))
+    (λ id s. made_read (λ d. record { cut = cut; snapshot_id = id; digest = d }) (reads (raw 32) s)))
+unfolding snapshot_part
+snapshot_read bs = ap (made_read snapshot_of) (reads_three log_id (λ a. sized_bytes) (λ a. raw 32) _ _ _ bs) ∙ cut_read (reads log_id bs)
 
 -- ---- a step, by its kind
+
+abbrev step_parts : ℕ → VoterSnapshotEvidence → VoterSlotLogId → VoterReplacementStep
+step_parts kind snapshot cut = record { kind = kind; snapshot = snapshot; caught_up = cut }
 
 -- the part that a step without a snapshot has is the blank one
 blank_part : snapshot_of no_snapshot_part ≡ blank_voter_snapshot_evidence
 unfolding snapshot_of no_snapshot_part snapshot_id_of blank_voter_snapshot_evidence blank_snapshot_id
 blank_part = refl
 
-module _ (bs : List ℕ) where
-  pub step-no : {k : ℕ} → (choice record_snapshot_kind finalize_kind).dec bs ≡ no k → dec_map step_body.dec step_of bs ≡ no k
-  unfolding step_body
-  step-no e = map-no _ step_of bs (via-no _ _ _ _ bs (dep-no-1 _ _ bs (dep-no-1 _ _ bs e)))
+abbrev made_step : ℕ → SnapshotPart → VoterSlotLogId → StepBody
+made_step kind snapshot cut = record { kind = kind; snapshot = snapshot; caught_up = cut }
 
-  module _ {at : ℕ} (c : (choice record_snapshot_kind finalize_kind).dec bs ≡ ok record_snapshot_kind at) where
-    pub step-snapshot : {v : VoterSnapshotEvidence} {n : ℕ} → dec_map snapshot_part.dec snapshot_of (drop at bs) ≡ ok v n
-        → dec_map step_body.dec step_of bs ≡ ok (record { kind = record_snapshot_kind; snapshot = v; caught_up = blank_voter_slot_log_id }) (at + n)
-    unfolding step_body step_of either always
-    step-snapshot {v} {n} e =
-        let (s, e₁, e₂) = mapped snapshot_part.dec snapshot_of (drop at bs) e in
-        map-ok _ step_of bs (via-ok _ _ _ _ bs (dep-ok _ _ bs (dep-ok _ _ bs c e₁) refl))
-        ∙ ap₂ (λ v n. ok (record { kind = record_snapshot_kind; snapshot = v; caught_up = blank_voter_slot_log_id }) n) e₂ (add-zero (at + n))
+-- the parts in the order of the form
+abbrev in_order : ℕ → List ℕ → Reading StepBody
+in_order kind r =
+    then_read (reads (either (eqb kind record_snapshot_kind) snapshot_part (always no_snapshot_part)) r)
+    (λ s t. made_read (made_step kind s) (reads (either (eqb kind record_caught_up_kind) log_id (always blank_voter_slot_log_id)) t))
 
-    pub step-snapshot-no : {k : ℕ} → dec_map snapshot_part.dec snapshot_of (drop at bs) ≡ no k → dec_map step_body.dec step_of bs ≡ no k
-    unfolding step_body either
-    step-snapshot-no e = map-no _ step_of bs (via-no _ _ _ _ bs (dep-no-1 _ _ bs (dep-no-2 _ _ bs c (map-refused _ snapshot_of _ e))))
+-- the same by the kind
+abbrev by_kind : ℕ → List ℕ → Reading VoterReplacementStep
+by_kind kind r =
+    cond (eqb kind record_snapshot_kind) (made_read (λ v. step_parts kind v blank_voter_slot_log_id) (made_read snapshot_of (reads snapshot_part r)))
+    (cond (eqb kind record_caught_up_kind) (made_read (step_parts kind blank_voter_snapshot_evidence) (reads log_id r)) (Reading.read (partless kind) r))
 
-  module _ {at : ℕ} (c : (choice record_snapshot_kind finalize_kind).dec bs ≡ ok record_caught_up_kind at) where
-    pub step-caught-up : {v : VoterSlotLogId} {n : ℕ} → log_id.dec (drop at bs) ≡ ok v n
-        → dec_map step_body.dec step_of bs ≡ ok (record { kind = record_caught_up_kind; snapshot = blank_voter_snapshot_evidence; caught_up = v }) (at + n)
-    unfolding step_body step_of either always
-    step-caught-up {v} {n} e =
-        map-ok _ step_of bs (via-ok _ _ _ _ bs (dep-ok _ _ bs (dep-ok _ _ bs c refl ∙ ap (ok (record_caught_up_kind, no_snapshot_part)) (add-zero at)) e))
-        ∙ ap (λ s. ok (record { kind = record_caught_up_kind; snapshot = s; caught_up = v }) (at + n)) blank_part
+with_snapshot : (kind : ℕ) (x : Reading SnapshotPart)
+    → made_read step_of (then_read x (λ s t. made_read (made_step kind s) (reads (always blank_voter_slot_log_id) t)))
+    ≡ made_read (λ v. step_parts kind v blank_voter_slot_log_id) (made_read snapshot_of x)
+unfolding step_of reads always
+with_snapshot kind (Reading.read s rest) = refl
+with_snapshot kind (Reading.refused k) = refl
 
-    pub step-caught-up-no : {k : ℕ} → log_id.dec (drop at bs) ≡ no k → dec_map step_body.dec step_of bs ≡ no k
-    unfolding step_body either always
-    step-caught-up-no e = map-no _ step_of bs (via-no _ _ _ _ bs (dep-no-2 _ _ bs (dep-ok _ _ bs c refl ∙ ap (ok (record_caught_up_kind, no_snapshot_part)) (add-zero at)) e))
+with_cut : (kind : ℕ) (x : Reading VoterSlotLogId)
+    → made_read step_of (made_read (made_step kind no_snapshot_part) x) ≡ made_read (step_parts kind blank_voter_snapshot_evidence) x
+unfolding step_of
+with_cut kind (Reading.read c rest) = ap (λ v. Reading.read (step_parts kind v c) rest) blank_part
+with_cut kind (Reading.refused k) = refl
 
-  -- any other kind has no part
-  neither : (kind : ℕ) (s t : Bool) {at : ℕ} → eqb kind record_snapshot_kind ≡ s → eqb kind record_caught_up_kind ≡ t → s ≡ false → t ≡ false
-      → (choice record_snapshot_kind finalize_kind).dec bs ≡ ok kind at
-      → dec_map step_body.dec step_of bs ≡ ok (record { kind = kind; snapshot = snapshot_of no_snapshot_part; caught_up = blank_voter_slot_log_id }) (at + 0 + 0)
-  unfolding step_body step_of either always
-  neither kind s t {at} p q a b c =
-      map-ok _ step_of bs (via-ok _ _ _ _ bs (dep-ok _ _ bs (dep-ok _ _ bs c (rw (p ∙ a))) (rw (q ∙ b))))
+kind_read : (kind : ℕ) (r : List ℕ) → made_read step_of (in_order kind r) ≡ by_kind kind r
+unfolding either reads always step_of
+kind_read kind r = by (eqb kind record_snapshot_kind) (eqb kind record_caught_up_kind) refl refl
+  where
+    by : (t u : Bool) → eqb kind record_snapshot_kind ≡ t → eqb kind record_caught_up_kind ≡ u
+        → made_read step_of (then_read (reads (either t snapshot_part (always no_snapshot_part)) r)
+        (λ s q. made_read (made_step kind s) (reads (either u log_id (always blank_voter_slot_log_id)) q)))
+        ≡ cond t (made_read (λ v. step_parts kind v blank_voter_slot_log_id) (made_read snapshot_of (reads snapshot_part r)))
+        (cond u (made_read (step_parts kind blank_voter_snapshot_evidence) (reads log_id r)) (Reading.read (partless kind) r))
+    by true true p q = absurd (let z = eqb-true kind record_snapshot_kind p in let y = eqb-true kind record_caught_up_kind q in omega arith)
+    by true false p q = with_snapshot kind (reads snapshot_part r)
+    by false true p q = with_cut kind (reads log_id r)
+    by false false p q = ap (λ v. Reading.read (step_parts kind v blank_voter_slot_log_id) r) blank_part
 
-  pub step-partless : {kind at : ℕ} → (choice record_snapshot_kind finalize_kind).dec bs ≡ ok kind at → (kind ≡ record_snapshot_kind → ⊥) → (kind ≡ record_caught_up_kind → ⊥)
-      → dec_map step_body.dec step_of bs ≡ ok (partless kind) at
-  step-partless {kind} {at} c p q =
-      neither kind false false (ne_eqb kind record_snapshot_kind p) (ne_eqb kind record_caught_up_kind q) refl refl c
-      ∙ ap₂ (λ s n. ok (record { kind = kind; snapshot = s; caught_up = blank_voter_slot_log_id }) n) blank_part (add-zero (at + 0) ∙ add-zero at)
+kinds_read : (x : Reading ℕ) → made_read step_of (then_read x in_order) ≡ then_read x by_kind
+kinds_read (Reading.read kind rest) = kind_read kind rest
+kinds_read (Reading.refused k) = refl
+
+pub step_read : (bs : List ℕ) → made_read step_of (reads step_body bs)
+    ≡ then_read (reads (choice record_snapshot_kind finalize_kind) bs)
+    (λ kind r.
+    cond (eqb kind record_snapshot_kind) (made_read {B = VoterReplacementStep} (λ v. record { kind = kind; snapshot = v; caught_up = blank_voter_slot_log_id }) (made_read snapshot_of (reads snapshot_part r)))
+    (cond (eqb kind record_caught_up_kind) (made_read {B = VoterReplacementStep} (λ c. record { kind = kind; snapshot = blank_voter_snapshot_evidence; caught_up = c }) (reads log_id r)) (Reading.read (partless kind) r)))
+unfolding step_body
+step_read bs =
+    ap (made_read step_of) (reads_three (choice record_snapshot_kind finalize_kind) _ _ _ _ _ bs)
+    ∙ kinds_read (reads (choice record_snapshot_kind finalize_kind) bs)
 
 -- ---- a body to its last byte
 
+-- what a reading asks: where bytes are left over, the body is not of its form
+abbrev pub ended_asking : {A : Type 0} → (A → Asking) → Reading A → Asking
+ended_asking next (Reading.read a rest) = cond (eqb (length rest) 0) (next a) bad
+ended_asking next (Reading.refused k) = bad
+
 module _ {A : Type 0} (C : Codec A) (next : A → Asking) (bs : List ℕ) where
-  formed-no : {k : ℕ} → C.dec bs ≡ no k → formed (whole C bs) next ≡ bad
-  unfolding formed
-  formed-no e = rw (whole-no C bs e)
-
-  formed-by : {a : A} {n : ℕ} (t : Bool) → C.dec bs ≡ ok a n → eqb n (length bs) ≡ t → formed (whole C bs) next ≡ cond t (next a) bad
+  picked : (t : Bool) (a : A) → formed (pick t (ok a (length bs)) (no malformed)) next ≡ cond t (next a) bad
   unfolding formed pick
-  formed-by true e q = rw (whole-by-count C bs true e q)
-  formed-by false e q = rw (whole-by-count C bs false e q)
+  picked true a = refl
+  picked false a = refl
 
-  -- whether all was read, as a reader's answer says it
-  pub whole-asks : (blank : A) (to : Extent) {v : A} → ◌≡◌ {A = Res (Unit {0}) × A} (report to, v) (outcome blank (C.dec bs))
-      → cond (is_whole to (length bs)) (next v) bad ≡ formed (whole C bs) next
-  whole-asks blank (reading.To n) e = sym (formed-by (eqb n (length bs)) (told blank _ e refl) refl)
-  whole-asks blank (reading.Refused a) e = sym (formed-no (told-not blank {k = a} _ e refl))
+  ended : (x : Reading A) → formed (ended_read (length bs) x) next ≡ ended_asking next x
+  unfolding formed
+  ended (Reading.read a rest) = picked (eqb (length rest) 0) a
+  ended (Reading.refused k) = refl
 
--- what is left to read, and how far was read
-rest-by : (n m l : ℕ) (t : Bool) → n ≤ l → eqb m (l - n) ≡ t → eqb (n + m) l ≡ t
-rest-by n m l true h e = let q = eqb-true m (l - n) e in eq-eqb (n + m) l (omega arith)
-rest-by n m l false h e = ne_eqb (n + m) l (λ q. eqb-false m (l - n) e (omega arith))
+  pub formed_read : formed (whole C bs) next ≡ ended_asking next (reads C bs)
+  formed_read = ap (λ r. formed r next) (reads_whole C bs) ∙ ended (reads C bs)
 
--- ---- AD
+-- an MK
+pub marker_read : (body : List ℕ) → asking Mk body ≡ ended_asking (λ b. asks (marker_asked b)) (reads marker_body body)
+unfolding asking
+marker_read body = formed_read marker_body (λ b. asks (marker_asked b)) body
 
-module _ (bs : List ℕ) where
-  pub advance-bad : {k : ℕ} → marker_body.dec bs ≡ no k → asking Ad bs ≡ bad
-  unfolding asking advance_body
-  advance-bad e = formed-no advance_body (λ b. asks (advance_asked b)) bs (via-no _ _ _ _ bs (dep-no-1 marker_body (λ a. step_body) bs e))
+-- an AD
+stepped : (named : MarkerBody) (x : Reading StepBody)
+    → ended_asking {A = AdvanceBody} (λ b. asks (advance_asked b)) (made_read (λ s. record { named = named; step = s }) x)
+    ≡ ended_asking (λ a. asks (command (advance_control a) a.cut)) (made_read (advance_by named) (made_read step_of x))
+unfolding advance_asked advance_of
+stepped named (Reading.read s rest) = refl
+stepped named (Reading.refused k) = refl
 
-  pub advance-asks : {named : MarkerBody} {n : ℕ} (to : Extent) {v : VoterReplacementStep} → marker_body.dec bs ≡ ok named n
-      → ◌≡◌ {A = Res (Unit {0}) × VoterReplacementStep} (report to, v) (outcome blank_voter_replacement_step (dec_map step_body.dec step_of (drop n bs)))
-      → cond (is_whole to (length bs - n)) (asks (command (advance_control (advance_by named v)) named.cut)) bad ≡ asking Ad bs
-  unfolding asking advance_body advance_asked advance_of
-  advance-asks {named} {n} (reading.To m) {v} c e =
-      let (s, e₁, e₂) = mapped step_body.dec step_of (drop n bs) (told blank_voter_replacement_step _ e refl) in
-      let t = eqb m (length bs - n) in
-      ap (λ w. cond t (asks (command (advance_control (advance_by named w)) named.cut)) bad) (sym e₂)
-      ∙ sym (formed-by advance_body (λ b. asks (advance_asked b)) bs t (via-ok _ _ _ _ bs (dep-ok marker_body (λ a. step_body) bs c e₁)) (rest-by n m (length bs) t (marker_body.within bs c) refl))
-  advance-asks {named} {n} (reading.Refused a) {v} c e =
-      sym (formed-no advance_body (λ b. asks (advance_asked b)) bs
-      (via-no _ _ _ _ bs (dep-no-2 marker_body (λ a. step_body) bs c (map-refused _ step_of _ (told-not blank_voter_replacement_step {k = a} _ e refl)))))
+advanced : (x : Reading MarkerBody)
+    → ended_asking {A = AdvanceBody} (λ b. asks (advance_asked b)) (then_read x (λ named r. made_read (λ s. record { named = named; step = s }) (reads step_body r)))
+    ≡ ended_asking (λ a. asks (command (advance_control a) a.cut)) (then_read x (λ named r. made_read (advance_by named) (made_read step_of (reads step_body r))))
+advanced (Reading.read named rest) = stepped named (reads step_body rest)
+advanced (Reading.refused k) = refl
 
--- ---- BG
+pub advance_read : (body : List ℕ) → asking Ad body
+    ≡ ended_asking (λ a. asks (command (advance_control a) a.cut))
+    (then_read (reads marker_body body) (λ named r. made_read (advance_by named) (made_read step_of (reads step_body r))))
+unfolding asking advance_body
+advance_read body =
+    formed_read advance_body (λ b. asks (advance_asked b)) body
+    ∙ ap (ended_asking {A = AdvanceBody} (λ b. asks (advance_asked b))) (reads_two marker_body (λ a. step_body) _ _ _ body)
+    ∙ advanced (reads marker_body body)
 
-module _ (bs : List ℕ) where
-  pub begin-bad-1 : {k : ℕ} → begin_head.dec bs ≡ no k → asking Bg bs ≡ bad
-  unfolding asking begin_body
-  begin-bad-1 e = formed-no begin_body attested_asking bs (via-no _ _ _ _ bs (dep-no-1 _ _ bs (dep-no-1 _ _ bs (dep-no-1 begin_head (λ a. sized_bytes) bs e))))
-
-  module _ {head : BeginHead} {at : ℕ} (c : begin_head.dec bs ≡ ok head at) where
-    pub begin-bad-2 : {k : ℕ} → sized_bytes.dec (drop at bs) ≡ no k → asking Bg bs ≡ bad
-    unfolding asking begin_body
-    begin-bad-2 e = formed-no begin_body attested_asking bs (via-no _ _ _ _ bs (dep-no-1 _ _ bs (dep-no-1 _ _ bs (dep-no-2 begin_head (λ a. sized_bytes) bs c e))))
-
-    module _ {l : List ℕ} {m : ℕ} (d : sized_bytes.dec (drop at bs) ≡ ok l m) where
-      abbrev front : Codec (BeginHead × List ℕ)
-      front = dep begin_head (λ a. sized_bytes)
-
-      -- the front lies within
-      pub begin-front : at + m ≤ length bs
-      begin-front = front.within bs (dep-ok begin_head (λ a. sized_bytes) bs c d)
-
-      -- what is read where there are bytes for both supplied values
-      all_read : at + m + 32 + 32 ≤ length bs
-          → begin_body.dec bs ≡ ok (record { head = head; attestation = l; supplied_request_digest = take 32 (drop (at + m) bs); supplied_configuration_id = take 32 (drop (at + m + 32) bs) }) (at + m + 32 + 32)
-      unfolding begin_body
-      all_read h =
-          let p = length-drop (at + m) bs in
-          let q = length-drop (at + m + 32) bs in
-          via-ok _ _ _ _ bs
-          (dep-ok _ _ bs (dep-ok _ _ bs (dep-ok begin_head (λ a. sized_bytes) bs c d) (raw-got 32 (drop (at + m) bs) (omega arith))) (raw-got 32 (drop (at + m + 32) bs) (omega arith)))
-
-      pub begin-asks : length bs - (at + m) ≡ 64 → asking Bg bs ≡ attested_asking (supplied_body head l (drop (at + m) bs))
-      unfolding asking
-      begin-asks h =
-          let s = begin-front in
-          formed-by begin_body attested_asking bs true (all_read (omega arith)) (eq-eqb (at + m + 32 + 32) (length bs) (omega arith))
-          ∙ ap (λ t. attested_asking (record { head = head; attestation = l; supplied_request_digest = take 32 (drop (at + m) bs); supplied_configuration_id = take 32 t })) (sym (drop-drop 32 (at + m) bs))
-
-      bad-by : (s t : Bool) → ltb (length bs) (at + m + 32) ≡ s → ltb (length bs) (at + m + 32 + 32) ≡ t → (length bs - (at + m) ≡ 64 → ⊥) → formed (whole begin_body bs) attested_asking ≡ bad
-      unfolding begin_body
-      bad-by true t p q h =
-          let r = ltb-true (length bs) (at + m + 32) p in
-          let s = length-drop (at + m) bs in
-          formed-no begin_body attested_asking bs (via-no _ _ _ _ bs (dep-no-1 _ _ bs (dep-no-2 _ _ bs (dep-ok begin_head (λ a. sized_bytes) bs c d) (raw-not 32 (drop (at + m) bs) (omega arith)))))
-      bad-by false true p q h =
-          let f = ltb-false (length bs) (at + m + 32) p in
-          let r = ltb-true (length bs) (at + m + 32 + 32) q in
-          let s = length-drop (at + m) bs in
-          let u = length-drop (at + m + 32) bs in
-          formed-no begin_body attested_asking bs
-          (via-no _ _ _ _ bs (dep-no-2 _ _ bs (dep-ok _ _ bs (dep-ok begin_head (λ a. sized_bytes) bs c d) (raw-got 32 (drop (at + m) bs) (omega arith))) (raw-not 32 (drop (at + m + 32) bs) (omega arith))))
-      bad-by false false p q h =
-          let r = ltb-false (length bs) (at + m + 32 + 32) q in
-          formed-by begin_body attested_asking bs false (all_read r) (ne_eqb (at + m + 32 + 32) (length bs) (λ e. h (omega arith)))
-
-      pub begin-bad-3 : (length bs - (at + m) ≡ 64 → ⊥) → asking Bg bs ≡ bad
-      unfolding asking
-      begin-bad-3 h = bad-by (ltb (length bs) (at + m + 32)) (ltb (length bs) (at + m + 32 + 32)) refl refl h
-
--- a supplied value
-pub supplied-read : (s : List ℕ) {r : Res (Unit {0})} {v : List ℕ} → 32 ≤ length s → ◌≡◌ {A = Res (Unit {0}) × List ℕ} (r, v) (outcome (zeros 32) ((raw 32).dec s)) → v ≡ take 32 s
-unfolding outcome
-supplied-read s h e = ap (λ p. p.1) (e ∙ ap (outcome (zeros 32)) (raw-got 32 s h))
+-- a BG: the attestation's own reader is asked where all the rest is of the form
+pub begin_read : (body : List ℕ) → asking Bg body
+    ≡ ended_asking attested_asking
+    (then_read (reads begin_head body) (λ h r. then_read (reads sized_bytes r) (λ l s. then_read (reads (raw 32) s)
+    (λ d t. made_read {B = BeginBody} (λ c. record { head = h; attestation = l; supplied_request_digest = d; supplied_configuration_id = c }) (reads (raw 32) t)))))
+unfolding asking begin_body
+begin_read body =
+    formed_read begin_body attested_asking body
+    ∙ ap (ended_asking attested_asking) (reads_four begin_head (λ a. sized_bytes) (λ a. raw 32) (λ a. raw 32) _ _ _ body)

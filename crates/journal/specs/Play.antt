@@ -3,10 +3,9 @@
 -- That the lines are those of `replay` of all the bytes, however they are cut, is proved
 -- (PieceLaws).
 -- Assumes nothing.
-use Rattle.std.specs.Prelude.{ℕ, zero, suc, ◌+◌, ◌*◌, ◌-◌, ◌/◌, ◌<◌, ◌≤◌, min, ◌≡◌, Bool, true, false, cond, not, ◌&&◌, ◌||◌, List, [], ◌∷◌, ◌++◌, length, take, drop, eqb, leb, ltb}
-use Rattle.identity.specs.Answer.{is_accepted, number_of}
-use Rattle.identity.specs.declared.answer.Answer.{Answer}
-use Rattle.identity.specs.declared.answer.Answer.TheVariants.{Accepted}
+use Rattle.std.specs.Prelude.{ℕ, zero, suc, ◌+◌, ◌*◌, ◌-◌, ◌/◌, ◌<◌, ◌≤◌, min, ◌≡◌, Bool, true, false, cond, not, ◌&&◌, ◌||◌, List, [], ◌∷◌, ◌++◌, length, take, drop, eqb, leb, ltb, Result, Ok, Err}
+use Rattle.identity.specs.Answer.{is_accepted, number_of, number_of_refusal, Answer, Accepted}
+use Rattle.identity.specs.declared.answer.Refusal.{Refusal}
 use Rattle.format.specs.Put.{Put, put}
 use Rattle.format.specs.Res.{Res}
 use Rattle.format.specs.Res.Res.{ok, no}
@@ -205,16 +204,12 @@ pub record Goes (bs : List ℕ) (last : Bool) (from : Opened) (xs : List ℕ) (t
   pub stood : standing_in to ≡ ended (standing_in from) between
   pub kept : to.stands ≡ false → (from.stands ≡ false) × (to.table ≡ from.table)
 
--- ---- a record with no table, as the code reads it: a table that was read has slots, and the blank
--- that is returned with a refusal has none
-
--- a table was read
-abbrev pub brings : VoterSlotTable → Bool
-brings t = ltb 0 t.count
+-- ---- a record with no table, as the code reads it
 
 -- `opened` of Replay
-abbrev pub opened_to : Answer → VoterSlotTable → ℕ × Standing
-opened_to answer t = (number_of answer, standing (brings t) t)
+abbrev pub opened_to : Result VoterSlotTable Refusal → ℕ × Standing
+opened_to (Ok t) = (number_of Accepted, stands t)
+opened_to (Err e) = (number_of_refusal e, absent)
 
 -- where the log stands then
 abbrev pub journal_of : Opened → Journal

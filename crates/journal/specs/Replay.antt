@@ -6,10 +6,8 @@
 -- Assumes nothing.
 use Rattle.std.specs.Prelude.{ℕ, zero, suc, ◌+◌, ◌/◌, ◌%◌, cond, length, take, drop, replicate, ltb}
 use mathlib.Core.List.{List, [], ◌∷◌, ◌++◌, flatten, map}
-use Rattle.identity.specs.Answer.{number_of}
+use Rattle.identity.specs.Answer.{number_of, Answer, Accepted, BadRecord}
 use Rattle.identity.specs.Text.{max_snapshot_id_bytes}
-use Rattle.identity.specs.declared.answer.Answer.{Answer}
-use Rattle.identity.specs.declared.answer.Answer.TheVariants.{Accepted, BadRecord}
 use Rattle.format.specs.Res.{Res}
 use Rattle.format.specs.Res.Res.{ok, no}
 use Rattle.format.specs.Through.{whole}

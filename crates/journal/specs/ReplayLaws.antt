@@ -15,7 +15,6 @@ use Rattle.format.specs.Res.Res.{ok, no}
 use Rattle.format.specs.Combinators.{Codec, Bytes, dep, check, via, held, dec_seq, mapped, checked, dep-ok, dep-no-1, dep-no-2, checked-ok, checked-no, checked-bad, via-ok, via-no, back-and-there}
 use Rattle.format.specs.Num.{uint, raw, val, dec_uint, uint-ok, uint-no, raw-is, raw-got, raw-not, pick}
 use Rattle.format.specs.Through.{whole, whole_is, whole-there}
-use Rattle.records.specs.Equality.{eq_list}
 use Rattle.records.specs.Held.{AllOf}
 use Rattle.layout.specs.Layout.{require}
 use Rattle.codec.specs.Codec.{decode_lost_voter_attestation}
@@ -43,7 +42,7 @@ pub mark-two : (a b : ℕ)
     (cond (eqb a 65 && eqb b 68) Ad
     (cond (eqb a 66 && eqb b 71) Bg
     (cond (eqb a 79 && eqb b 66) Ob Unknown))))
-unfolding mark_of eq_list
+unfolding mark_of
 mark-two a b = rw (and-true (eqb b 66), and-true (eqb b 75), and-true (eqb b 68), and-true (eqb b 71))
 
 mark-ok : (bs : List ℕ) → 2 ≤ length bs → is_known_mark (head_mark bs) ≡ true → known_mark.dec bs ≡ ok (head_mark bs) 2
@@ -341,7 +340,7 @@ two_bytes a b h k (suc zero) = k
 two_bytes a b h k (suc (suc i)) = lit< tt
 
 mark-good : (m : Mark) → is_known_mark m ≡ true → known_mark.Good m
-unfolding known_mark via check raw mark_of pick eq_list
+unfolding known_mark via check raw mark_of pick
 mark-good Tb h = (((refl, two_bytes 84 66 (lit< tt) (lit< tt)), refl), refl)
 mark-good Mk h = (((refl, two_bytes 77 75 (lit< tt) (lit< tt)), refl), refl)
 mark-good Ad h = (((refl, two_bytes 65 68 (lit< tt) (lit< tt)), refl), refl)

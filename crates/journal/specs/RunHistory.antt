@@ -7,7 +7,7 @@ use Rattle.std.specs.Prelude.{ℕ, ◌+◌, ◌≡◌, List, [], ◌∷◌, ◌+
 use Rattle.format.specs.Combinators.{Bytes}
 use Rattle.records.specs.Held.{AllOf, HeldVoterSlotLogId, HeldVoterSlotTable}
 use Rattle.records.specs.Validation.{validate}
-use Rattle.identity.specs.declared.answer.Answer.TheVariants.{Accepted}
+use Rattle.identity.specs.Answer.{Accepted}
 use Rattle.records.specs.declared.records.VoterSlotTable.{VoterSlotTable}
 use Rattle.control.specs.Held.{HeldVoterSlotControl}
 use Rattle.control.specs.History.{Call, table_at, LineOfHistory}

@@ -5,7 +5,7 @@
 use Rattle.std.specs.Prelude.{ℕ, zero, suc, ◌+◌, ◌^◌, ◌<◌, ◌≡◌, refl, Bool, true, false, List, [], ◌∷◌, ◌++◌, length, take, drop, replicate, eqb}
 use Rattle.std.proofs.Common.{arith, add-one, sym, ◌∙◌, subst, length-append, length-take-le, take-add}
 use Rattle.std.proofs.Math.Path.{ap}
-use Rattle.identity.specs.declared.answer.Answer.TheVariants.{Accepted}
+use Rattle.identity.specs.Answer.{Accepted}
 use Rattle.identity.specs.declared.identity.ConsensusIdentity.{ConsensusIdentity}
 use Rattle.identity.specs.declared.identity.VoterSlotIdentity.{VoterSlotIdentity}
 use Rattle.format.specs.Res.{Res}

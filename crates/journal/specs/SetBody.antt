@@ -1,45 +1,42 @@
 -- The sets and the nodes of an observation, as they are laid into the lent arrays: document 01,
 -- section "Replay program", OB. What the readers of OB leave there.
 -- Assumes nothing.
-use Rattle.std.specs.Prelude.{ℕ, ◌*◌, ◌≤◌, ◌≡◌, true, false, cond, length, take, drop}
+use Rattle.std.specs.Prelude.{ℕ, ◌+◌, ◌*◌, ◌≤◌, ◌≡◌, length, take, drop, Result, Ok, Err, IfOk, IfErr}
 use mathlib.Core.List.{List, [], flatten, map}
+use Rattle.identity.specs.Answer.{number_of_refusal}
+use Rattle.identity.specs.declared.answer.Refusal.{Refusal}
 use Rattle.format.specs.List.{vec}
 use Rattle.format.specs.Num.{uint}
-use Rattle.format.specs.Res.{Res, malformed}
-use Rattle.format.specs.Res.Res.{ok, no}
-use Rattle.journal.specs.declared.observation.Laid.{Laid}
+use Rattle.format.specs.Reads.{Reading, reads}
 use Rattle.journal.specs.Records.{node_ids}
 
--- nothing was laid
-abbrev pub not_laid : Laid
-not_laid = record { formed = false; taken = 0; ids = 0 }
-
--- what the answer says of the reading: all that OB's parts refuse is malformed
-abbrev pub laid_of : {A : Type 0} → Laid → A → Res A
-laid_of r a = cond r.formed (ok a r.taken) (no malformed)
+-- so many ids that stand from a place on, as a reading; or the refusal
+abbrev pub told_ids : Result ℕ Refusal → ℕ → List ℕ → List ℕ → Reading (List ℕ)
+told_ids (Ok count) from ids rest = Reading.read (take count (drop from ids)) rest
+told_ids (Err e) from ids rest = Reading.refused (number_of_refusal e)
 
 -- so many ids stand from a place on; those before it are as they were
-pub record LaidIds (bs : List ℕ) (from count : ℕ) (old new : List ℕ) : Type 0 where
+pub record LaidIds (bs rest : List ℕ) (from count : ℕ) (old new : List ℕ) : Type 0 where
   pub front : take from new ≡ take from old
-  pub is : (vec (uint 8) 0 count).dec bs ≡ ok (take count (drop from new)) (8 * count)
+  pub is : reads (vec (uint 8) 0 count) bs ≡ Reading.read (take count (drop from new)) rest
+  pub few : 8 * count + length rest ≡ length bs
+  pub long : length new ≡ length old
 
 -- a set, from a place on; an id takes 8 bytes
-pub record LaidSet (r : Laid) (bs : List ℕ) (from : ℕ) (old new : List ℕ) : Type 0 where
+pub record LaidSet (r : Result ℕ Refusal) (bs rest : List ℕ) (from : ℕ) (old new : List ℕ) : Type 0 where
   pub front : take from new ≡ take from old
-  pub is : laid_of r (take r.ids (drop from new)) ≡ node_ids.dec bs
-  pub few : 8 * r.ids ≤ r.taken
-  pub within : r.taken ≤ length bs
+  pub is : told_ids r from new rest ≡ reads node_ids bs
+  pub few : IfOk r (λ count. 8 * count + length rest ≤ length bs)
 
 -- so many sets that were read, one after another: their ids, so many as are held, and their counts
-pub record SetsSo (bs : List ℕ) (count taken held : ℕ) (ids counts : List ℕ) : Type 0 where
+pub record SetsSo (bs rest : List ℕ) (count held : ℕ) (ids counts : List ℕ) : Type 0 where
   pub sets : List (List ℕ)
-  pub is : (vec node_ids [] count).dec bs ≡ ok sets taken
+  pub is : reads (vec node_ids [] count) bs ≡ Reading.read sets rest
   pub joined : flatten sets ≡ take held ids
   pub counted : map length sets ≡ take count counts
-  pub few : 8 * held ≤ taken
-  pub within : taken ≤ length bs
+  pub few : 8 * held + length rest ≤ length bs
 
--- the same, or a refusal
-pub record LaidSets (r : Laid) (bs : List ℕ) (count : ℕ) (ids counts : List ℕ) : Type 0 where
-  pub formed : r.formed ≡ true → SetsSo bs count r.taken r.ids ids counts
-  pub refused : r.formed ≡ false → (vec node_ids [] count).dec bs ≡ no malformed
+-- the same, or the refusal
+abbrev pub LaidSets : Result ℕ Refusal → (bs rest : List ℕ) → ℕ → (ids counts : List ℕ) → Type 0
+LaidSets r bs rest count ids counts =
+    IfOk r (λ held. SetsSo bs rest count held ids counts) × IfErr r (λ e. Reading.refused (number_of_refusal e) ≡ reads (vec node_ids [] count) bs)

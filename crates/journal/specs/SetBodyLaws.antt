@@ -1,46 +1,71 @@
--- Laws of the sets and the nodes of an observation: one id more, one set more, what ends the
+-- Laws of the sets and the nodes of an observation: one id more, one set more, what refuses the
 -- reading, and what the whole body asks.
 -- Assumes nothing.
-use Rattle.std.specs.Prelude.{ℕ, zero, suc, ◌+◌, ◌*◌, ◌-◌, ◌/◌, ◌≤◌, ◌<◌, ◌≡◌, Bool, ◌&&◌, length, take, drop, set, eqb}
+use Rattle.std.specs.Prelude.{ℕ, ◌+◌, ◌≤◌, ◌<◌, ◌≡◌, Bool, length, take, drop, set, eqb, leb, Ok}
 use native.Mathlib.Omega.{arith}
-use Rattle.std.proofs.Common.{add-one, ap₂, ◌∙◌, drop-drop, length-take-le, take-add, take-suc-set}
-use Rattle.std.proofs.Math.Path.{refl, sym, ap, subst}
+use Rattle.std.proofs.Common.{add-one, ap₂, ◌∙◌, length-take-le, take-add, take-suc-set, leb-true, leb-false, length-set}
+use Rattle.std.proofs.Math.Path.{refl, sym, ap}
 use Rattle.std.proofs.Math.Bool.{true, false, cond}
-use Rattle.std.proofs.lemmas.Bool.{false≢true}
-use mathlib.Core.List.{List, [], ◌∷◌, ◌++◌, append_assoc, append-nil, flatten, map, map-append}
+use mathlib.Core.List.{List, [], ◌∷◌, ◌++◌, append_assoc, append-nil, flatten, map-append}
 use Rattle.std.proofs.Math.ListN.{length-drop}
 use Rattle.std.proofs.lemmas.List.{drop-set-add, take-set-le}
-use Rattle.format.specs.Combinators.{dep, dep-ok, dep-no-1, dep-no-2, rest, via-ok, via-no}
-use Rattle.format.specs.List.{vec, vec-next, vec-refused, vec-start}
-use Rattle.format.specs.Num.{pick, uint, val}
-use Rattle.format.specs.Res.{malformed}
+use Rattle.format.specs.Combinators.{Codec}
+use Rattle.format.specs.Res.{Res}
 use Rattle.format.specs.Res.Res.{ok, no}
-use Rattle.format.specs.Through.{whole-by-count, whole-no}
+use Rattle.format.specs.List.{vec, vec-start}
+use Rattle.format.specs.Num.{uint, val}
+use Rattle.format.specs.Reads.{Reading, left_of, reads, then_read, made_read, reads_raw, reads_raw_short, reads_uint, reads_two, reads_three}
+use Rattle.format.specs.ReadsMore.{reads_vec_more, reads_vec_refused}
 use Rattle.layout.specs.Layout.{log_id}
 use Rattle.records.specs.declared.records.VoterSlotLogId.{VoterSlotLogId}
-use Rattle.journal.specs.declared.observation.Laid.{Laid}
-use Rattle.journal.specs.declared.observation.ObservationRead.{ObservationRead}
 use Rattle.journal.specs.declared.replay.Mark.TheVariants.{Ob}
-use Rattle.journal.specs.Bodies.{observation_asking}
-use Rattle.journal.specs.Records.{counted, node_ids, node_sets, observation_body}
-use Rattle.journal.specs.RecordLaws.{number-not}
-use Rattle.journal.specs.ReplayLaws.{number-no, number_ok}
-use Rattle.journal.specs.Replay.{Asking, asking, formed, observation_asked}
+use Rattle.journal.specs.BodiesLaws.{ended_asking, formed_read}
+use Rattle.journal.specs.Records.{counted, node_ids, node_sets, ObservationBody, observation_body}
+use Rattle.journal.specs.Replay.{asking, observation_asked}
 use Rattle.journal.specs.Replay.Asked.{observation}
 use Rattle.journal.specs.Replay.Asking.{asks, bad}
-use Rattle.journal.specs.SetBody.{LaidIds, LaidSet, LaidSets, SetsSo, laid_of, not_laid}
+use Rattle.journal.specs.SetBody.{LaidIds, LaidSet, SetsSo}
+
+-- ---- a number takes its bytes
+
+rest_of : {A : Type 0} {a b : A} {l m : List ℕ} → ◌≡◌ {A = Reading A} (Reading.read a l) (Reading.read b m) → l ≡ m
+rest_of e = cc
+
+never_read : {A : Type 0} {a : A} {l : List ℕ} {k : ℕ} → ◌≡◌ {A = Reading A} (Reading.read a l) (Reading.refused k) → ⊥
+never_read e = let z : ◌≡◌ {A = ℕ} 0 1 = cc in omega arith
+
+pub number_takes : (k : ℕ) (bs rest : List ℕ) {v : ℕ} → Reading.read v rest ≡ reads (uint k) bs → k + length rest ≡ length bs
+number_takes k bs rest {v} e = by (leb k (length bs)) refl
+  where
+    by : (t : Bool) → leb k (length bs) ≡ t → k + length rest ≡ length bs
+    by true p =
+        let h = leb-true k (length bs) p in
+        let z : rest ≡ drop k bs = rest_of (e ∙ reads_uint k bs ∙ ap (made_read (val 0)) (reads_raw k bs h)) in
+        omega (arith, length-drop k bs, ap length z)
+    by false p = absurd (never_read (e ∙ reads_uint k bs ∙ ap (made_read (val 0)) (reads_raw_short k bs (leb-false k (length bs) p))))
+
+-- nothing is read twice
+pub reads_on : {A : Type 0} (C : Codec A) (bs rest : List ℕ) {a : A} → Reading.read a rest ≡ reads C bs → length rest ≤ length bs
+unfolding reads
+reads_on {A} C bs rest {a} e = by (C.dec bs) e
+  where
+    by : (x : Res A) → Reading.read a rest ≡ left_of bs x → length rest ≤ length bs
+    by (ok a n) f = let z : rest ≡ drop n bs = rest_of f in omega (arith, length-drop n bs, ap length z)
+    by (no k) f = absurd (never_read f)
 
 -- ---- ids
 
 module _ (bs : List ℕ) (from : ℕ) (old : List ℕ) where
-  pub ids-start : LaidIds bs from 0 old old
-  ids-start = record { front = refl; is = vec-start (uint 8) 0 bs }
+  pub ids_start : LaidIds bs bs from 0 old old
+  unfolding reads
+  ids_start = record { front = refl; is = ap (left_of bs) (vec-start (uint 8) 0 bs); few = omega arith; long = refl }
 
   -- one more
-  pub ids_more : (i v : ℕ) (new : List ℕ) → from + i < length new → LaidIds bs from i old new → ok v 8 ≡ (uint 8).dec (drop (8 * i) bs)
-      → LaidIds bs from (i + 1) old (set new (from + i) v)
-  ids_more i v new h l e =
+  pub ids_more : (i v : ℕ) (new rest r : List ℕ) → from + i < length new → LaidIds bs rest from i old new → Reading.read v r ≡ reads (uint 8) rest
+      → LaidIds bs r from (i + 1) old (set new (from + i) v)
+  ids_more i v new rest r h l e =
       let d = length-drop from new in
+      let t = number_takes 8 rest r e in
       let more : take (i + 1) (drop from (set new (from + i) v)) ≡ take i (drop from new) ++ (v ∷ []) =
       ap (take (i + 1)) (drop-set-add from new i v)
       ∙ ap (λ n. take n (set (drop from new) i v)) (add-one i)
@@ -48,71 +73,54 @@ module _ (bs : List ℕ) (from : ℕ) (old : List ℕ) where
       in
       record {
         front = take-set-le from new (from + i) v (omega arith) ∙ l.front;
-        is = vec-next (uint 8) 0 i bs l.is (sym e) ∙ ap₂ ok (sym more) (omega arith);
+        is =
+            reads_vec_more (uint 8) 0 i bs
+            ∙ ap (λ x. then_read x (λ l rest. made_read (λ a. l ++ (a ∷ [])) (reads (uint 8) rest))) l.is
+            ∙ ap (made_read (λ a. take i (drop from new) ++ (a ∷ []))) (sym e)
+            ∙ ap (λ l. Reading.read l r) (sym more);
+        few = omega (arith, l.few);
+        long = length-set new (from + i) v ∙ l.long;
       }
 
 -- ---- a set
 
--- so many ids where the bytes are there
-ids-there : (n : ℕ) (bs : List ℕ) → 8 * n ≤ length bs → (l : List ℕ) × ((vec (uint 8) 0 n).dec bs ≡ ok l (8 * n))
-ids-there zero bs h = ([], vec-start (uint 8) 0 bs)
-ids-there (suc n) bs h =
-    let (l, e) = ids-there n bs (omega arith) in
-    let d = length-drop (8 * n) bs in (
-      l ++ (val 0 (take 8 (drop (8 * n) bs)) ∷ []),
-      ap (λ k. (vec (uint 8) 0 k).dec bs) (sym (add-one n))
-          ∙ vec-next (uint 8) 0 n bs e (number_ok 8 (drop (8 * n) bs) (omega arith))
-          ∙ ap (ok (l ++ (val 0 (take 8 (drop (8 * n) bs)) ∷ []))) (omega arith),
-    )
+made_same : {A : Type 0} (x : Reading A) → made_read (λ a. a) x ≡ x
+made_same (Reading.read a rest) = refl
+made_same (Reading.refused k) = refl
 
--- and not where they are not
-ids_short : (n : ℕ) (bs : List ℕ) → length bs < 8 * n → (vec (uint 8) 0 n).dec bs ≡ no malformed
-ids_short n bs h =
-    let k = length bs / 8 in
-    let d = length-drop (8 * k) bs in
-    vec-refused (uint 8) 0 k n bs (omega arith) (ids-there k bs (omega arith)).1 (number-no 8 (drop (8 * k) bs) (omega arith))
+counted_by : {A : Type 0} (C : ℕ → List ℕ → Reading A) (x : Reading ℕ) → then_read x (λ n r. made_read (λ l. l) (C n r)) ≡ then_read x C
+counted_by C (Reading.read n rest) = made_same (C n rest)
+counted_by C (Reading.refused k) = refl
 
--- a part of the bytes is all that is left
-pub sets-rest : {r : Laid} (bs : List ℕ) (at : ℕ) {count : ℕ} {ids counts : List ℕ} → LaidSets r (take (length bs - at) (drop at bs)) count ids counts
-    → LaidSets r (drop at bs) count ids counts
-sets-rest {r} bs at {count} {ids} {counts} l = subst (λ b. LaidSets r b count ids counts) (rest bs at) l
+pub set_read : (bs : List ℕ) → reads node_ids bs ≡ then_read (reads (uint 2) bs) (λ n r. reads (vec (uint 8) 0 n) r)
+unfolding node_ids counted
+set_read bs = reads_two (uint 2) (vec (uint 8) 0) _ _ _ bs ∙ counted_by (λ n r. reads (vec (uint 8) 0 n) r) (reads (uint 2) bs)
 
-pub set_rest : {r : Laid} (bs : List ℕ) (at : ℕ) {from : ℕ} {old new : List ℕ} → LaidSet r (take (length bs - at) (drop at bs)) from old new → LaidSet r (drop at bs) from old new
-set_rest {r} bs at {from} {old} {new} l = subst (λ b. LaidSet r b from old new) (rest bs at) l
+module _ (bs : List ℕ) {count : ℕ} (s : List ℕ) (e : Reading.read count s ≡ reads (uint 2) bs) where
+  after_count : reads node_ids bs ≡ reads (vec (uint 8) 0 count) s
+  after_count = set_read bs ∙ ap (λ x. then_read x (λ n r. reads (vec (uint 8) 0 n) r)) (sym e)
 
-module _ (bs : List ℕ) (from : ℕ) where
-  not_set : {r : Laid} (ids : List ℕ) → r ≡ not_laid → node_ids.dec bs ≡ no malformed → LaidSet r bs from ids ids
-  not_set ids n e = subst (λ r. LaidSet r bs from ids ids) (sym n) record { front = refl; is = sym e; few = omega arith; within = omega arith }
+  -- too few ids
+  pub set_refused : (from i k : ℕ) (rest old new : List ℕ) → LaidIds s rest from i old new → i < count → Reading.refused k ≡ reads (uint 8) rest
+      → Reading.refused k ≡ reads node_ids bs
+  set_refused from i k rest old new l h r =
+      sym (after_count
+      ∙ reads_vec_refused (uint 8) 0 (i + 1) count s (omega arith)
+      (reads_vec_more (uint 8) 0 i s
+      ∙ ap (λ x. then_read x (λ l rest. made_read (λ a. l ++ (a ∷ [])) (reads (uint 8) rest))) l.is
+      ∙ ap (made_read (λ a. take i (drop from new) ++ (a ∷ []))) (sym r)))
 
-  -- no count
-  pub set-headless : {r : Laid} (ids : List ℕ) {k : ℕ} → r ≡ not_laid → (uint 2).dec bs ≡ no k → LaidSet r bs from ids ids
-  unfolding node_ids counted
-  set-headless ids n e = not_set ids n (via-no _ _ _ _ bs (dep-no-1 _ _ bs (number-no 2 bs (number-not 2 bs e))))
-
-  module _ {count at : ℕ} (e : (uint 2).dec bs ≡ ok count at) where
-    pub head-within : at ≤ length bs
-    head-within = (uint 2).within bs e
-
-    -- too few ids
-    pub set-short : {r : Laid} (ids : List ℕ) → r ≡ not_laid → length bs - at < 8 * count → LaidSet r bs from ids ids
-    unfolding node_ids counted
-    set-short ids n h =
-        let d = length-drop at bs in
-        not_set ids n (via-no _ _ _ _ bs (dep-no-2 _ _ bs e (ids_short count (drop at bs) (omega arith))))
-
-    -- all of them
-    pub set_there : {old new : List ℕ} → 8 * count ≤ length bs - at → LaidIds (take (length bs - at) (drop at bs)) from count old new
-        → LaidSet record { formed = true; taken = at + 8 * count; ids = count } bs from old new
-    unfolding node_ids counted
-    set_there {old} {new} h l =
-        let w = head-within in
-        let i = subst (λ b. (vec (uint 8) 0 count).dec b ≡ ok (take count (drop from new)) (8 * count)) (rest bs at) l.is in
-        record {
-          front = l.front;
-          is = sym (via-ok _ _ _ _ bs (dep-ok _ _ bs e i));
-          few = omega arith;
-          within = omega arith;
-        }
+  -- all of them
+  pub set_laid : (from i : ℕ) (rest old new : List ℕ) → LaidIds s rest from i old new → i ≡ count → LaidSet (Ok count) bs rest from old new
+  set_laid from i rest old new l q = record {
+    front = l.front;
+    is =
+        ap (λ n. Reading.read (take n (drop from new)) rest) (sym q)
+        ∙ sym l.is
+        ∙ ap (λ n. reads (vec (uint 8) 0 n) s) q
+        ∙ sym after_count;
+    few = omega (arith, l.few, number_takes 2 bs s e, q);
+  }
 
 -- ---- sets
 
@@ -122,128 +130,113 @@ flatten-more [] s = append-nil s
 flatten-more (t ∷ sets) s = ap (λ l. t ++ l) (flatten-more sets s) ∙ sym (append_assoc t (flatten sets) s)
 
 module _ (bs : List ℕ) where
-  pub sets-start : (ids counts : List ℕ) → SetsSo bs 0 0 0 ids counts
-  unfolding flatten
-  sets-start ids counts = record { sets = []; is = vec-start node_ids [] bs; joined = refl; counted = refl; few = omega arith; within = omega arith }
+  pub sets_start : (ids counts : List ℕ) → SetsSo bs bs 0 0 ids counts
+  unfolding flatten reads
+  sets_start ids counts = record { sets = []; is = ap (left_of bs) (vec-start node_ids [] bs); joined = refl; counted = refl; few = omega arith }
 
-  module _ {i taken held : ℕ} {ids counts : List ℕ} {r : Laid} {new : List ℕ} (so : SetsSo bs i taken held ids counts) (l : LaidSet r (drop taken bs) held ids new) where
-    -- the set that was laid is the next
-    pub set-read : r.formed ≡ true → node_ids.dec (drop taken bs) ≡ ok (take r.ids (drop held new)) r.taken
-    set-read f = sym l.is ∙ ap (λ t. cond t (ok (take r.ids (drop held new)) r.taken) (no malformed)) f
+  module _ (i held : ℕ) (mid rest ids counts : List ℕ) (so : SetsSo bs mid i held ids counts) where
+    one_more : reads (vec node_ids [] (i + 1)) bs ≡ made_read (λ s. so.sets ++ (s ∷ [])) (reads node_ids mid)
+    one_more =
+        reads_vec_more node_ids [] i bs
+        ∙ ap (λ x. then_read x (λ l rest. made_read (λ a. l ++ (a ∷ [])) (reads node_ids rest))) so.is
 
     -- one more
-    pub sets_more : r.formed ≡ true → held + r.ids ≤ length new → i < length counts
-        → SetsSo bs (i + 1) (taken + r.taken) (held + r.ids) new (set counts i r.ids)
-    sets_more f h k =
-        let s = take r.ids (drop held new) in
-        let w = l.within in
-        let v = so.within in
-        let d = length-drop taken bs in
-        let n = length-drop held new in
-        let long : length s ≡ r.ids = length-take-le r.ids (drop held new) (omega arith) in
+    pub sets_more : (n : ℕ) (new : List ℕ) → LaidSet (Ok n) mid rest held ids new → held + n ≤ length new → i < length counts
+        → SetsSo bs rest (i + 1) (held + n) new (set counts i n)
+    sets_more n new l h k =
+        let s = take n (drop held new) in
+        let d = length-drop held new in
+        let long : length s ≡ n = length-take-le n (drop held new) (omega arith) in
         record {
           sets = so.sets ++ (s ∷ []);
-          is = vec-next node_ids [] i bs so.is (set-read f);
+          is = one_more ∙ ap (made_read (λ s. so.sets ++ (s ∷ []))) (sym l.is);
           joined =
               flatten-more so.sets s
               ∙ ap (λ p. p ++ s) (so.joined ∙ sym l.front)
-              ∙ sym (take-add held r.ids new);
+              ∙ sym (take-add held n new);
           counted =
               map-append length so.sets (s ∷ [])
-              ∙ ap₂ (λ p n. p ++ (n ∷ [])) so.counted long
-              ∙ sym (ap (λ n. take n (set counts i r.ids)) (add-one i) ∙ take-suc-set counts i r.ids k);
+              ∙ ap₂ (λ p m. p ++ (m ∷ [])) so.counted long
+              ∙ sym (ap (λ m. take m (set counts i n)) (add-one i) ∙ take-suc-set counts i n k);
           few = omega (arith, so.few, l.few);
-          within = omega arith;
         }
 
     -- one that is refused ends the reading
-    pub sets-refused : (n : ℕ) (counts' : List ℕ) → i < n → r.formed ≡ false → LaidSets r bs n new counts'
-    sets-refused n counts' h f =
-        record {
-          formed = λ e. absurd (false≢true (sym f ∙ e));
-          refused = λ e.
-              vec-refused node_ids [] i n bs h so.is (sym l.is ∙ ap (λ t. cond t (ok (take r.ids (drop held new)) r.taken) (no malformed)) f);
-        }
-
-  -- all were read
-  pub sets_end : {n taken held : ℕ} {ids counts : List ℕ} → SetsSo bs n taken held ids counts
-      → LaidSets record { formed = true; taken = taken; ids = held } bs n ids counts
-  sets_end so = record { formed = λ e. so; refused = λ e. absurd (false≢true (sym e)) }
+    pub sets_refused : (k n : ℕ) → i < n → Reading.refused k ≡ reads node_ids mid → Reading.refused k ≡ reads (vec node_ids [] n) bs
+    sets_refused k n h e =
+        sym (reads_vec_refused node_ids [] (i + 1) n bs (omega arith) (one_more ∙ ap (made_read (λ s. so.sets ++ (s ∷ []))) (sym e)))
 
 -- ---- the whole body
 
--- an answer that is not formed asks nothing
-pub unformed : {x : Asking} (r : ObservationRead) (ids counts : List ℕ) → r.formed ≡ false → bad ≡ x → observation_asking r ids counts ≡ x
-unformed r ids counts e f =
-    ap (λ t. cond t (asks (observation (take r.ids ids) (take r.sets counts) (take r.nodes (drop r.ids ids)) r.cut)) bad) e ∙ f
+pub sets_read : (bs : List ℕ) → reads node_sets bs ≡ then_read (reads (uint 1) bs) (λ n r. reads (vec node_ids [] n) r)
+unfolding node_sets counted
+sets_read bs = reads_two (uint 1) (vec node_ids []) _ _ _ bs ∙ counted_by (λ n r. reads (vec node_ids [] n) r) (reads (uint 1) bs)
+
+-- what stands after the cut
+abbrev pub after_cut : VoterSlotLogId → List ℕ → Reading ObservationBody
+after_cut cut r =
+    then_read (then_read (reads (uint 1) r) (λ n s. reads (vec node_ids [] n) s))
+    (λ sets t. made_read (λ nodes. record { cut = cut; sets = sets; nodes = nodes }) (reads node_ids t))
+
+cut_read : (x : Reading VoterSlotLogId)
+    → then_read x (λ cut r. then_read (reads node_sets r) (λ sets t. made_read {B = ObservationBody} (λ nodes. record { cut = cut; sets = sets; nodes = nodes }) (reads node_ids t)))
+    ≡ then_read x after_cut
+cut_read (Reading.read cut rest) =
+    ap (λ y. then_read y (λ sets t. made_read {B = ObservationBody} (λ nodes. record { cut = cut; sets = sets; nodes = nodes }) (reads node_ids t))) (sets_read rest)
+cut_read (Reading.refused k) = refl
+
+pub observation_read : (body : List ℕ) → asking Ob body ≡ ended_asking (λ b. asks (observation_asked b)) (then_read (reads log_id body) after_cut)
+unfolding asking observation_body
+observation_read body =
+    formed_read observation_body (λ b. asks (observation_asked b)) body
+    ∙ ap (ended_asking {A = ObservationBody} (λ b. asks (observation_asked b))) (reads_three log_id (λ a. node_sets) (λ a. node_ids) _ _ _ body ∙ cut_read (reads log_id body))
 
 module _ (body : List ℕ) where
-  refused-body : {k : ℕ} → observation_body.dec body ≡ no k → bad ≡ asking Ob body
-  unfolding asking formed
-  refused-body e = rw (whole-no observation_body body e)
-
-  read-body : (cut : VoterSlotLogId) (sets : List (List ℕ)) (nodes : List ℕ) (n : ℕ) (t : Bool) → eqb n (length body) ≡ t
-      → observation_body.dec body ≡ ok record { cut = cut; sets = sets; nodes = nodes } n
-      → cond t (asks (observation (flatten sets) (map length sets) nodes cut)) bad ≡ asking Ob body
-  unfolding asking formed observation_asked pick
-  read-body cut sets nodes n true q e = rw (whole-by-count observation_body body true e q)
-  read-body cut sets nodes n false q e = rw (whole-by-count observation_body body false e q)
-
-  -- the cut and the sets
-  observation-sets : {cut : VoterSlotLogId} {at count n : ℕ} {sets : List (List ℕ)} {taken : ℕ} → log_id.dec body ≡ ok cut at → (uint 1).dec (drop at body) ≡ ok count n
-      → (vec node_ids [] count).dec (drop (at + n) body) ≡ ok sets taken → (dep log_id (λ a. node_sets)).dec body ≡ ok (cut, sets) (at + n + taken)
-  unfolding node_sets counted
-  observation-sets {cut} {at} {count} {n} {sets} {taken} e f g =
-      dep-ok log_id (λ a. node_sets) body e
-      (via-ok _ _ _ _ (drop at body) (dep-ok _ _ (drop at body) f (ap (vec node_ids [] count).dec (drop-drop n at body) ∙ g)))
-      ∙ ap (ok (cut, sets)) (omega arith)
-
-  -- the nodes, to the last byte
-  module _ {cut : VoterSlotLogId} {sets : List (List ℕ)} {at : ℕ} (e : (dep log_id (λ a. node_sets)).dec body ≡ ok (cut, sets) at) (r : Laid) (nodes : List ℕ) where
-    nodes-by : (t : Bool) → r.formed ≡ t → laid_of r nodes ≡ node_ids.dec (drop at body)
-        → cond (t && eqb (at + r.taken) (length body)) (asks (observation (flatten sets) (map length sets) nodes cut)) bad ≡ asking Ob body
-    unfolding observation_body
-    nodes-by true f l =
-        read-body cut sets nodes (at + r.taken) (eqb (at + r.taken) (length body)) refl
-        (via-ok _ _ _ _ body (dep-ok _ _ body e (sym l ∙ ap (λ t. cond t (ok nodes r.taken) (no malformed)) f)))
-    nodes-by false f l =
-        refused-body (via-no _ _ _ _ body (dep-no-2 _ _ body e (sym l ∙ ap (λ t. cond t (ok nodes r.taken) (no malformed)) f)))
-
-    observation-nodes : laid_of r nodes ≡ node_ids.dec (drop at body)
-        → cond (r.formed && eqb (at + r.taken) (length body)) (asks (observation (flatten sets) (map length sets) nodes cut)) bad ≡ asking Ob body
-    observation-nodes l = nodes-by r.formed refl l
+  refused_at : {k : ℕ} → then_read (reads log_id body) after_cut ≡ Reading.refused k → bad ≡ asking Ob body
+  refused_at e = sym (observation_read body ∙ ap (ended_asking {A = ObservationBody} (λ b. asks (observation_asked b))) e)
 
   -- no cut
-  pub observation-cutless : {k : ℕ} → log_id.dec body ≡ no k → bad ≡ asking Ob body
-  unfolding observation_body
-  observation-cutless e = refused-body (via-no _ _ _ _ body (dep-no-1 _ _ body (dep-no-1 _ _ body e)))
+  pub observation_cutless : {k : ℕ} → Reading.refused k ≡ reads log_id body → bad ≡ asking Ob body
+  observation_cutless e = refused_at (ap (λ x. then_read x after_cut) (sym e))
 
-  module _ {cut : VoterSlotLogId} {at : ℕ} (e : log_id.dec body ≡ ok cut at) where
+  module _ {cut : VoterSlotLogId} (r : List ℕ) (c : Reading.read cut r ≡ reads log_id body) where
+    cut_first : then_read (reads log_id body) after_cut ≡ after_cut cut r
+    cut_first = ap (λ x. then_read x after_cut) (sym c)
+
+    abbrev with_sets : List (List ℕ) → List ℕ → Reading ObservationBody
+    with_sets sets t = made_read (λ nodes. record { cut = cut; sets = sets; nodes = nodes }) (reads node_ids t)
+
     -- no count of the sets
-    pub observation-countless : {k : ℕ} → (uint 1).dec (drop at body) ≡ no k → bad ≡ asking Ob body
-    unfolding observation_body node_sets counted
-    observation-countless f =
-        refused-body (via-no _ _ _ _ body (dep-no-1 _ _ body (dep-no-2 _ _ body e (via-no _ _ _ _ (drop at body) (dep-no-1 _ _ (drop at body) f)))))
+    pub observation_countless : {k : ℕ} → Reading.refused k ≡ reads (uint 1) r → bad ≡ asking Ob body
+    observation_countless e =
+        refused_at (cut_first ∙ ap (λ x. then_read (then_read x (λ n s. reads (vec node_ids [] n) s)) with_sets) (sym e))
 
-    module _ {count n : ℕ} (f : (uint 1).dec (drop at body) ≡ ok count n) where
+    module _ {count : ℕ} (s : List ℕ) (n : Reading.read count s ≡ reads (uint 1) r) where
+      then_sets : after_cut cut r ≡ then_read (reads (vec node_ids [] count) s) with_sets
+      then_sets = ap (λ x. then_read (then_read x (λ n s. reads (vec node_ids [] n) s)) with_sets) (sym n)
+
       -- not so many sets
-      pub observation-setless : {k : ℕ} → (vec node_ids [] count).dec (drop (at + n) body) ≡ no k → bad ≡ asking Ob body
-      unfolding observation_body node_sets counted
-      observation-setless g =
-          refused-body
-          (via-no _ _ _ _ body
-          (dep-no-1 _ _ body
-          (dep-no-2 _ _ body e
-          (via-no _ _ _ _ (drop at body) (dep-no-2 _ _ (drop at body) f (ap (vec node_ids [] count).dec (drop-drop n at body) ∙ g))))))
+      pub observation_setless : {k : ℕ} → Reading.refused k ≡ reads (vec node_ids [] count) s → bad ≡ asking Ob body
+      observation_setless e = refused_at (cut_first ∙ then_sets ∙ ap (λ x. then_read x with_sets) (sym e))
 
-      -- the sets, and then the nodes, to the last byte
-      pub observation-end : {taken held : ℕ} {ids counts new : List ℕ} {r : Laid} → SetsSo (drop (at + n) body) count taken held ids counts
-          → LaidSet r (drop (at + n + taken) body) held ids new
-          → cond (r.formed && eqb (at + n + taken + r.taken) (length body)) (asks (observation (take held new) (take count counts) (take r.ids (drop held new)) cut)) bad
-          ≡ asking Ob body
-      observation-end {taken} {held} {ids} {counts} {new} {r} so l =
-          ap₂
-          (λ a b. cond (r.formed && eqb (at + n + taken + r.taken) (length body)) (asks (observation a b (take r.ids (drop held new)) cut)) bad)
-          (l.front ∙ sym so.joined)
-          (sym so.counted)
-          ∙ observation-nodes (observation-sets e f so.is) r (take r.ids (drop held new)) l.is
+      module _ {held : ℕ} (t ids counts : List ℕ) (so : SetsSo s t count held ids counts) where
+        then_nodes : then_read (reads log_id body) after_cut ≡ with_sets so.sets t
+        then_nodes = cut_first ∙ then_sets ∙ ap (λ x. then_read x with_sets) so.is
+
+        -- no nodes
+        pub observation_nodeless : {k : ℕ} → Reading.refused k ≡ reads node_ids t → bad ≡ asking Ob body
+        observation_nodeless e =
+            refused_at (then_nodes ∙ ap (made_read {B = ObservationBody} (λ nodes. record { cut = cut; sets = so.sets; nodes = nodes })) (sym e))
+
+        -- all of them, and then the end
+        pub observation_end : (nodes : ℕ) (u new : List ℕ) → LaidSet (Ok nodes) t u held ids new
+            → cond (eqb (length u) 0) (asks (observation (take held new) (take count counts) (take nodes (drop held new)) cut)) bad ≡ asking Ob body
+        unfolding observation_asked
+        observation_end nodes u new l =
+            ap₂
+            (λ a b. cond (eqb (length u) 0) (asks (observation a b (take nodes (drop held new)) cut)) bad)
+            (l.front ∙ sym so.joined)
+            (sym so.counted)
+            ∙ sym (observation_read body
+            ∙ ap (ended_asking {A = ObservationBody} (λ b. asks (observation_asked b)))
+            (then_nodes ∙ ap (made_read {B = ObservationBody} (λ nodes. record { cut = cut; sets = so.sets; nodes = nodes })) (sym l.is)))

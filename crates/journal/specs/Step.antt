@@ -3,10 +3,9 @@
 -- From document 01, section "Replay program": 33; the attestation reader's number; 30; 31; the
 -- call.
 -- Assumes nothing.
-use Rattle.std.specs.Prelude.{ℕ, ◌≡◌, Bool, true, false, cond, List}
-use Rattle.identity.specs.Answer.{number_of}
-use Rattle.identity.specs.declared.answer.Answer.{Answer}
-use Rattle.identity.specs.declared.answer.Answer.TheVariants.{Accepted, BadRecord, InvalidTransition, Unrepresentable}
+use Rattle.std.specs.Prelude.{ℕ, ◌≡◌, Bool, true, false, cond, List, Option, Result, IfSome, IfOk}
+use Rattle.identity.specs.Answer.{number_of, Answer, Accepted, InvalidTransition, Unrepresentable}
+use Rattle.identity.specs.declared.answer.Refusal.{Refusal}
 use Rattle.format.specs.Res.{Res}
 use Rattle.format.specs.Res.Res.{ok, no}
 use Rattle.layout.specs.Layout.{log_id}
@@ -18,21 +17,17 @@ use Rattle.records.specs.declared.records.VoterSlotTable.{VoterSlotTable}
 use Rattle.control.specs.declared.begin.VoterBegin.{VoterBegin}
 use Rattle.control.specs.declared.control.VoterAdvance.{VoterAdvance}
 use Rattle.control.specs.declared.control.VoterSlotControl.{VoterSlotControl}
-use Rattle.control.specs.Control.{representable_request}
-use Rattle.control.specs.Judgement.{Addition, Move, Verdict, added, judge_begin, made}
-use Rattle.control.specs.Judgement.Addition.{adds_learner, adds_joint, adds_uniform}
+use Rattle.control.specs.Judgement.{Addition, Move, Verdict, added, made}
 use Rattle.control.specs.Judgement.Move.{begins, records_snapshot, records_caught_up, continues, fences, finalizes}
 use Rattle.control.specs.Judgement.Verdict.{kept, moves}
 use Rattle.control.specs.Judgement.Verdict.{refused as refuses}
 use Rattle.control.specs.ObserveSight.{answer_of_observed, verdict_of_observed, weighed}
-use Rattle.control.specs.Verdicts.{answer_of, entry_verdict, route_of, verdict_of}
-use Rattle.journal.specs.declared.bodies.Asks.{Asks}
-use Rattle.journal.specs.declared.bodies.Asks.TheVariants.{Bad, Refused, Begin}
+use Rattle.control.specs.Verdicts.{answer_of, entry_verdict, verdict_of}
 use Rattle.journal.specs.declared.replay.Mark.{Mark}
 use Rattle.journal.specs.declared.replay.Mark.TheVariants.{Ad, Bg, Ob}
 use Rattle.journal.specs.declared.step.Called.{Called}
 use Rattle.journal.specs.declared.step.Called.TheVariants.{Command, Observation}
-use Rattle.journal.specs.Bodies.{advance_asking, begin_asking_by, blank_marker_body}
+use Rattle.journal.specs.Bodies.{advance_asking, begin_asking, blank_marker_body}
 use Rattle.journal.specs.Replay.{Asking, Standing, asking, bad_record, marker_control}
 use Rattle.journal.specs.Replay.Asked.{command, observation}
 use Rattle.journal.specs.Replay.Asking.{bad, refused, asks}
@@ -67,12 +62,6 @@ observation_verdict t (asks (observation ids counts nodes cut)) = numbered (weig
 -- the tests of the entry point on a valid table: 30, and 25 for a zero in the cut
 abbrev pub checked_call : Bool → VoterSlotLogId → Verdict Move → Verdict Move
 checked_call fits cut v = cond fits (cond (valid_log_id cut) v (refuses InvalidTransition)) (refuses Unrepresentable)
-
--- a BG by what its reader says: 33, the reader's number, or the verdict
-abbrev pub begin_verdict : VoterSlotTable → Asks → VoterBegin → Verdict Move
-begin_verdict t Bad b = refuses BadRecord
-begin_verdict t (Refused answer) b = refuses answer
-begin_verdict t Begin b = checked_call (representable_request b.request) b.cut (judge_begin t b.request b.cut)
 
 -- ---- what was judged
 
@@ -151,25 +140,11 @@ Makes t body (Observation observed) = MakesObservation t body (verdict_of_observ
 -- what a body holds that is read again for a maker: the Advance that it asks for, if it asks for
 -- one
 abbrev pub HoldsAdvance : List ℕ → VoterAdvance → Type 0
-HoldsAdvance body a = (is_formed : Bool) × (advance_asking (record { formed = is_formed; value = a }) ≡ asking Ad body)
+HoldsAdvance body a = (o : Option VoterAdvance) × ((advance_asking o ≡ asking Ad body) × IfSome o (λ b. b ≡ a))
 
 -- the same of a Begin
 abbrev pub HoldsBegin : List ℕ → VoterBegin → Type 0
-HoldsBegin body b = (says : Asks) × (begin_asking_by says b ≡ asking Bg body)
-
--- the number by which the code chooses the maker, 0 for none: 1 to 6 for commands (`route_of`), 7 to
--- 9 for observations
-abbrev pub route_of_observation : Verdict Addition → ℕ
-route_of_observation (refuses answer) = 0
-route_of_observation kept = 0
-route_of_observation (moves adds_learner) = 7
-route_of_observation (moves adds_joint) = 8
-route_of_observation (moves adds_uniform) = 9
-
--- of either
-abbrev pub route_of_called : Called → ℕ
-route_of_called (Command judged) = route_of (verdict_of judged)
-route_of_called (Observation observed) = route_of_observation (verdict_of_observed observed)
+HoldsBegin body b = (o : Option (Result VoterBegin Refusal)) × ((begin_asking o ≡ asking Bg body) × IfSome o (λ r. IfOk r (λ a. a ≡ b)))
 
 -- whether the table changes
 abbrev pub is_made : {M : Type 0} → Verdict M → Bool

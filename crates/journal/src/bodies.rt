@@ -1,37 +1,33 @@
-// The bodies of commands: MK, AD, BG. Each field has a reader, which takes the rest of the bytes
-// and returns the count that it read.
+// The bodies of commands: MK, AD, BG. Each part has a reader, which moves the cursor past it.
 //
 // Document 01, section "Replay program". No part of the original has them.
-ghost use Rattle.std.specs.Prelude.{cond, false, ◌≡◌, ltb, length};
-ghost use Rattle.identity.specs.Answer.{number_of};
-ghost use Rattle.identity.specs.Text.{max_snapshot_id_bytes};
-ghost use Rattle.format.specs.Combinators.{dec_map};
-ghost use Rattle.format.specs.Res.Res.{ok, no};
-ghost use Rattle.layout.specs.Layout.{choice};
-ghost use Rattle.layout.specs.Reading.{identity_read, outcome, report};
-ghost use Rattle.records.specs.Blank.{blank_snapshot_id, blank_voter_slot_member, blank_voter_snapshot_evidence};
-ghost use Rattle.control.specs.Blank.{blank_consensus_identity, blank_voter_replacement_step};
-ghost use Rattle.control.specs.Control.{finalize_kind, record_caught_up_kind, record_snapshot_kind};
+ghost use Rattle.std.specs.Prelude.{◌≡◌};
+ghost use Rattle.format.specs.Reads.{reads, made_read};
+ghost use Rattle.layout.specs.Told.{told, told_bytes};
 ghost use Rattle.journal.specs.declared.replay.Mark.TheVariants.{Ad, Bg, Mk};
-ghost use Rattle.journal.specs.Bodies.{advance_asking, advance_by, attested_asking, begin_asking, begin_by, blank_begin_head, blank_marker_body, is_whole, marker_asking, partless, supplied_body};
+ghost use Rattle.journal.specs.Bodies.{advance_asking, advance_by, begin_asking, begin_by, blank_marker_body, marker_asking, partless};
 ghost use Rattle.journal.specs.Records.{any_identity, begin_head, candidate, expected, marker_body, sized_bytes, snapshot_part, step_body};
 ghost use Rattle.journal.specs.Replay.{asking, snapshot_id_of, snapshot_of, step_of};
 
-use crate::record::MOST_BODY;
-use codec::codec::decode_lost_voter_attestation;
+use codec::codec::read_lost_voter_attestation;
 use control::begin::VoterBegin;
 use control::control::*;
-use identity::answer::{Answer, accepted};
+use identity::answer::Refusal;
 use identity::identity::*;
 use identity::text::MAX_VOTER_SNAPSHOT_ID_BYTES;
-use layout::get::*;
 use layout::parts::member_of;
-use layout::put::put_bytes;
-use layout::reading::*;
-use reader::decode::read_binding;
-use reader::reader::{read_choice, read_log_id};
+use reader::reader::Reader;
 use records::blank::*;
 use records::records::*;
+
+// Bytes with their size before them. The size has 16 bits, and none is too large here.
+#[tactic(auto, using(format::specs::Reads::reads_two), unfolding(crate::specs::Records::sized_bytes))]
+pub fn sized_bytes<'a>(input: &mut Reader<'a>) -> Result<&'a [u8], Refusal>
+    ensures { told_bytes result input.new.bytes.now ≡ reads sized_bytes input.old.bytes.now }
+{
+    let count = input.u16()? as usize;
+    input.take(count)
+}
 
 // ---- MK
 
@@ -46,267 +42,93 @@ pub struct MarkerBody {
     pub request_digest: [u8; 32],
 }
 
-#[derive(Clone, Copy)]
-pub struct MarkerBodyRead {
-    pub answer: Extent,
-    pub value: MarkerBody,
-}
-
 // The front of an AD and the whole of an MK.
-pub fn read_marker_body(bytes: &[u8]) -> MarkerBodyRead
-    ensures { (report result.answer, result.value) ≡ outcome blank_marker_body (marker_body.dec bytes.now) }
+#[tactic(auto, using(format::specs::Reads::reads_three), unfolding(crate::specs::Records::marker_body))]
+pub fn marker_body(input: &mut Reader) -> Result<MarkerBody, Refusal>
+    ensures { told result input.new.bytes.now ≡ reads marker_body input.old.bytes.now }
 {
-    let cut_read = read_log_id(bytes);
-    let LogIdRead::Read(cut, at) = cut_read else {
-        return refused_marker_body(why_log_id(cut_read));
-    };
-    let request_id_read = read_array16(&bytes[at..]);
-    let request_id_to = request_id_read.answer;
-    let Extent::To(n) = request_id_to else {
-        return refused_marker_body(why(request_id_to));
-    };
-    let request_id = request_id_read.value;
-    let at = at + n;
-    let request_digest_read = read_array32(&bytes[at..]);
-    let request_digest_to = request_digest_read.answer;
-    let Extent::To(n) = request_digest_to else {
-        return refused_marker_body(why(request_digest_to));
-    };
-    let request_digest = request_digest_read.value;
-    MarkerBodyRead {
-        answer: Extent::To(at + n),
-        value: MarkerBody {
-            cut,
-            request_id,
-            request_digest,
-        },
-    }
+    Ok(MarkerBody {
+        cut: input.log_id()?,
+        request_id: input.array()?,
+        request_digest: input.array()?,
+    })
 }
 
-fn refused_marker_body(answer: Answer) -> MarkerBodyRead
-    ensures { (report result.answer, result.value) ≡ outcome blank_marker_body (no (number_of answer)) }
-{
-    MarkerBodyRead {
-        answer: Extent::Refused(answer),
-        value: blank_marker_body(),
-    }
-}
-
-fn blank_marker_body() -> MarkerBody
-    ensures { result ≡ blank_marker_body }
-{
-    let cut = blank_voter_slot_log_id();
-    let request_id = zeros16();
-    let request_digest = zeros32();
-    MarkerBody {
-        cut,
-        request_id,
-        request_digest,
-    }
-}
-
-// Whether the body is of the form, to its last byte, and what it holds then.
-#[derive(Clone, Copy)]
-pub struct MarkerRead {
-    pub formed: bool,
-    pub value: MarkerBody,
-}
-
-// The body of an MK.
-pub fn read_marker(body: &[u8]) -> MarkerRead
+// The body of an MK, or none: it is not of that form, to its last byte.
+#[tactic(auto, using(crate::specs::BodiesLaws::marker_read), unfolding(format::specs::Num::pick))]
+pub fn read_marker(body: &[u8]) -> Option<MarkerBody>
     ensures { marker_asking result ≡ asking Mk body.now }
 {
-    let read = read_marker_body(body);
-    let to = read.answer;
-    let value = read.value;
-    MarkerRead {
-        formed: is_whole(to, body.len()),
-        value,
-    }
-}
-
-// Whether all was read.
-fn is_whole(to: Extent, len: usize) -> bool
-    ensures { result ≡ is_whole to len }
-{
-    match to {
-        Extent::To(n) => n == len,
-        Extent::Refused(_) => false,
-    }
+    let mut input = Reader::new(body);
+    let marker = marker_body(&mut input).ok()?;
+    input.finish().ok()?;
+    Some(marker)
 }
 
 // ---- AD
 
 // An id of any size: its length is kept, and of its bytes as many as have a place, so that the call
 // refuses it with 30.
-fn read_any_snapshot_id(bytes: &[u8]) -> SnapshotIdRead
-    ensures { (report result.answer, result.value) ≡ outcome blank_snapshot_id (dec_map sized_bytes.dec snapshot_id_of bytes.now) }
+#[tactic(auto, using(crate::specs::BodiesLaws::id_placed), unfolding(crate::specs::Replay::snapshot_id_of))]
+fn any_snapshot_id(input: &mut Reader) -> Result<SnapshotId, Refusal>
+    ensures { told result input.new.bytes.now ≡ made_read snapshot_id_of (reads sized_bytes input.old.bytes.now) }
 {
-    let size = read_sized(bytes, MOST_BODY);
-    let SizedRead::Read(len, at) = size else {
-        return refused_snapshot_id(why_sized(size));
-    };
-    let stop = at + at_most_256(len);
-    let mut place = zeros256();
-    put_bytes(&mut place, 0, &bytes[at..stop]);
-    SnapshotIdRead {
-        answer: Extent::To(at + len),
-        value: SnapshotId { len, bytes: place },
-    }
-}
-
-// As many bytes of an id as have a place.
-fn at_most_256(len: usize) -> usize
-    ensures { result ≡ cond (ltb len max_snapshot_id_bytes) len max_snapshot_id_bytes }
-{
-    if len < MAX_VOTER_SNAPSHOT_ID_BYTES {
-        return len;
-    }
-    MAX_VOTER_SNAPSHOT_ID_BYTES
+    let id = sized_bytes(input)?;
+    let len = id.len();
+    let held = len.min(MAX_VOTER_SNAPSHOT_ID_BYTES);
+    let mut bytes = [0; MAX_VOTER_SNAPSHOT_ID_BYTES];
+    bytes[..held].copy_from_slice(&id[..held]);
+    Ok(SnapshotId { len, bytes })
 }
 
 // The snapshot of a step, whose id may be of any size.
-fn read_snapshot_part(bytes: &[u8]) -> SnapshotRead
-    ensures { (report result.answer, result.value) ≡ outcome blank_voter_snapshot_evidence (dec_map snapshot_part.dec snapshot_of bytes.now) }
+#[tactic(auto, using(crate::specs::BodiesLaws::snapshot_read))]
+fn snapshot_part(input: &mut Reader) -> Result<VoterSnapshotEvidence, Refusal>
+    ensures { told result input.new.bytes.now ≡ made_read snapshot_of (reads snapshot_part input.old.bytes.now) }
 {
-    let cut_read = read_log_id(bytes);
-    let LogIdRead::Read(cut, at) = cut_read else {
-        return refused_snapshot(why_log_id(cut_read));
-    };
-    let snapshot_id_read = read_any_snapshot_id(&bytes[at..]);
-    let snapshot_id_to = snapshot_id_read.answer;
-    let Extent::To(n) = snapshot_id_to else {
-        return refused_snapshot(why(snapshot_id_to));
-    };
-    let snapshot_id = snapshot_id_read.value;
-    let at = at + n;
-    let digest_read = read_array32(&bytes[at..]);
-    let digest_to = digest_read.answer;
-    let Extent::To(n) = digest_to else {
-        return refused_snapshot(why(digest_to));
-    };
-    let digest = digest_read.value;
-    SnapshotRead {
-        answer: Extent::To(at + n),
-        value: VoterSnapshotEvidence {
-            cut,
-            snapshot_id,
-            digest,
-        },
-    }
-}
-
-#[derive(Clone, Copy)]
-pub struct StepRead {
-    pub answer: Extent,
-    pub value: VoterReplacementStep,
+    Ok(VoterSnapshotEvidence {
+        cut: input.log_id()?,
+        snapshot_id: any_snapshot_id(input)?,
+        digest: input.array()?,
+    })
 }
 
 // The step byte, and the part that it has: a snapshot, a caught-up mark, or none.
-pub fn read_step(bytes: &[u8]) -> StepRead
-    ensures { (report result.answer, result.value) ≡ outcome blank_voter_replacement_step (dec_map step_body.dec step_of bytes.now) }
+#[tactic(auto, using(crate::specs::BodiesLaws::step_read))]
+pub fn step_body(input: &mut Reader) -> Result<VoterReplacementStep, Refusal>
+    ensures { told result input.new.bytes.now ≡ made_read step_of (reads step_body input.old.bytes.now) }
 {
-    let kind_read = read_choice(bytes, RECORD_SNAPSHOT, FINALIZE);
-    let U8Read::Read(kind, at) = kind_read else {
-        return refused_step(why_u8(kind_read));
-    };
+    let kind = input.choice(RECORD_SNAPSHOT, FINALIZE)?;
+    let mut step = step_of(kind);
     match kind {
-        RECORD_SNAPSHOT => read_snapshot_step(bytes, at),
-        RECORD_CAUGHT_UP => read_caught_up_step(bytes, at),
-        _ => StepRead {
-            answer: Extent::To(at),
-            value: step_of(kind),
-        },
+        RECORD_SNAPSHOT => step.snapshot = snapshot_part(input)?,
+        RECORD_CAUGHT_UP => step.caught_up = input.log_id()?,
+        _ => {}
     }
-}
-
-// After a step byte that says so, a snapshot.
-fn read_snapshot_step(bytes: &[u8], at: usize) -> StepRead
-    requires { (choice record_snapshot_kind finalize_kind).dec bytes.now ≡ ok record_snapshot_kind at }
-    ensures { (report result.answer, result.value) ≡ outcome blank_voter_replacement_step (dec_map step_body.dec step_of bytes.now) }
-{
-    let read = read_snapshot_part(&bytes[at..]);
-    let to = read.answer;
-    let Extent::To(n) = to else {
-        return refused_step(why(to));
-    };
-    let snapshot = read.value;
-    let caught_up = blank_voter_slot_log_id();
-    StepRead {
-        answer: Extent::To(at + n),
-        value: VoterReplacementStep {
-            kind: RECORD_SNAPSHOT,
-            snapshot,
-            caught_up,
-        },
-    }
-}
-
-// After a step byte that says so, a caught-up mark.
-fn read_caught_up_step(bytes: &[u8], at: usize) -> StepRead
-    requires { (choice record_snapshot_kind finalize_kind).dec bytes.now ≡ ok record_caught_up_kind at }
-    ensures { (report result.answer, result.value) ≡ outcome blank_voter_replacement_step (dec_map step_body.dec step_of bytes.now) }
-{
-    let read = read_log_id(&bytes[at..]);
-    let LogIdRead::Read(caught_up, n) = read else {
-        return refused_step(why_log_id(read));
-    };
-    let snapshot = blank_voter_snapshot_evidence();
-    StepRead {
-        answer: Extent::To(at + n),
-        value: VoterReplacementStep {
-            kind: RECORD_CAUGHT_UP,
-            snapshot,
-            caught_up,
-        },
-    }
+    Ok(step)
 }
 
 // A step with no part.
 fn step_of(kind: u8) -> VoterReplacementStep
     ensures { result ≡ partless kind }
 {
-    let snapshot = blank_voter_snapshot_evidence();
-    let caught_up = blank_voter_slot_log_id();
     VoterReplacementStep {
         kind,
-        snapshot,
-        caught_up,
+        snapshot: blank_voter_snapshot_evidence(),
+        caught_up: blank_voter_slot_log_id(),
     }
 }
 
-fn refused_step(answer: Answer) -> StepRead
-    ensures { (report result.answer, result.value) ≡ outcome blank_voter_replacement_step (no (number_of answer)) }
-{
-    StepRead {
-        answer: Extent::Refused(answer),
-        value: step_of(0),
-    }
-}
-
-#[derive(Clone, Copy)]
-pub struct AdvanceRead {
-    pub formed: bool,
-    pub value: VoterAdvance,
-}
-
-// The body of an AD.
-pub fn read_advance(body: &[u8]) -> AdvanceRead
+// The body of an AD, or none: it is not of that form, to its last byte.
+#[tactic(auto, using(crate::specs::BodiesLaws::advance_read), unfolding(format::specs::Num::pick))]
+pub fn read_advance(body: &[u8]) -> Option<VoterAdvance>
     ensures { advance_asking result ≡ asking Ad body.now }
 {
-    let named_read = read_marker_body(body);
-    let named_to = named_read.answer;
-    let named = named_read.value;
-    let Extent::To(at) = named_to else {
-        return refused_advance();
-    };
-    let step_read = read_step(&body[at..]);
-    let step_to = step_read.answer;
-    let step = step_read.value;
-    AdvanceRead {
-        formed: is_whole(step_to, body.len() - at),
-        value: advance_by(named, step),
-    }
+    let mut input = Reader::new(body);
+    let named = marker_body(&mut input).ok()?;
+    let step = step_body(&mut input).ok()?;
+    input.finish().ok()?;
+    Some(advance_by(named, step))
 }
 
 // The Advance of its parts.
@@ -315,115 +137,47 @@ fn advance_by(named: MarkerBody, step: VoterReplacementStep) -> VoterAdvance
 {
     let request_id = named.request_id;
     let request_digest = named.request_digest;
-    let cut = named.cut;
     VoterAdvance {
         request_id,
         request_digest,
         step,
-        cut,
-    }
-}
-
-fn refused_advance() -> AdvanceRead
-    ensures { result.formed ≡ false }
-{
-    AdvanceRead {
-        formed: false,
-        value: advance_by(blank_marker_body(), step_of(0)),
+        cut: named.cut,
     }
 }
 
 // ---- BG
 
 // Any numbers: one that is no slot or incarnation is of the form, and the call refuses it with 30.
-fn read_any_identity(bytes: &[u8]) -> IdentityRead
-    ensures { identity_read result ≡ any_identity.dec bytes.now }
+#[tactic(auto, using(format::specs::Reads::reads_two), unfolding(crate::specs::Records::any_identity))]
+fn any_identity(input: &mut Reader) -> Result<VoterSlotIdentity, Refusal>
+    ensures { told result input.new.bytes.now ≡ reads any_identity input.old.bytes.now }
 {
-    let slot_read = read_u16(bytes);
-    let U16Read::Read(slot, at) = slot_read else {
-        return IdentityRead::Refused(why_u16(slot_read));
-    };
-    let incarnation_read = read_u64(&bytes[at..]);
-    let U64Read::Read(incarnation, n) = incarnation_read else {
-        return IdentityRead::Refused(why_u64(incarnation_read));
-    };
-    IdentityRead::Read(VoterSlotIdentity { slot, incarnation }, at + n)
+    Ok(VoterSlotIdentity {
+        slot: input.u16()?,
+        incarnation: input.u64()?,
+    })
 }
 
 // A member whose identity may be any numbers.
-fn read_candidate(bytes: &[u8]) -> MemberRead
-    ensures { (report result.answer, result.value) ≡ outcome blank_voter_slot_member (candidate.dec bytes.now) }
+#[tactic(auto, using(format::specs::Reads::reads_two), unfolding(crate::specs::Records::candidate))]
+fn candidate(input: &mut Reader) -> Result<VoterSlotMember, Refusal>
+    ensures { told result input.new.bytes.now ≡ reads candidate input.old.bytes.now }
 {
-    let identity_read = read_any_identity(bytes);
-    let IdentityRead::Read(identity, at) = identity_read else {
-        return refused_member(why_identity(identity_read));
-    };
-    let binding_read = read_binding(&bytes[at..]);
-    let binding_to = binding_read.answer;
-    let Extent::To(n) = binding_to else {
-        return refused_member(why(binding_to));
-    };
-    let binding = binding_read.value;
-    MemberRead {
-        answer: Extent::To(at + n),
-        value: member_of(identity, binding),
-    }
-}
-
-#[derive(Clone, Copy)]
-pub struct ExpectedRead {
-    pub answer: Extent,
-    pub value: ConsensusIdentity,
+    let identity = any_identity(input)?;
+    let binding = input.binding()?;
+    Ok(member_of(identity, binding))
 }
 
 // The configuration that a Begin expects, of any epoch.
-fn read_expected(bytes: &[u8]) -> ExpectedRead
-    ensures { (report result.answer, result.value) ≡ outcome blank_consensus_identity (expected.dec bytes.now) }
+#[tactic(auto, using(format::specs::Reads::reads_three), unfolding(crate::specs::Records::expected))]
+fn expected(input: &mut Reader) -> Result<ConsensusIdentity, Refusal>
+    ensures { told result input.new.bytes.now ≡ reads expected input.old.bytes.now }
 {
-    let cluster_id_read = read_array32(bytes);
-    let cluster_id_to = cluster_id_read.answer;
-    let Extent::To(at) = cluster_id_to else {
-        return refused_expected(why(cluster_id_to));
-    };
-    let cluster_id = cluster_id_read.value;
-    let configuration_id_read = read_array32(&bytes[at..]);
-    let configuration_id_to = configuration_id_read.answer;
-    let Extent::To(n) = configuration_id_to else {
-        return refused_expected(why(configuration_id_to));
-    };
-    let configuration_id = configuration_id_read.value;
-    let at = at + n;
-    let configuration_epoch_read = read_u64(&bytes[at..]);
-    let U64Read::Read(configuration_epoch, n) = configuration_epoch_read else {
-        return refused_expected(why_u64(configuration_epoch_read));
-    };
-    ExpectedRead {
-        answer: Extent::To(at + n),
-        value: ConsensusIdentity {
-            cluster_id,
-            configuration_id,
-            configuration_epoch,
-        },
-    }
-}
-
-fn refused_expected(answer: Answer) -> ExpectedRead
-    ensures { (report result.answer, result.value) ≡ outcome blank_consensus_identity (no (number_of answer)) }
-{
-    ExpectedRead {
-        answer: Extent::Refused(answer),
-        value: blank_expected(),
-    }
-}
-
-fn blank_expected() -> ConsensusIdentity
-    ensures { result ≡ blank_consensus_identity }
-{
-    ConsensusIdentity {
-        cluster_id: [0; 32],
-        configuration_id: [0; 32],
-        configuration_epoch: 0,
-    }
+    Ok(ConsensusIdentity {
+        cluster_id: input.array()?,
+        configuration_id: input.array()?,
+        configuration_epoch: input.u64()?,
+    })
 }
 
 // What stands before the attestation.
@@ -439,136 +193,35 @@ pub struct BeginHead {
     pub candidate: VoterSlotMember,
 }
 
-#[derive(Clone, Copy)]
-pub struct BeginHeadRead {
-    pub answer: Extent,
-    pub value: BeginHead,
-}
-
 // What stands before the attestation.
-fn read_begin_head(bytes: &[u8]) -> BeginHeadRead
-    ensures { (report result.answer, result.value) ≡ outcome blank_begin_head (begin_head.dec bytes.now) }
+#[tactic(auto, using(format::specs::Reads::reads_four), unfolding(crate::specs::Records::begin_head))]
+fn begin_head(input: &mut Reader) -> Result<BeginHead, Refusal>
+    ensures { told result input.new.bytes.now ≡ reads begin_head input.old.bytes.now }
 {
-    let cut_read = read_log_id(bytes);
-    let LogIdRead::Read(cut, at) = cut_read else {
-        return refused_begin_head(why_log_id(cut_read));
-    };
-    let expected_revision_read = read_u64(&bytes[at..]);
-    let U64Read::Read(expected_revision, n) = expected_revision_read else {
-        return refused_begin_head(why_u64(expected_revision_read));
-    };
-    let at = at + n;
-    let expected_configuration_read = read_expected(&bytes[at..]);
-    let expected_configuration_to = expected_configuration_read.answer;
-    let Extent::To(n) = expected_configuration_to else {
-        return refused_begin_head(why(expected_configuration_to));
-    };
-    let expected_configuration = expected_configuration_read.value;
-    let at = at + n;
-    let candidate_read = read_candidate(&bytes[at..]);
-    let candidate_to = candidate_read.answer;
-    let Extent::To(n) = candidate_to else {
-        return refused_begin_head(why(candidate_to));
-    };
-    let candidate = candidate_read.value;
-    BeginHeadRead {
-        answer: Extent::To(at + n),
-        value: BeginHead {
-            cut,
-            expected_revision,
-            expected_configuration,
-            candidate,
-        },
-    }
+    Ok(BeginHead {
+        cut: input.log_id()?,
+        expected_revision: input.u64()?,
+        expected_configuration: expected(input)?,
+        candidate: candidate(input)?,
+    })
 }
 
-fn refused_begin_head(answer: Answer) -> BeginHeadRead
-    ensures { (report result.answer, result.value) ≡ outcome blank_begin_head (no (number_of answer)) }
-{
-    BeginHeadRead {
-        answer: Extent::Refused(answer),
-        value: blank_begin_head(),
-    }
-}
-
-fn blank_begin_head() -> BeginHead
-    ensures { result ≡ blank_begin_head }
-{
-    let cut = blank_voter_slot_log_id();
-    let expected_configuration = blank_expected();
-    let candidate = blank_voter_slot_member();
-    BeginHead {
-        cut,
-        expected_revision: 0,
-        expected_configuration,
-        candidate,
-    }
-}
-
-// What a BG asks.
-#[derive(Clone, Copy)]
-pub enum Asks {
-    // Its body is not of the form.
-    Bad,
-    // Its attestation is refused.
-    Refused(Answer),
-    // A Begin.
-    Begin,
-}
-
-#[derive(Clone, Copy)]
-pub struct BeginRead {
-    pub asks: Asks,
-    pub value: VoterBegin,
-}
-
-// Bytes of a digest.
-const DIGEST: usize = 32;
-
-// Bytes after the attestation: the two supplied values.
-const SUPPLIED: usize = DIGEST + DIGEST;
-
-// The body of a BG.
-pub fn read_begin(body: &[u8]) -> BeginRead
+// The body of a BG, or none: it is not of that form, to its last byte. Of one that is, the
+// attestation's own reader says whether it is refused.
+#[tactic(auto, using(crate::specs::BodiesLaws::begin_read), unfolding(crate::specs::Replay::attested, crate::specs::Replay::begin_asked, crate::specs::Replay::begin_of, format::specs::Num::pick))]
+pub fn read_begin(body: &[u8]) -> Option<Result<VoterBegin, Refusal>>
     ensures { begin_asking result ≡ asking Bg body.now }
 {
-    let head_read = read_begin_head(body);
-    let head_to = head_read.answer;
-    let head = head_read.value;
-    let Extent::To(at) = head_to else {
-        return refused_begin(Asks::Bad, head);
-    };
-    let size = read_sized(&body[at..], MOST_BODY);
-    let SizedRead::Read(len, from) = size else {
-        return refused_begin(Asks::Bad, head);
-    };
-    let from = at + from;
-    let to = from + len;
-    if body.len() - to != SUPPLIED {
-        return refused_begin(Asks::Bad, head);
-    }
-    read_attested(head, &body[from..to], &body[to..])
-}
-
-// The attestation by its own reader, and then the supplied values.
-fn read_attested(head: BeginHead, attestation: &[u8], supplied: &[u8]) -> BeginRead
-    requires { length supplied.now ≡ 64 }
-    ensures { begin_asking result ≡ attested_asking (supplied_body head attestation.now supplied.now) }
-{
-    let decoded = decode_lost_voter_attestation(attestation);
-    let answer = decoded.answer;
-    if !accepted(answer) {
-        return refused_begin(Asks::Refused(answer), head);
-    }
-    let attestation = decoded.attestation;
-    let digest_read = read_array32(supplied);
-    let digest = digest_read.value;
-    let configuration_read = read_array32(&supplied[DIGEST..]);
-    let configuration = configuration_read.value;
-    BeginRead {
-        asks: Asks::Begin,
-        value: begin_by(head, attestation, digest, configuration),
-    }
+    let mut input = Reader::new(body);
+    let head = begin_head(&mut input).ok()?;
+    let attestation = sized_bytes(&mut input).ok()?;
+    let request_digest = input.array().ok()?;
+    let configuration_id = input.array().ok()?;
+    input.finish().ok()?;
+    Some(match read_lost_voter_attestation(attestation) {
+        Ok(attestation) => Ok(begin_by(head, attestation, request_digest, configuration_id)),
+        Err(refusal) => Err(refusal),
+    })
 }
 
 // The Begin of its parts.
@@ -580,26 +233,15 @@ fn begin_by(
 ) -> VoterBegin
     ensures { result ≡ begin_by head attestation supplied_request_digest supplied_configuration_id }
 {
-    let cut = head.cut;
-    let expected_configuration = head.expected_configuration;
-    let candidate = head.candidate;
-    let request = VoterReplacementRequest {
-        expected_revision: head.expected_revision,
-        expected_configuration,
-        candidate,
-        attestation,
-        supplied_request_digest,
-        supplied_configuration_id,
-    };
-    VoterBegin { request, cut }
-}
-
-fn refused_begin(asks: Asks, head: BeginHead) -> BeginRead
-    ensures { result.asks ≡ asks }
-{
-    let attestation = blank_lost_voter_attestation_v1();
-    BeginRead {
-        asks,
-        value: begin_by(head, attestation, [0; 32], [0; 32]),
+    VoterBegin {
+        request: VoterReplacementRequest {
+            expected_revision: head.expected_revision,
+            expected_configuration: head.expected_configuration,
+            candidate: head.candidate,
+            attestation,
+            supplied_request_digest,
+            supplied_configuration_id,
+        },
+        cut: head.cut,
     }
 }

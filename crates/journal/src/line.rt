@@ -7,7 +7,7 @@ ghost use Rattle.format.specs.Put.{Put};
 ghost use Rattle.identity.specs.Answer.{number_of};
 ghost use Rattle.journal.specs.Replay.{decimal, line_of};
 
-use crate::replay::{Mark, mark_text};
+use crate::replay::Mark;
 use identity::answer::{Answer, number};
 use layout::put::put_bytes;
 
@@ -30,7 +30,7 @@ pub fn put_line(
     requires { at + 66 ≤ length out.old }
     ensures { Put (line_of count mark (number_of answer) revision) at out.old out.new result }
 {
-    let text = mark_text(mark);
+    let text = mark.text();
     let answer = number(answer) as u64;
     let at = put_decimal(out, at, count);
     let at = put_bytes(out, at, b" ");

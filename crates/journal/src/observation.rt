@@ -1,26 +1,20 @@
 // The body of an observation: OB.
 //
 // Document 01, section "Replay program". No part of the original has it.
-ghost use Rattle.std.specs.Prelude.{◌+◌, ◌*◌, ◌≤◌, ◌≡◌, false, length};
-ghost use Rattle.format.specs.Num.{uint};
-ghost use Rattle.format.specs.Res.Res.{ok};
+ghost use Rattle.std.specs.Prelude.{◌+◌, ◌*◌, ◌≤◌, ◌≡◌, length, IfSome};
 ghost use Rattle.journal.specs.declared.replay.Mark.TheVariants.{Ob};
 ghost use Rattle.journal.specs.Bodies.{observation_asking};
 ghost use Rattle.journal.specs.Replay.{asking};
-ghost use Rattle.journal.specs.SetBody.{LaidIds, LaidSet, LaidSets, not_laid};
+ghost use Rattle.journal.specs.SetBody.{LaidSet, LaidSets};
 
-use layout::get::{read_u8, read_u16, read_u64};
-use layout::reading::*;
-use reader::reader::read_log_id;
-use records::blank::blank_voter_slot_log_id;
+use identity::answer::Refusal;
+use reader::reader::Reader;
 use records::records::VoterSlotLogId;
 
-// What a body holds. The ids of the sets stand at the front of the lent ids, the nodes after them,
-// and the counts of the sets at the front of the lent counts.
+// What a body of the form holds. The ids of the sets stand at the front of the lent ids, the nodes
+// after them, and the counts of the sets at the front of the lent counts.
 #[derive(Clone, Copy)]
 pub struct ObservationRead {
-    // The body is of the form.
-    pub formed: bool,
     // Engine cut of the observation.
     pub cut: VoterSlotLogId,
     // How many ids the sets have together.
@@ -35,143 +29,74 @@ pub struct ObservationRead {
 // together.
 pub const MOST_IDS: usize = 8192;
 
-// Bytes of an id.
-const ID_SIZE: usize = 8;
-
 // Most sets: their count has 8 bits.
 pub const MOST_SETS: usize = 255;
 
-// Reads a body into the lent arrays. They have room for all that it can hold, so that no test for it
-// is needed: an id takes eight bytes of the body.
-pub fn read_observation(body: &[u8], ids: &mut [u64], counts: &mut [usize]) -> ObservationRead
+// Places for so many ids, and for the counts. Nobody reads what they hold at first.
+pub fn no_ids<const N: usize>() -> [u64; N] {
+    [0; N]
+}
+
+pub fn no_counts() -> [usize; MOST_SETS] {
+    [0; MOST_SETS]
+}
+
+// Reads a body into the lent arrays; none: it is not of the form, to its last byte. They have room
+// for all that it can hold, so that no test for it is needed: an id takes eight bytes of the body.
+#[tactic(auto, using(crate::specs::SetBodyLaws::observation_cutless, crate::specs::SetBodyLaws::observation_countless, crate::specs::SetBodyLaws::observation_setless, crate::specs::SetBodyLaws::observation_nodeless, crate::specs::SetBodyLaws::observation_end), unfolding(format::specs::Num::pick))]
+pub fn read_observation(
+    body: &[u8],
+    ids: &mut [u64],
+    counts: &mut [usize],
+) -> Option<ObservationRead>
     requires { (length body.now ≤ 65535) × ((length body.now ≤ 8 * length ids.old) × (255 ≤ length counts.old)) }
-    ensures { (observation_asking result ids.new counts.new ≡ asking Ob body.now) × ((8 * (result.ids + result.nodes) ≤ length body.now) × (result.sets ≤ 255)) }
+    ensures { (observation_asking result ids.new counts.new ≡ asking Ob body.now) × IfSome result (λ read. (8 * (read.ids + read.nodes) ≤ length body.now) × (read.sets ≤ 255)) }
 {
-    let cut_read = read_log_id(body);
-    let LogIdRead::Read(cut, at) = cut_read else {
-        return not_formed();
-    };
-    let count_read = read_u8(&body[at..]);
-    let U8Read::Read(count, n) = count_read else {
-        return not_formed();
-    };
-    let sets = count as usize;
-    let at = at + n;
-    let laid = lay_sets(&body[at..], sets, ids, counts);
-    if !laid.formed {
-        return not_formed();
-    }
-    let at = at + laid.taken;
-    let nodes = lay_set(&body[at..], ids, laid.ids);
-    ObservationRead {
-        formed: nodes.formed & (at + nodes.taken == body.len()),
+    let mut input = Reader::new(body);
+    let cut = input.log_id().ok()?;
+    let sets = input.u8().ok()? as usize;
+    let held = lay_sets(&mut input, sets, ids, counts).ok()?;
+    let nodes = lay_set(&mut input, ids, held).ok()?;
+    input.finish().ok()?;
+    Some(ObservationRead {
         cut,
-        ids: laid.ids,
-        sets,
-        nodes: nodes.ids,
-    }
-}
-
-fn not_formed() -> ObservationRead
-    ensures { (result.formed ≡ false) × ((result.ids + result.nodes ≡ 0) × (result.sets ≡ 0)) }
-{
-    let cut = blank_voter_slot_log_id();
-    ObservationRead {
-        formed: false,
-        cut,
-        ids: 0,
-        sets: 0,
-        nodes: 0,
-    }
-}
-
-// What was laid of one set or of several.
-#[derive(Clone, Copy)]
-pub struct Laid {
-    // All was of the form.
-    pub formed: bool,
-    // How many bytes were taken.
-    pub taken: usize,
-    // How many ids they hold.
-    pub ids: usize,
-}
-
-// So many sets: their ids one after another, and the count of each.
-fn lay_sets(bytes: &[u8], sets: usize, ids: &mut [u64], counts: &mut [usize]) -> Laid
-    requires { (length bytes.now ≤ 65535) × (sets ≤ length counts.old) × (length bytes.now ≤ 8 * length ids.old) }
-    ensures { LaidSets result bytes.now sets ids.new counts.new }
-{
-    let mut taken = 0;
-    let mut held = 0;
-    let mut i = 0;
-    while i < sets {
-        let laid = lay_set(&bytes[taken..], ids, held);
-        if !laid.formed {
-            return laid;
-        }
-        counts[i] = laid.ids;
-        taken += laid.taken;
-        held += laid.ids;
-        i += 1;
-    }
-    Laid {
-        formed: true,
-        taken,
         ids: held,
-    }
+        sets,
+        nodes,
+    })
 }
 
-// One set: its count, and the ids, which are laid from a place on.
-fn lay_set(bytes: &[u8], ids: &mut [u64], from: usize) -> Laid
-    requires { (8 * from + length bytes.now ≤ 65535) × (8 * from + length bytes.now ≤ 8 * length ids.old) }
-    ensures { LaidSet result bytes.now from ids.old ids.new }
+// So many sets: their ids one after another, the count of each, and how many ids they have
+// together.
+#[tactic(auto, using(crate::specs::SetBodyLaws::sets_start, crate::specs::SetBodyLaws::sets_more, crate::specs::SetBodyLaws::sets_refused))]
+fn lay_sets(
+    input: &mut Reader,
+    sets: usize,
+    ids: &mut [u64],
+    counts: &mut [usize],
+) -> Result<usize, Refusal>
+    requires { (sets ≤ length counts.old) × (length input.old.bytes.now ≤ 8 * length ids.old) }
+    ensures { LaidSets result input.old.bytes.now input.new.bytes.now sets ids.new counts.new }
 {
-    let count_read = read_u16(bytes);
-    let U16Read::Read(count, at) = count_read else {
-        return not_laid();
-    };
-    let count = count as usize;
-    if bytes.len() - at < ID_SIZE * count {
-        return not_laid();
+    let mut held = 0;
+    for i in 0..sets {
+        let count = lay_set(input, ids, held)?;
+        counts[i] = count;
+        held += count;
     }
-    lay_ids(&bytes[at..], ids, from, count);
-    Laid {
-        formed: true,
-        taken: at + ID_SIZE * count,
-        ids: count,
-    }
+    Ok(held)
 }
 
-fn not_laid() -> Laid
-    ensures { result ≡ not_laid }
+// One set: its ids, which are laid from a place on, and their count.
+#[tactic(auto, using(crate::specs::SetBodyLaws::ids_start, crate::specs::SetBodyLaws::ids_more, crate::specs::SetBodyLaws::set_refused, crate::specs::SetBodyLaws::set_laid))]
+fn lay_set(input: &mut Reader, ids: &mut [u64], from: usize) -> Result<usize, Refusal>
+    requires { 8 * from + length input.old.bytes.now ≤ 8 * length ids.old }
+    ensures { LaidSet result input.old.bytes.now input.new.bytes.now from ids.old ids.new }
 {
-    Laid {
-        formed: false,
-        taken: 0,
-        ids: 0,
+    let count = input.u16()? as usize;
+    for i in 0..count {
+        let id = input.u64()?;
+        ids[from + i] = id;
     }
-}
-
-// So many ids of eight bytes.
-fn lay_ids(bytes: &[u8], ids: &mut [u64], from: usize, count: usize)
-    requires { (8 * count ≤ length bytes.now) × (from + count ≤ length ids.old) }
-    ensures { LaidIds bytes.now from count ids.old ids.new }
-{
-    let mut i = 0;
-    let mut at = 0;
-    while i < count {
-        ids[from + i] = id_at(&bytes[at..]);
-        i += 1;
-        at += ID_SIZE;
-    }
-}
-
-fn id_at(bytes: &[u8]) -> u64
-    requires { 8 ≤ length bytes.now }
-    ensures { ok result 8 ≡ (uint 8).dec bytes.now }
-{
-    match read_u64(bytes) {
-        U64Read::Read(id, _) => id,
-        U64Read::Refused(_) => 0,
-    }
+    Ok(count)
 }

@@ -1,27 +1,25 @@
 // A log played: records from a lent slice, from any table or none, and a line for each.
 //
 // Document 01, section "Replay program". No part of the original has it.
-ghost use Rattle.std.specs.Prelude.{◌+◌, ◌*◌, ◌-◌, ◌/◌, ◌<◌, ◌≤◌, min, cond, false, true, ◌≡◌, length};
-ghost use Rattle.identity.specs.declared.answer.Answer.TheVariants.{Accepted, BadRecord};
-ghost use Rattle.records.specs.Blank.{blank_voter_slot_table};
+ghost use Rattle.std.specs.Prelude.{◌+◌, ◌*◌, ◌-◌, ◌/◌, ◌<◌, ◌≤◌, min, cond, false, true, ◌≡◌, length, IfOk};
+ghost use Rattle.identity.specs.Answer.{Accepted};
 ghost use Rattle.records.specs.Validation.{validate};
 ghost use Rattle.control.specs.Control.{full};
-ghost use Rattle.journal.specs.Play.{Goes, PutTurn, Safe, brings, longest_line, new_journal, opened_at, opened_to, play_of, played_to, ready_of, standing, start_answer, start_place, turns_after};
+ghost use Rattle.journal.specs.Play.{Goes, PutTurn, Safe, longest_line, new_journal, opened_at, opened_to, play_of, played_to, ready_of, start_answer, start_place, turns_after};
 ghost use Rattle.journal.specs.Replay.{opening};
 ghost use Rattle.journal.specs.RunHistory.{LineOfRun};
-ghost use Rattle.journal.specs.Step.{ValidStanding};
 
 use crate::line::{LONGEST_LINE, put_line};
-use crate::observation::{MOST_IDS, MOST_SETS};
+use crate::observation::{MOST_IDS, no_counts, no_ids};
 use crate::record::{Record, record_at};
 use crate::replay::Mark;
 use crate::step::*;
-use codec::codec::{DecodedTable, decode_voter_slot_table};
+use codec::codec::read_voter_slot_table;
 use control::begin::begin_table;
 use control::judge::*;
 use control::make::*;
-use control::observe::{joint_table, learner_table, uniform_table};
-use identity::answer::{Answer, accepted};
+use control::observe::{Observed, joint_table, learner_table, uniform_table};
+use identity::answer::{Answer, Refusal};
 use records::blank::blank_voter_slot_table;
 use records::records::VoterSlotTable;
 use records::validation::validate_table;
@@ -67,7 +65,8 @@ struct Place {
     ended: bool,
 }
 
-// A place, and the table, if one stands.
+// A place, and the table, if one stands. No `Option` has it: where none stands, `play` gives back
+// the table that it was given.
 #[derive(Clone, Copy)]
 struct Opened {
     // How far it was played.
@@ -115,7 +114,8 @@ pub fn play(from: Journal, input: &[u8], last: bool, out: &mut [u8]) -> Played
     played_to(answer, opened)
 }
 
-// With no table: each record gets its line, until a TB brings one.
+// With no table: each record gets its line, until a TB brings one. The turns are counted in the
+// place: a record that ends the reading takes all that are left, so a `for` would test them again.
 fn open_log(from: Opened, input: &[u8], last: bool, out: &mut [u8]) -> Opened
     requires { Safe input.now (length out.old) from × (from.stands ≡ false) }
     ensures { Goes input.now last from out.old result out.new × (Safe input.now (length out.new) result × (result.stands ≡ false → result.place.turns ≡ 0)) }
@@ -125,16 +125,10 @@ fn open_log(from: Opened, input: &[u8], last: bool, out: &mut [u8]) -> Opened
     let mut stands = false;
     while (0 < place.turns) & !stands {
         let found = record_at(input, place.read, last);
-        let asks = found.asks;
-        let begin = found.body;
-        let end = found.end;
-        let opened = open_record(asks, &input[begin..end]);
-        let answer = opened.answer;
-        // A table that was read has slots, and the blank that is returned with a refusal has none.
-        stands = 0 < opened.table.count;
-        if stands {
-            table = opened.table;
-        }
+        let opened = open_record(found.asks, &input[found.body..found.end]);
+        let answer = opened.and(Ok(()));
+        stands = opened.is_ok();
+        table = opened.unwrap_or(table);
         let revision = revision_of(stands, table.revision);
         place = put_turn(out, place, found, answer, revision);
     }
@@ -147,40 +141,41 @@ fn open_log(from: Opened, input: &[u8], last: bool, out: &mut [u8]) -> Opened
 
 // With a table: each record is a call on it, or a bad record. Judges and makers are chosen in the
 // loop, where the table is: so each is called at one place, works on the table itself, and no table
-// is copied.
+// is copied. The turns are counted as in `open_log`.
 fn play_on(from: Opened, input: &[u8], last: bool, out: &mut [u8]) -> Opened
     requires { Safe input.now (length out.old) from × (from.stands ≡ true) }
     ensures { Goes input.now last from out.old result out.new × (result.place.turns ≡ 0) }
 {
-    let mut ids = no_ids();
+    let mut ids = no_ids::<MOST_IDS>();
     let mut counts = no_counts();
     let mut place = from.place;
     let mut t = from.table;
     while 0 < place.turns {
         let found = record_at(input, place.read, last);
-        let asks = found.asks;
-        let begin = found.body;
-        let end = found.end;
-        let body = &input[begin..end];
-        let called = match asks {
+        let body = &input[found.body..found.end];
+        let called = match found.asks {
             Mark::Mk => Called::Command(judge_marker_body(t, body)),
             Mark::Ad => Called::Command(judge_advance_body(t, body)),
             Mark::Bg => Called::Command(judge_begin_body(t, body)),
             Mark::Ob => Called::Observation(judge_observation_body(t, body, &mut ids, &mut counts)),
-            Mark::Tb => Called::Command(Judged::Refuse(Answer::BadRecord)),
-            Mark::Unknown => Called::Command(Judged::Refuse(Answer::BadRecord)),
+            Mark::Tb | Mark::Unknown => Called::Command(Err(Refusal::BadRecord)),
         };
-        match route_of_called(called) {
-            ROUTE_SNAPSHOT => t = snapshot_table(t, advance_in(body)),
-            ROUTE_CAUGHT_UP => t = catch_up_table(t, advance_in(body)),
-            ROUTE_CONTINUATION => t = continue_table(t, advance_in(body)),
-            ROUTE_FENCE => t = fence_table(t, advance_in(body)),
-            ROUTE_FINALIZE => t = finalize_table(t, advance_in(body)),
-            ROUTE_BEGIN => t = begin_table(t, begin_in(body)),
-            MAKER_LEARNER => t = learner_table(t, cut_in(body)),
-            MAKER_JOINT => t = joint_table(t, cut_in(body)),
-            MAKER_UNIFORM => t = uniform_table(t, cut_in(body)),
-            _ => {}
+        match called {
+            Called::Command(judged) => match judged {
+                Ok(Judged::RecordSnapshot) => t = snapshot_table(t, advance_in(body)),
+                Ok(Judged::RecordCaughtUp) => t = catch_up_table(t, advance_in(body)),
+                Ok(Judged::Continue) => t = continue_table(t, advance_in(body)),
+                Ok(Judged::Fence) => t = fence_table(t, advance_in(body)),
+                Ok(Judged::Finalize) => t = finalize_table(t, advance_in(body)),
+                Ok(Judged::Begin) => t = begin_table(t, begin_in(body)),
+                Ok(Judged::Keep) | Err(_) => {}
+            },
+            Called::Observation(observed) => match observed {
+                Ok(Observed::AddLearner) => t = learner_table(t, cut_in(body)),
+                Ok(Observed::AddJoint) => t = joint_table(t, cut_in(body)),
+                Ok(Observed::AddUniform) => t = uniform_table(t, cut_in(body)),
+                Ok(Observed::Keep) | Err(_) => {}
+            },
         }
         let answer = answer_of_called(called);
         place = put_turn(out, place, found, answer, t.revision);
@@ -197,15 +192,6 @@ fn with_table(place: Place, table: VoterSlotTable) -> Opened
         stands: true,
         table,
     }
-}
-
-// Places for the ids and the counts of an observation. Nobody reads what they hold at first.
-fn no_ids() -> [u64; MOST_IDS] {
-    [0; MOST_IDS]
-}
-
-fn no_counts() -> [usize; MOST_SETS] {
-    [0; MOST_SETS]
 }
 
 // The line of a record, where there is one, and the place after it.
@@ -246,29 +232,14 @@ fn turns_after(turns: u64, ends: bool) -> u64
     turns - 1
 }
 
-// A record with no table: a TB is read, and any other is a bad record. A table that was read has
-// slots, and the blank one of a refusal has none.
-fn open_record(asks: Mark, body: &[u8]) -> DecodedTable
-    ensures { (opened_to result.answer result.table ≡ opening asks body.now) × ValidStanding (standing (brings result.table) result.table) }
+// A record with no table: a TB is read, and any other is a bad record.
+#[tactic(auto, unfolding(crate::specs::Replay::opening))]
+fn open_record(asks: Mark, body: &[u8]) -> Result<VoterSlotTable, Refusal>
+    ensures { (opened_to result ≡ opening asks body.now) × IfOk result (λ table. validate table ≡ Accepted) }
 {
     match asks {
-        Mark::Tb => decode_voter_slot_table(body),
-        Mark::Mk => bad_record(),
-        Mark::Ad => bad_record(),
-        Mark::Bg => bad_record(),
-        Mark::Ob => bad_record(),
-        Mark::Unknown => bad_record(),
-    }
-}
-
-// 33, and no table.
-fn bad_record() -> DecodedTable
-    ensures { (result.answer ≡ BadRecord) × (result.table ≡ blank_voter_slot_table) }
-{
-    let table = blank_voter_slot_table();
-    DecodedTable {
-        answer: Answer::BadRecord,
-        table,
+        Mark::Tb => read_voter_slot_table(body),
+        Mark::Mk | Mark::Ad | Mark::Bg | Mark::Ob | Mark::Unknown => Err(Refusal::BadRecord),
     }
 }
 
@@ -279,15 +250,16 @@ fn start_answer(stands: bool, table: VoterSlotTable) -> Answer
     if stands {
         return validate_table(table);
     }
-    Answer::Accepted
+    Ok(())
 }
 
 // Nothing is read yet. There are as many turns as lines have room, and the count of records too.
+#[tactic(auto, unfolding(crate::specs::Play::turns_of))]
 fn start_place(answer: Answer, from: Journal, room: usize) -> Place
     ensures { (result ≡ start_place answer from room) × (from.count ≤ full) }
 {
     let count = from.count;
-    let turns = start_turns(from.ended | !accepted(answer), count, room);
+    let turns = start_turns(from.ended | answer.is_err(), count, room);
     Place {
         read: 0,
         written: 0,

@@ -4,9 +4,9 @@
 ghost use Rattle.std.specs.Prelude.{◌≤◌, ◌≡◌, length};
 ghost use Rattle.journal.specs.Play.{cut_short, record_at};
 
-use crate::replay::{Mark, is_known, mark_of};
-use layout::get::read_u16;
-use layout::reading::U16Read;
+use crate::bodies::sized_bytes;
+use crate::replay::Mark;
+use reader::reader::Reader;
 
 // Bytes before the body: the mark and the size.
 pub const HEAD: usize = 2 + 2;
@@ -30,32 +30,28 @@ pub struct Record {
 }
 
 // The record at a place. `last`: no bytes come after these.
+#[tactic(auto, using(crate::specs::RecordLaws::record_short, crate::specs::RecordLaws::record_unknown, crate::specs::RecordLaws::record_cut, crate::specs::RecordLaws::record_whole))]
 pub fn record_at(input: &[u8], at: usize, last: bool) -> Record
     requires { at ≤ length input.now }
     ensures { result ≡ record_at input.now at last }
 {
     let bytes = &input[at..];
-    let len = bytes.len();
-    if len < 2 {
-        return cut_short(Mark::Unknown, last & (0 < len), at, input.len());
-    }
-    let mark = mark_of(bytes[0], bytes[1]);
-    if !is_known(mark) {
+    let mut reader = Reader::new(bytes);
+    let Ok(text) = reader.array::<2>() else {
+        return cut_short(Mark::Unknown, last & !bytes.is_empty(), at, input.len());
+    };
+    let mark = Mark::from(text);
+    if !mark.is_known() {
         return cut_short(mark, true, at, input.len());
     }
-    let size_read = read_u16(&bytes[2..]);
-    let U16Read::Read(size, _) = size_read else {
+    let Ok(body) = sized_bytes(&mut reader) else {
         return cut_short(mark, last, at, input.len());
     };
-    let size = size as usize;
-    if len - HEAD < size {
-        return cut_short(mark, last, at, input.len());
-    }
     Record {
         mark,
         asks: mark,
         body: at + HEAD,
-        end: at + HEAD + size,
+        end: at + HEAD + body.len(),
         ends: false,
     }
 }
@@ -65,10 +61,7 @@ pub fn record_at(input: &[u8], at: usize, last: bool) -> Record
 fn cut_short(mark: Mark, ends: bool, at: usize, len: usize) -> Record
     ensures { result ≡ cut_short mark ends at len }
 {
-    let mut end = at;
-    if ends {
-        end = len;
-    }
+    let end = if ends { len } else { at };
     Record {
         mark,
         asks: Mark::Unknown,

@@ -1,44 +1,37 @@
 // One record at the table that stands: what it asks is judged, and the next table, if there is one,
-// is made by one of nine makers, which a number stands for. A body that changes the table is read
-// twice, so that what was judged is a small value.
+// is made by one of nine makers. A body that changes the table is read twice, so that what was judged
+// is a small value.
 //
 // Document 01, section "Replay program". No part of the original has it.
 ghost use Rattle.std.specs.Prelude.{◌+◌, ◌≤◌, ◌≡◌, length, take, drop};
-ghost use Rattle.identity.specs.declared.answer.Answer.TheVariants.{Accepted};
+ghost use Rattle.identity.specs.Answer.{Accepted};
 ghost use Rattle.records.specs.Validation.{validate};
 ghost use Rattle.control.specs.Verdicts.{verdict_of};
 ghost use Rattle.control.specs.ObserveSight.{verdict_of_observed, weighed};
 ghost use Rattle.journal.specs.declared.replay.Mark.TheVariants.{Ad, Bg, Mk, Ob};
 ghost use Rattle.journal.specs.Replay.{asking};
-ghost use Rattle.journal.specs.Step.{HoldsAdvance, HoldsBegin, Makes, answer_of_called, is_changing, checked_call, command_verdict, cut_at, made_by, numbered, observation_verdict, route_of_called, route_of_observation};
+ghost use Rattle.journal.specs.Step.{HoldsAdvance, HoldsBegin, Makes, MakesCommand, MakesObservation, answer_of_called, is_changing, checked_call, command_verdict, cut_at, made_by, made_by_command, made_by_observation, numbered, observation_verdict};
 
 use crate::bodies::*;
 use crate::observation::*;
 use control::begin::{VoterBegin, begin_table, judge_begin};
-use control::control::VoterAdvance;
+use control::control::*;
 use control::judge::*;
 use control::make::*;
 use control::observe::*;
 use control::representable::{is_representable_request, is_representable_step};
-use identity::answer::Answer;
-use layout::reading::LogIdRead;
-use reader::reader::read_log_id;
-use records::blank::blank_voter_slot_log_id;
+use identity::answer::{Answer, Refusal};
+use identity::identity::ConsensusIdentity;
+use reader::reader::Reader;
+use records::blank::*;
 use records::evidence::is_valid_log_id;
 use records::records::{VoterSlotLogId, VoterSlotTable};
-
-// The makers of an observation, after the six of the commands (`ROUTE_SNAPSHOT` and the like).
-pub const MAKER_LEARNER: u64 = 7;
-
-pub const MAKER_JOINT: u64 = 8;
-
-pub const MAKER_UNIFORM: u64 = 9;
 
 // What a record comes to at a table that stands, before anything is made.
 #[derive(Clone, Copy)]
 pub enum Called {
-    Command(Judged),
-    Observation(Observed),
+    Command(Result<Judged, Refusal>),
+    Observation(Result<Observed, Refusal>),
 }
 
 // The answer of a record that was so judged.
@@ -51,109 +44,94 @@ pub fn answer_of_called(called: Called) -> Answer
     }
 }
 
-// The number of the maker, 0 for none: 1 to 6 for commands, as control has them.
-pub fn route_of_called(called: Called) -> u64
-    ensures { result ≡ route_of_called called }
-{
-    match called {
-        Called::Command(judged) => route(judged),
-        Called::Observation(observed) => route_of_observation(observed),
-    }
-}
-
-// 7 to 9 for observations.
-fn route_of_observation(observed: Observed) -> u64
-    ensures { result ≡ route_of_observation (verdict_of_observed observed) }
-{
-    match observed {
-        Observed::Refuse(_) => ROUTE_NONE,
-        Observed::Keep => ROUTE_NONE,
-        Observed::AddLearner => MAKER_LEARNER,
-        Observed::AddJoint => MAKER_JOINT,
-        Observed::AddUniform => MAKER_UNIFORM,
-    }
-}
-
 // Whether the table changes.
 pub fn is_change(called: Called) -> bool
     ensures { result ≡ is_changing called }
 {
-    0 < route_of_called(called)
+    match called {
+        Called::Command(judged) => !matches!(judged, Err(_) | Ok(Judged::Keep)),
+        Called::Observation(observed) => !matches!(observed, Err(_) | Ok(Observed::Keep)),
+    }
 }
 
-// What a call on a valid table asks before it is judged: 30, and 25 for a zero in the cut.
-fn check_call(fits: bool, cut: VoterSlotLogId, judged: Judged) -> Judged
+// What a call on a valid table asks before it is judged: 30, and 25 for a zero in the cut. It was
+// judged in any case: after an early return the compiler would copy the table for its judge.
+fn check_call(
+    fits: bool,
+    cut: VoterSlotLogId,
+    judged: Result<Judged, Refusal>,
+) -> Result<Judged, Refusal>
     ensures { verdict_of result ≡ checked_call fits cut (verdict_of judged) }
 {
-    let nonzero = is_valid_log_id(cut);
-    let later = refuse_if(!nonzero, Answer::InvalidTransition, judged);
-    refuse_if(!fits, Answer::Unrepresentable, later)
+    if !fits {
+        return Err(Refusal::Unrepresentable);
+    }
+    if !is_valid_log_id(cut) {
+        return Err(Refusal::InvalidTransition);
+    }
+    judged
 }
 
 // The judges of the bodies: 33 for one that is not of its form, and then as the calls. An MK;
-pub fn judge_marker_body(table: VoterSlotTable, body: &[u8]) -> Judged
+#[tactic(auto, using(crate::proofs::StepLaws::marker_entry), unfolding(crate::specs::Step::command_verdict, crate::specs::Replay::marker_asked))]
+pub fn judge_marker_body(table: VoterSlotTable, body: &[u8]) -> Result<Judged, Refusal>
     requires { validate table ≡ Accepted }
     ensures { numbered (verdict_of result) ≡ command_verdict table (asking Mk body.now) }
 {
-    let read = read_marker(body);
-    let cut = read.value.cut;
-    let request_id = read.value.request_id;
-    let request_digest = read.value.request_digest;
+    let Some(marker) = read_marker(body) else {
+        return Err(Refusal::BadRecord);
+    };
+    let request_id = marker.request_id;
+    let request_digest = marker.request_digest;
     let judged = judge_marker(table, request_id, request_digest);
-    let checked = check_call(true, cut, judged);
-    refuse_if(!read.formed, Answer::BadRecord, checked)
+    check_call(true, marker.cut, judged)
 }
 
 // an AD;
-pub fn judge_advance_body(table: VoterSlotTable, body: &[u8]) -> Judged
+#[tactic(auto, using(crate::proofs::StepLaws::advance_entry), unfolding(crate::specs::Step::command_verdict))]
+pub fn judge_advance_body(table: VoterSlotTable, body: &[u8]) -> Result<Judged, Refusal>
     requires { validate table ≡ Accepted }
     ensures { numbered (verdict_of result) ≡ command_verdict table (asking Ad body.now) }
 {
-    let read = read_advance(body);
-    let advance = read.value;
-    let cut = advance.cut;
-    let step = advance.step;
+    let Some(advance) = read_advance(body) else {
+        return Err(Refusal::BadRecord);
+    };
     let judged = judge_advance(table, advance);
-    let fits = is_representable_step(step);
-    let checked = check_call(fits, cut, judged);
-    refuse_if(!read.formed, Answer::BadRecord, checked)
+    let fits = is_representable_step(advance.step);
+    check_call(fits, advance.cut, judged)
 }
 
 // a BG, with its attestation's own number before 30;
-pub fn judge_begin_body(table: VoterSlotTable, body: &[u8]) -> Judged
+#[tactic(auto, using(crate::proofs::StepLaws::begin_entry), unfolding(crate::specs::Step::command_verdict))]
+pub fn judge_begin_body(table: VoterSlotTable, body: &[u8]) -> Result<Judged, Refusal>
     requires { validate table ≡ Accepted }
     ensures { numbered (verdict_of result) ≡ command_verdict table (asking Bg body.now) }
 {
-    let read = read_begin(body);
-    let asks = read.asks;
-    let begin = read.value;
-    match asks {
-        Asks::Bad => Judged::Refuse(Answer::BadRecord),
-        Asks::Refused(answer) => Judged::Refuse(answer),
-        Asks::Begin => {
-            let cut = begin.cut;
-            let request = begin.request;
+    match read_begin(body) {
+        None => Err(Refusal::BadRecord),
+        Some(Err(refusal)) => Err(refusal),
+        Some(Ok(begin)) => {
             let judged = judge_begin(table, begin);
-            let fits = is_representable_request(request);
-            check_call(fits, cut, judged)
+            let fits = is_representable_request(begin.request);
+            check_call(fits, begin.cut, judged)
         }
     }
 }
 
 // an OB, whose ids and counts are read into the lent arrays.
+#[tactic(auto, unfolding(crate::specs::Step::observation_verdict))]
 pub fn judge_observation_body(
     table: VoterSlotTable,
     body: &[u8],
     ids: &mut [u64; MOST_IDS],
     counts: &mut [usize; MOST_SETS],
-) -> Observed
+) -> Result<Observed, Refusal>
     requires { (validate table ≡ Accepted) × (length body.now ≤ 65535) }
     ensures { numbered (verdict_of_observed result) ≡ observation_verdict table (asking Ob body.now) }
 {
-    let read = read_observation(body, ids, counts);
-    if !read.formed {
-        return Observed::Refuse(Answer::BadRecord);
-    }
+    let Some(read) = read_observation(body, ids, counts) else {
+        return Err(Refusal::BadRecord);
+    };
     weigh_read(table, read, ids, counts)
 }
 
@@ -163,20 +141,16 @@ pub fn weigh_read(
     read: ObservationRead,
     ids: &[u64],
     counts: &[usize],
-) -> Observed
+) -> Result<Observed, Refusal>
     requires { (read.ids + read.nodes ≤ length ids.now) × (read.sets ≤ length counts.now) }
     ensures { verdict_of_observed result ≡ weighed table (take read.ids ids.now) (take read.sets counts.now) (take read.nodes (drop read.ids ids.now)) read.cut }
 {
-    let set_ids = read.ids;
-    let sets = read.sets;
-    let end = set_ids + read.nodes;
-    let cut = read.cut;
     weigh(
         table,
-        &ids[..set_ids],
-        &counts[..sets],
-        &ids[set_ids..end],
-        cut,
+        &ids[..read.ids],
+        &counts[..read.sets],
+        &ids[read.ids..read.ids + read.nodes],
+        read.cut,
     )
 }
 
@@ -186,17 +160,46 @@ pub fn make_record(table: VoterSlotTable, body: &[u8], called: Called) -> VoterS
     requires { Makes table body.now called }
     ensures { result ≡ made_by table body.now called }
 {
-    match route_of_called(called) {
-        ROUTE_SNAPSHOT => snapshot_table(table, advance_in(body)),
-        ROUTE_CAUGHT_UP => catch_up_table(table, advance_in(body)),
-        ROUTE_CONTINUATION => continue_table(table, advance_in(body)),
-        ROUTE_FENCE => fence_table(table, advance_in(body)),
-        ROUTE_FINALIZE => finalize_table(table, advance_in(body)),
-        ROUTE_BEGIN => begin_table(table, begin_in(body)),
-        MAKER_LEARNER => learner_table(table, cut_in(body)),
-        MAKER_JOINT => joint_table(table, cut_in(body)),
-        MAKER_UNIFORM => uniform_table(table, cut_in(body)),
-        _ => table,
+    match called {
+        Called::Command(judged) => make_command(table, body, judged),
+        Called::Observation(observed) => make_observation(table, body, observed),
+    }
+}
+
+#[tactic(auto, unfolding(crate::specs::Step::made_by_command))]
+fn make_command(
+    table: VoterSlotTable,
+    body: &[u8],
+    judged: Result<Judged, Refusal>,
+) -> VoterSlotTable
+    requires { MakesCommand table body.now (verdict_of judged) }
+    ensures { result ≡ made_by_command table body.now (verdict_of judged) }
+{
+    match judged {
+        Ok(Judged::RecordSnapshot) => snapshot_table(table, advance_in(body)),
+        Ok(Judged::RecordCaughtUp) => catch_up_table(table, advance_in(body)),
+        Ok(Judged::Continue) => continue_table(table, advance_in(body)),
+        Ok(Judged::Fence) => fence_table(table, advance_in(body)),
+        Ok(Judged::Finalize) => finalize_table(table, advance_in(body)),
+        Ok(Judged::Begin) => begin_table(table, begin_in(body)),
+        Ok(Judged::Keep) | Err(_) => table,
+    }
+}
+
+#[tactic(auto, unfolding(crate::specs::Step::made_by_observation))]
+fn make_observation(
+    table: VoterSlotTable,
+    body: &[u8],
+    observed: Result<Observed, Refusal>,
+) -> VoterSlotTable
+    requires { MakesObservation table body.now (verdict_of_observed observed) }
+    ensures { result ≡ made_by_observation table body.now (verdict_of_observed observed) }
+{
+    match observed {
+        Ok(Observed::AddLearner) => learner_table(table, cut_in(body)),
+        Ok(Observed::AddJoint) => joint_table(table, cut_in(body)),
+        Ok(Observed::AddUniform) => uniform_table(table, cut_in(body)),
+        Ok(Observed::Keep) | Err(_) => table,
     }
 }
 
@@ -206,25 +209,57 @@ pub fn make_record(table: VoterSlotTable, body: &[u8], called: Called) -> VoterS
 pub fn advance_in(body: &[u8]) -> VoterAdvance
     ensures { HoldsAdvance body.now result }
 {
-    let read = read_advance(body);
-    read.value
+    read_advance(body).unwrap_or(blank_advance())
 }
 
 // The Begin.
 pub fn begin_in(body: &[u8]) -> VoterBegin
     ensures { HoldsBegin body.now result }
 {
-    let read = read_begin(body);
-    read.value
+    match read_begin(body) {
+        Some(Ok(begin)) => begin,
+        _ => blank_begin(),
+    }
 }
 
 // The cut that a body begins with.
+#[tactic(auto, using(crate::proofs::MakerLaws::cut_taken))]
 pub fn cut_in(body: &[u8]) -> VoterSlotLogId
     ensures { result ≡ cut_at body.now }
 {
-    let read = read_log_id(body);
-    match read {
-        LogIdRead::Read(cut, _) => cut,
-        LogIdRead::Refused(_) => blank_voter_slot_log_id(),
+    Reader::new(body)
+        .log_id()
+        .unwrap_or(blank_voter_slot_log_id())
+}
+
+// What is made of no body: a judged one is of its form, so nobody looks at them.
+fn blank_advance() -> VoterAdvance {
+    VoterAdvance {
+        request_id: [0; 16],
+        request_digest: [0; 32],
+        step: VoterReplacementStep {
+            kind: RECORD_SNAPSHOT,
+            snapshot: blank_voter_snapshot_evidence(),
+            caught_up: blank_voter_slot_log_id(),
+        },
+        cut: blank_voter_slot_log_id(),
+    }
+}
+
+fn blank_begin() -> VoterBegin {
+    VoterBegin {
+        request: VoterReplacementRequest {
+            expected_revision: 0,
+            expected_configuration: ConsensusIdentity {
+                cluster_id: [0; 32],
+                configuration_id: [0; 32],
+                configuration_epoch: 0,
+            },
+            candidate: blank_voter_slot_member(),
+            attestation: blank_lost_voter_attestation_v1(),
+            supplied_request_digest: [0; 32],
+            supplied_configuration_id: [0; 32],
+        },
+        cut: blank_voter_slot_log_id(),
     }
 }

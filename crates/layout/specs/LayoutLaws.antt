@@ -8,7 +8,7 @@ use Rattle.format.specs.Res.{malformed, too_large, and_then, began, ok-value}
 use Rattle.format.specs.Res.Res.{ok, no}
 use Rattle.format.specs.Combinators.{Codec, dep, dec_seq, check, checked-is, checked-ok, checked-bad}
 use Rattle.format.specs.Num.{uint, raw, pick, pick-zero}
-use Rattle.records.specs.Equality.{eq_list, eq_bytes}
+use Rattle.records.specs.Equality.{eq_bytes}
 use Rattle.format.specs.Through.{whole, whole-no, whole-by-count}
 use Rattle.records.specs.Validation.{valid_count, valid_attestation}
 use Rattle.records.specs.ValidationLaws.{count_small}
@@ -37,7 +37,6 @@ part-is n at s = let e : at + n - at ≡ n = omega arith in ap (λ m. take m (dr
 -- the magic, byte by byte
 pub magic-bytes : (s : List ℕ) → 4 ≤ length s
     → eq_bytes (take 4 s) magic ≡ (eqb (get_or s 0 0) 79 && (eqb (get_or s 1 0) 80 && (eqb (get_or s 2 0) 86 && eqb (get_or s 3 0) 73)))
-unfolding eq_list
 magic-bytes [] h = absurd (omega arith)
 magic-bytes (a ∷ []) h = absurd (omega arith)
 magic-bytes (a ∷ b ∷ []) h = absurd (omega arith)

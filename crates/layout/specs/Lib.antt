@@ -3,3 +3,4 @@ pub mod Layout
 pub mod LayoutLaws
 pub mod Reading
 pub mod ReadingLaws
+pub mod Told

@@ -1,17 +1,16 @@
 // Groups of fields that stand together in the bytes and are no records of their own, and the
-// records made of them. They keep every reader at five fields or fewer. A field means what the
-// field of that name means in its record (records.rt).
+// records made of them. The format has a form for each, so that none has more than five parts;
+// `ClaimsNames` and `Change` stand in the format alone, since their fields are read and written
+// where they stand. A field means what the field of that name means in its record (records.rt).
 //
 // The original has no such groups. The two constants are those of
 // crates/opc-consensus/src/voter_slots/records.rs and codec.rs of openpacketcore-sdk, commit
-// 717de332e7, Apache-2.0 (see NOTICE). Changed: the version is a number of 64 bits, as `put_be`
-// takes it.
-ghost use Rattle.std.specs.Prelude.{false, ◌≡◌};
-ghost use Rattle.records.specs.Blank.{blank_voter_replacement_record};
-ghost use Rattle.layout.specs.Parts.{blank_binding, blank_result_head, blank_slot_member, blank_claims_request, blank_claims_slot, blank_claims_names, blank_claims_end, blank_change, blank_table_head, member_of, result_of, attestation_of, evidence_of, early_cuts, late_cuts, replacement_of, table_of};
+// 717de332e7, Apache-2.0 (see NOTICE). Changed: the version is a number of 64 bits.
+ghost use Rattle.std.specs.Prelude.{◌≡◌};
+ghost use Rattle.layout.specs.Parts.{blank_voter_slot_members, member_of, result_of, evidence_of, early_cuts, late_cuts};
 
 use identity::identity::*;
-use records::blank::*;
+use records::blank::blank_voter_slot_member;
 use records::records::*;
 
 // What follows an identity in a member.
@@ -112,111 +111,16 @@ pub struct TableHead {
     pub configuration_epoch: ConsensusConfigurationEpoch,
 }
 
-// The blank of each group, all zero.
-pub fn blank_binding() -> Binding
-    ensures { result ≡ blank_binding }
+// Nine blank places, which the reader of a configuration fills from the front.
+pub fn blank_voter_slot_members() -> [VoterSlotMember; MAX_FIXED_VOTER_SLOTS]
+    ensures { result ≡ blank_voter_slot_members }
 {
-    Binding {
-        key_digest: [0; 32],
-        descriptor_digest: [0; 32],
-        admission_generation: 0,
-    }
+    let blank = blank_voter_slot_member();
+    [blank; MAX_FIXED_VOTER_SLOTS]
 }
 
-pub fn blank_result_head() -> ResultHead
-    ensures { result ≡ blank_result_head }
-{
-    ResultHead {
-        request_id: [0; 16],
-        request_digest: [0; 32],
-        incarnation: 0,
-        revision: 0,
-    }
-}
-
-pub fn blank_slot_member() -> SlotMember
-    ensures { result ≡ blank_slot_member }
-{
-    let member = blank_voter_slot_member();
-    SlotMember {
-        member,
-        retired_through: 0,
-    }
-}
-
-pub fn blank_claims_request() -> ClaimsRequest
-    ensures { result ≡ blank_claims_request }
-{
-    ClaimsRequest {
-        request_id: [0; 16],
-        request_digest: [0; 32],
-    }
-}
-
-pub fn blank_claims_slot() -> ClaimsSlot
-    ensures { result ≡ blank_claims_slot }
-{
-    let identity = blank_voter_slot_identity();
-    ClaimsSlot {
-        cluster_instance: [0; 32],
-        identity,
-        old_descriptor_digest: [0; 32],
-        candidate_key_digest: [0; 32],
-    }
-}
-
-pub fn blank_claims_names() -> ClaimsNames
-    ensures { result ≡ blank_claims_names }
-{
-    let spiffe_id = blank_spiffe_id();
-    ClaimsNames {
-        admission_generation: 0,
-        candidate_spiffe_id: spiffe_id,
-        controller_spiffe_id: spiffe_id,
-        signing_key_digest: [0; 32],
-    }
-}
-
-pub fn blank_claims_end() -> ClaimsEnd
-    ensures { result ≡ blank_claims_end }
-{
-    let times = Times {
-        observation_start_ms: 0,
-        decision_ms: 0,
-        issued_ms: 0,
-        expires_ms: 0,
-    };
-    ClaimsEnd {
-        reason: 0,
-        policy_digest: [0; 32],
-        times,
-        signature: [0; 64],
-    }
-}
-
-pub fn blank_change() -> Change
-    ensures { result ≡ blank_change }
-{
-    let configuration = blank_voter_configuration();
-    Change {
-        predecessor: configuration,
-        successor: configuration,
-        phase: 0,
-    }
-}
-
-pub fn blank_table_head() -> TableHead
-    ensures { result ≡ blank_table_head }
-{
-    TableHead {
-        cluster_instance: [0; 32],
-        manifest_digest: [0; 32],
-        revision: 0,
-        configuration_epoch: 0,
-    }
-}
-
-// A member of its identity and its binding.
+// The records of their parts. Each has two parts or more, so these are functions and no `From`: a
+// member of its identity and its binding,
 pub fn member_of(identity: VoterSlotIdentity, binding: Binding) -> VoterSlotMember
     ensures { result ≡ member_of identity binding }
 {
@@ -230,7 +134,7 @@ pub fn member_of(identity: VoterSlotIdentity, binding: Binding) -> VoterSlotMemb
     }
 }
 
-// A receipt of its front and what follows.
+// a receipt of its front and what follows,
 pub fn result_of(
     head: ResultHead,
     configuration_epoch: ConsensusConfigurationEpoch,
@@ -252,48 +156,8 @@ pub fn result_of(
     }
 }
 
-// An attestation of its groups.
-pub fn attestation_of(
-    request: ClaimsRequest,
-    slot: ClaimsSlot,
-    names: ClaimsNames,
-    end: ClaimsEnd,
-) -> LostVoterAttestationV1
-    ensures { result ≡ attestation_of request slot names end }
-{
-    let request_id = request.request_id;
-    let request_digest = request.request_digest;
-    let cluster_instance = slot.cluster_instance;
-    let old_descriptor_digest = slot.old_descriptor_digest;
-    let candidate_key_digest = slot.candidate_key_digest;
-    let candidate_spiffe_id = names.candidate_spiffe_id;
-    let controller_spiffe_id = names.controller_spiffe_id;
-    let signing_key_digest = names.signing_key_digest;
-    let policy_digest = end.policy_digest;
-    let signature = end.signature;
-    LostVoterAttestationV1 {
-        request_id,
-        request_digest,
-        cluster_instance,
-        slot: slot.identity.slot,
-        expected_incarnation: slot.identity.incarnation,
-        old_descriptor_digest,
-        candidate_key_digest,
-        admission_generation: names.admission_generation,
-        candidate_spiffe_id,
-        controller_spiffe_id,
-        signing_key_digest,
-        reason: end.reason,
-        policy_digest,
-        observation_start_ms: end.times.observation_start_ms,
-        decision_ms: end.times.decision_ms,
-        issued_ms: end.times.issued_ms,
-        expires_ms: end.times.expires_ms,
-        signature,
-    }
-}
-
-// The evidence of its parts.
+// The records of their parts. Each has two parts or more, so these are functions and no `From`: a
+// member of its identity and its binding,
 pub fn evidence_of(
     prepare: VoterSlotLogId,
     has_snapshot: bool,
@@ -322,95 +186,24 @@ pub fn evidence_of(
     }
 }
 
-// The six cuts of the evidence, in two threes.
-pub fn early_cuts(evidence: VoterReplacementEvidence) -> ThreeCuts
-    ensures { result ≡ early_cuts evidence }
+// The six cuts of the evidence, in two threes. They are no one function: each names three fields of
+// its own, and choosing by a flag would say the six names as well.
+pub fn early_cuts(evidence: &VoterReplacementEvidence) -> ThreeCuts
+    ensures { result ≡ early_cuts evidence.now }
 {
-    let first = evidence.learner;
-    let second = evidence.caught_up;
-    let third = evidence.continuation;
     ThreeCuts {
-        first,
-        second,
-        third,
+        first: evidence.learner,
+        second: evidence.caught_up,
+        third: evidence.continuation,
     }
 }
 
-pub fn late_cuts(evidence: VoterReplacementEvidence) -> ThreeCuts
-    ensures { result ≡ late_cuts evidence }
+pub fn late_cuts(evidence: &VoterReplacementEvidence) -> ThreeCuts
+    ensures { result ≡ late_cuts evidence.now }
 {
-    let first = evidence.fence;
-    let second = evidence.joint;
-    let third = evidence.uniform;
     ThreeCuts {
-        first,
-        second,
-        third,
+        first: evidence.fence,
+        second: evidence.joint,
+        third: evidence.uniform,
     }
-}
-
-// An open request of its parts.
-pub fn replacement_of(
-    expected_revision: u64,
-    attestation: LostVoterAttestationV1,
-    change: Change,
-    evidence: VoterReplacementEvidence,
-) -> VoterReplacementRecord
-    ensures { result ≡ replacement_of expected_revision attestation change evidence }
-{
-    let predecessor = change.predecessor;
-    let successor = change.successor;
-    VoterReplacementRecord {
-        expected_revision,
-        attestation,
-        predecessor,
-        successor,
-        phase: change.phase,
-        evidence,
-    }
-}
-
-// A table of its parts.
-pub fn table_of_parts(
-    head: TableHead,
-    count: usize,
-    slots: [VoterSlotRecord; MAX_FIXED_VOTER_SLOTS],
-    has_replacement: bool,
-    replacement: VoterReplacementRecord,
-) -> VoterSlotTable
-    ensures { result ≡ table_of head count slots has_replacement replacement }
-{
-    let cluster_instance = head.cluster_instance;
-    let manifest_digest = head.manifest_digest;
-    VoterSlotTable {
-        cluster_instance,
-        manifest_digest,
-        revision: head.revision,
-        configuration_epoch: head.configuration_epoch,
-        slots,
-        count,
-        has_replacement,
-        replacement,
-    }
-}
-
-// The table of its parts that has no open request: a blank one filled in, so that the open
-// request's 6 KB are cleared once and not copied.
-pub fn idle_table_of(
-    head: TableHead,
-    count: usize,
-    slots: [VoterSlotRecord; MAX_FIXED_VOTER_SLOTS],
-) -> VoterSlotTable
-    ensures { result ≡ table_of head count slots false blank_voter_replacement_record }
-{
-    let cluster_instance = head.cluster_instance;
-    let manifest_digest = head.manifest_digest;
-    let mut table = blank_voter_slot_table();
-    table.cluster_instance = cluster_instance;
-    table.manifest_digest = manifest_digest;
-    table.revision = head.revision;
-    table.configuration_epoch = head.configuration_epoch;
-    table.slots = slots;
-    table.count = count;
-    table
 }

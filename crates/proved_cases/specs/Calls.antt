@@ -5,7 +5,7 @@
 use Rattle.std.specs.Prelude.{ℕ, ◌+◌, ◌^◌, true, false, List, [], ◌∷◌, ◌++◌, replicate}
 use Rattle.identity.specs.Identity.{identity_of}
 use Rattle.identity.specs.Text.{scheme}
-use Rattle.identity.specs.declared.answer.Answer.{Answer}
+use Rattle.identity.specs.Answer.{Answer}
 use Rattle.records.specs.Blank.{blank_optional_log_id, blank_voter_slot_member, blank_voter_replacement_result, blank_voter_slot_record, blank_voter_snapshot_evidence}
 use Rattle.records.specs.Records.{pending, catching_up, voting, prepared, snapshot_installed, learner_added, caught_up, fenced, joint, uniform, completed, superseded, storage_lost}
 use Rattle.records.specs.With.{slot_with, table_with, evidence_with, present}

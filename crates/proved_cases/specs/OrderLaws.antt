@@ -2,11 +2,10 @@
 -- Assumes nothing.
 use Rattle.std.specs.Prelude.{ℕ, ◌≡◌, refl, true, List, [], ◌∷◌, ◌++◌, take, drop}
 use Rattle.std.proofs.Common.{arith, ap, ◌∙◌}
-use Rattle.identity.specs.Answer.{number_of}
+use Rattle.identity.specs.Answer.{number_of, Accepted}
 use Rattle.identity.specs.Identity.{validate_slot_id, validate_voter_incarnation}
 use Rattle.identity.specs.Text.{is_in, starts_with, is_name, is_snapshot_id, is_utf8, every}
 use Rattle.identity.specs.Utf8.{fits, width_in, decoded_char, chars_from, all_chars}
-use Rattle.identity.specs.declared.answer.Answer.TheVariants.{Accepted}
 use Rattle.format.specs.Res.{and_then}
 use Rattle.format.specs.Res.Res.{ok, no}
 use Rattle.format.specs.Combinators.{dec_seq, dec_check, dec_map, dep-ok, map-ok, gate, dep, check, via, held, always}
@@ -27,7 +26,7 @@ use Rattle.proved_cases.specs.Order.{ordered_attestation, ordered_evidence, orde
 
 -- The attestation is read from its bytes, each field from its place.
 pub attestation-ordered : decode_lost_voter_attestation ordered_attestation_bytes ≡ ok ordered_attestation 351
-unfolding ordered_attestation decode_lost_voter_attestation bounded and_then whole pick gate dec_seq dec_check dec_map dep check via held raw dec_raw uint dec_uint val identity slot_id incarnation validate_slot_id validate_voter_incarnation sized string spiffe_id choice version claims_request claims_slot claims_names times claims_end claims attestation is_utf8 is_in starts_with is_name every fits width_in decoded_char chars_from all_chars eq_list all_true valid_attestation
+unfolding ordered_attestation decode_lost_voter_attestation bounded and_then whole pick gate dec_seq dec_check dec_map dep check via held raw dec_raw uint dec_uint val identity slot_id incarnation validate_slot_id validate_voter_incarnation sized string spiffe_id choice version claims_request claims_slot claims_names times claims_end claims attestation is_utf8 is_in starts_with is_name every fits width_in decoded_char chars_from all_chars all_true valid_attestation
 attestation-ordered = refl
 
 -- ---- refusals of an attestation: its version is refused by 6, where a table's is by 4; a size over its bound is refused by 5 before the bytes are missed
@@ -76,7 +75,7 @@ request-ordered =
 
 slots-ordered : (dep (dep (dep magic_and_version (λ a. table_head)) (λ a. slot_count)) (λ p. slots p.1)).dec ordered_table_bytes
     ≡ ok (((tt, table_head_of ordered_table), 3), ordered_table.slots) 630
-unfolding ordered_table and_then pick gate dec_seq dec_check dec_map dep check via held raw dec_raw uint dec_uint val magic_and_version head_test table_head epoch slot_count slots slot slot_member identity slot_id incarnation validate_slot_id validate_voter_incarnation binding choice result_head replacement_result log_id opt either always flag flag_test padded vec dec_vec eq_list blank_voter_slot_identity blank_voter_slot_member blank_voter_slot_log_id blank_voter_replacement_result blank_voter_slot_record
+unfolding ordered_table and_then pick gate dec_seq dec_check dec_map dep check via held raw dec_raw uint dec_uint val magic_and_version head_test table_head epoch slot_count slots slot slot_member identity slot_id incarnation validate_slot_id validate_voter_incarnation binding choice result_head replacement_result log_id opt either always flag flag_test padded vec dec_vec blank_voter_slot_identity blank_voter_slot_member blank_voter_slot_log_id blank_voter_replacement_result blank_voter_slot_record
 slots-ordered = refl
 
 flag-ordered : flag.dec (drop 630 ordered_table_bytes) ≡ ok true 1
@@ -90,7 +89,7 @@ fields-ordered =
     (dep-ok _ _ ordered_table_bytes slots-ordered (opt-some replacement blank_voter_replacement_record (drop 630 ordered_table_bytes) flag-ordered request-ordered))
 
 ordered-valid : validity ordered_table ≡ Accepted
-unfolding ordered_table ordered_attestation is_in starts_with is_name is_snapshot_id is_utf8 every fits width_in decoded_char chars_from all_chars eq_list all_true same_voter_slot_identity same_voter_slot_log_id same_voter_slot_member all_below follows valid_stage stage_or valid_stages in_order valid_continuation valid_evidence valid_configuration valid_attestation valid_result valid_slot valid_slots valid_operation_head is_current_epoch valid_operation retired_member valid_target validate_member validate_members validate_operation validity
+unfolding ordered_table ordered_attestation is_in starts_with is_name is_snapshot_id is_utf8 every fits width_in decoded_char chars_from all_chars all_true same_voter_slot_identity same_voter_slot_log_id same_voter_slot_member all_below follows valid_stage stage_or valid_stages in_order valid_continuation valid_evidence valid_configuration valid_attestation valid_result valid_slot valid_slots valid_operation_head is_current_epoch valid_operation retired_member valid_target validate_member validate_members validate_operation validity
 ordered-valid = refl
 
 -- The table is read from its bytes, each field from its place.

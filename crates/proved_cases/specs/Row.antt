@@ -4,8 +4,7 @@
 -- Assumes nothing.
 use Rattle.std.specs.Prelude.{ℕ, ◌≡◌, refl, Bool, true, false, not, ◌&&◌, List, [], ◌∷◌, T, eqb}
 use Rattle.std.proofs.Common.{eqb→eq}
-use Rattle.identity.specs.Answer.{number_of}
-use Rattle.identity.specs.declared.answer.Answer.{Answer}
+use Rattle.identity.specs.Answer.{number_of, Answer}
 use Rattle.records.specs.Equality.{same_voter_slot_table}
 use Rattle.records.specs.declared.records.VoterSlotTable.{VoterSlotTable}
 

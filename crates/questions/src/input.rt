@@ -2,9 +2,8 @@
 ghost use Rattle.std.specs.Prelude.{◌≤◌, length};
 
 use crate::question::Mark;
-use crate::reply::{Reply, report};
-use raw::number::be32;
-use std::io::{ErrorKind, Print, Read};
+use raw::fields::Fields;
+use std::io::{ErrorKind, Read};
 
 // The longest body of a question.
 pub const LONGEST_BODY: usize = 70000;
@@ -12,64 +11,38 @@ pub const LONGEST_BODY: usize = 70000;
 // The bytes of a mark and a size.
 const HEAD: usize = 2 + 4;
 
+// What is asked next.
 #[derive(Clone, Copy)]
-pub enum Next {
-    // A whole question: its mark, and the size of its body.
-    Asked(Mark, usize),
-    // Nothing more is read.
-    End,
+pub struct Asked<'a> {
+    pub mark: Mark,
+    // The body; none where it is cut short or has no room, and then nothing more is read.
+    pub body: Option<&'a [u8]>,
 }
 
-// The next question, its body laid to the start of body. One that is cut short, or whose body has
-// no room there, gets its line here, and is the last.
-pub fn next_question(
-    number: u64,
-    body: &mut [u8],
-    input: &mut impl Read,
-    output: &impl Print,
-) -> Next {
-    let mut head = [0u8; HEAD];
+// The next question, its body laid to the start of `buffer`; none where the input ends.
+pub fn next_question<'a>(buffer: &'a mut [u8], input: &mut impl Read) -> Option<Asked<'a>> {
+    let mut head = [0; HEAD];
     let got = read_full(input, &mut head);
     if got == 0 {
-        return Next::End;
+        return None;
     }
-    let mark = mark_of(&head, got);
-    if got < HEAD {
-        return cut_short(number, mark, output);
-    }
-    let size = be32(&head, 2) as usize;
-    if fill(body, size, input) < size {
-        return cut_short(number, mark, output);
-    }
-    Next::Asked(mark, size)
+    let mut fields = Fields::of(&head[..got]);
+    // One byte is no mark: two zeros name no question.
+    let mark = Mark(fields.array().unwrap_or([0; 2]));
+    let body = match fields.u32() {
+        Some(size) => read_part(input, buffer, size as usize),
+        None => None,
+    };
+    Some(Asked { mark, body })
 }
 
-fn cut_short(number: u64, mark: Mark, output: &impl Print) -> Next {
-    report(number, mark, Reply::Malformed, output);
-    Next::End
-}
-
-// The mark of a head of which so many bytes came. One byte is none: two zeros name no question.
-fn mark_of(head: &[u8; HEAD], got: usize) -> Mark {
-    if got < 2 {
-        return Mark {
-            first: 0,
-            second: 0,
-        };
+// Reads so many bytes to the start of the buffer.
+fn read_part<'a>(input: &mut impl Read, buffer: &'a mut [u8], size: usize) -> Option<&'a [u8]> {
+    let part = buffer.get_mut(..size)?;
+    if read_full(input, part) < size {
+        return None;
     }
-    Mark {
-        first: head[0],
-        second: head[1],
-    }
-}
-
-// Reads n bytes to the start of body: how many came.
-fn fill(body: &mut [u8], n: usize, input: &mut impl Read) -> usize {
-    if n <= body.len() {
-        read_full(input, &mut body[..n])
-    } else {
-        0
-    }
+    Some(part)
 }
 
 // Reads until the buffer is full, the input ends or a read fails: how many bytes came. A read that

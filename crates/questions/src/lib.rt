@@ -3,7 +3,7 @@
 
 #![tactic(auto)]
 
+pub mod answer;
 pub mod input;
-pub mod line;
 pub mod question;
 pub mod reply;

@@ -1,14 +1,11 @@
 // The kinds of questions and their marks.
-use crate::line::Line;
+use std::fmt;
 
 // The two bytes that name a question's kind.
-#[derive(Clone, Copy)]
-pub struct Mark {
-    pub first: u8,
-    pub second: u8,
-}
+#[derive(Clone, Copy, PartialEq, Eq)]
+pub struct Mark(pub [u8; 2]);
 
-#[derive(Clone, Copy)]
+#[derive(Clone, Copy, PartialEq, Eq)]
 pub enum Question {
     Utf8,
     Name,
@@ -30,83 +27,44 @@ pub enum Question {
     Retired,
     Command,
     Observation,
-    Unknown,
 }
 
-// The question that a mark names.
-pub fn question_of(mark: Mark) -> Question {
-    named(mark.first, mark.second)
-}
-
-fn named(first: u8, second: u8) -> Question {
-    match first {
-        b'U' => when(second == b'8', Question::Utf8),
-        b'N' => named_n(second),
-        b'S' => named_s(second),
-        b'C' => named_c(second),
-        b'W' => named_w(second),
-        b'I' => named_i(second),
-        b'E' => when(second == b'P', Question::Epoch),
-        b'T' => when(second == b'R', Question::TableBytes),
-        b'A' => when(second == b'R', Question::AttestationBytes),
-        b'R' => when(second == b'T', Question::Retired),
-        b'O' => when(second == b'V', Question::Observation),
-        b'V' => when(second == b'T', Question::Validity),
-        _ => Question::Unknown,
+impl Mark {
+    // The question that the mark names.
+    pub fn question(self) -> Option<Question> {
+        Some(match &self.0 {
+            b"U8" => Question::Utf8,
+            b"NM" => Question::Name,
+            b"SI" => Question::SnapshotId,
+            b"SN" => Question::StrictName,
+            b"CC" => Question::Control,
+            b"WS" => Question::Whitespace,
+            b"SL" => Question::Slot,
+            b"IN" => Question::Incarnation,
+            b"NX" => Question::Next,
+            b"EP" => Question::Epoch,
+            b"ND" => Question::NodeId,
+            b"ID" => Question::Identity,
+            b"TR" => Question::TableBytes,
+            b"AR" => Question::AttestationBytes,
+            b"VT" => Question::Validity,
+            b"WR" => Question::Writing,
+            b"SC" => Question::Successor,
+            b"RT" => Question::Retired,
+            b"CM" => Question::Command,
+            b"OV" => Question::Observation,
+            _ => return None,
+        })
     }
 }
 
-fn when(is: bool, question: Question) -> Question {
-    if is { question } else { Question::Unknown }
-}
-
-fn named_n(second: u8) -> Question {
-    match second {
-        b'M' => Question::Name,
-        b'X' => Question::Next,
-        b'D' => Question::NodeId,
-        _ => Question::Unknown,
-    }
-}
-
-fn named_s(second: u8) -> Question {
-    match second {
-        b'I' => Question::SnapshotId,
-        b'N' => Question::StrictName,
-        b'L' => Question::Slot,
-        b'C' => Question::Successor,
-        _ => Question::Unknown,
-    }
-}
-
-fn named_c(second: u8) -> Question {
-    match second {
-        b'C' => Question::Control,
-        b'M' => Question::Command,
-        _ => Question::Unknown,
-    }
-}
-
-fn named_w(second: u8) -> Question {
-    match second {
-        b'S' => Question::Whitespace,
-        b'R' => Question::Writing,
-        _ => Question::Unknown,
-    }
-}
-
-fn named_i(second: u8) -> Question {
-    match second {
-        b'N' => Question::Incarnation,
-        b'D' => Question::Identity,
-        _ => Question::Unknown,
-    }
-}
-
-// The line with a mark: `??` for one that names no question.
-pub fn put_mark(line: Line, mark: Mark) -> Line {
-    match question_of(mark) {
-        Question::Unknown => line.text(b"??"),
-        _ => line.byte(mark.first).byte(mark.second),
+// `??` where the mark names no question.
+impl fmt::Display for Mark {
+    fn fmt<W: fmt::Write>(&self, f: &mut fmt::Formatter<W>) -> fmt::Result {
+        if self.question().is_none() {
+            return write!(f, "??");
+        }
+        let [first, second] = self.0;
+        write!(f, "{}{}", char::from(first), char::from(second))
     }
 }

@@ -3,7 +3,6 @@
 #![tactic(auto)]
 
 pub mod crc;
-pub mod number;
-pub mod offsets;
+pub mod fields;
 pub mod table;
 pub mod write;

@@ -1,783 +1,355 @@
 // The readers of the records, in the order of codec.rs.
 //
 // Ported from crates/opc-consensus/src/voter_slots/codec.rs of openpacketcore-sdk, commit
-// 717de332e7, Apache-2.0 (see NOTICE). Changed: each field has a reader of its own, which takes
-// the rest of the bytes and returns the count that it read.
-ghost use Rattle.std.specs.Prelude.{◌≡◌, ◌≤◌};
+// 717de332e7, Apache-2.0 (see NOTICE). Changed: groups of fields that stand together have a reader
+// of their own (layout's parts.rt); lists fill a place of nine.
+ghost use Rattle.std.specs.Prelude.{◌≡◌, ◌≤◌, length, IfOk};
 ghost use Rattle.format.specs.List.{opt};
 ghost use Rattle.format.specs.Through.{whole, boxed};
-ghost use Rattle.records.specs.Blank.{blank_voter_slot_member, blank_voter_configuration, blank_voter_replacement_result, blank_voter_slot_record, blank_lost_voter_attestation_v1, blank_voter_snapshot_evidence, blank_voter_replacement_evidence, blank_voter_replacement_record, blank_voter_slot_table};
-ghost use Rattle.layout.specs.Parts.{absent_result, absent_snapshot, blank_binding, blank_claims_request, blank_claims_slot, blank_claims_names, blank_claims_end, blank_result_head, blank_slot_member, blank_change, blank_table_head, blank_table_front, blank_voter_slot_members, blank_voter_slot_records};
-ghost use Rattle.layout.specs.Reading.{report, outcome};
-ghost use Rattle.layout.specs.Layout.{binding, member, members, configuration, result_head, replacement_result, slot_member, slot, slots, claims_request, claims_slot, claims_names, claims_end, claims, attestation, snapshot, evidence, change, replacement, table_head, table_front, table};
+ghost use Rattle.format.specs.Reads.{reads};
+ghost use Rattle.records.specs.Blank.{blank_voter_replacement_result, blank_voter_snapshot_evidence, blank_lost_voter_attestation_v1, blank_voter_replacement_record, blank_voter_slot_table};
+ghost use Rattle.layout.specs.Parts.{blank_voter_slot_members, blank_voter_slot_records};
+ghost use Rattle.layout.specs.Told.{told, told_at, told_whole_at};
+ghost use Rattle.layout.specs.Layout.{binding, member, members, configuration, result_head, replacement_result, slot_member, slot, slots, claims_request, claims_slot, claims_end, claims, attestation, snapshot, evidence, replacement, table_head, table};
 
-use crate::reader::*;
-use identity::answer::Answer;
-use layout::get::*;
+use crate::reader::Reader;
+use identity::answer::Refusal;
 use layout::parts::*;
-use layout::reading::*;
 use records::blank::{blank_voter_replacement_result, blank_voter_snapshot_evidence};
 use records::records::*;
 use records::validation::is_valid_attestation;
 
-// `binding`: what follows an identity.
-pub fn read_binding(bytes: &[u8]) -> BindingRead
-    ensures { (report result.answer, result.value) ≡ outcome blank_binding (binding.dec bytes.now) }
-{
-    let key_digest_read = read_array32(bytes);
-    let key_digest_to = key_digest_read.answer;
-    let Extent::To(at) = key_digest_to else {
-        return refused_binding(why(key_digest_to));
-    };
-    let key_digest = key_digest_read.value;
-    let descriptor_digest_read = read_array32(&bytes[at..]);
-    let descriptor_digest_to = descriptor_digest_read.answer;
-    let Extent::To(n) = descriptor_digest_to else {
-        return refused_binding(why(descriptor_digest_to));
-    };
-    let descriptor_digest = descriptor_digest_read.value;
-    let at = at + n;
-    let admission_generation_read = read_u64(&bytes[at..]);
-    let U64Read::Read(admission_generation, n) = admission_generation_read else {
-        return refused_binding(why_u64(admission_generation_read));
-    };
-    BindingRead {
-        answer: Extent::To(at + n),
-        value: Binding {
-            key_digest,
-            descriptor_digest,
-            admission_generation,
-        },
+impl<'a> Reader<'a> {
+    // `binding`: what follows an identity.
+    #[tactic(auto, using(format::specs::Reads::reads_three), unfolding(layout::specs::Layout::binding))]
+    pub fn binding(&mut self) -> Result<Binding, Refusal>
+        ensures { told result self.new.bytes.now ≡ reads binding self.old.bytes.now }
+    {
+        Ok(Binding {
+            key_digest: self.array()?,
+            descriptor_digest: self.array()?,
+            admission_generation: self.u64()?,
+        })
     }
-}
 
-// A member of a configuration.
-fn read_member(bytes: &[u8]) -> MemberRead
-    ensures { (report result.answer, result.value) ≡ outcome blank_voter_slot_member (member.dec bytes.now) }
-{
-    let identity_read = read_identity(bytes);
-    let IdentityRead::Read(identity, at) = identity_read else {
-        return refused_member(why_identity(identity_read));
-    };
-    let binding_read = read_binding(&bytes[at..]);
-    let binding_to = binding_read.answer;
-    let Extent::To(n) = binding_to else {
-        return refused_member(why(binding_to));
-    };
-    let binding = binding_read.value;
-    MemberRead {
-        answer: Extent::To(at + n),
-        value: member_of(identity, binding),
+    // A member of a configuration.
+    #[tactic(auto, using(format::specs::Reads::reads_two), unfolding(layout::specs::Layout::member))]
+    fn member(&mut self) -> Result<VoterSlotMember, Refusal>
+        ensures { told result self.new.bytes.now ≡ reads member self.old.bytes.now }
+    {
+        let identity = self.identity()?;
+        let binding = self.binding()?;
+        Ok(member_of(identity, binding))
     }
-}
 
-// The first so many of the nine places; blanks after them.
-fn read_members(bytes: &[u8], count: usize) -> MembersRead
-    requires { count ≤ 9 }
-    ensures { (report result.answer, result.value) ≡ outcome blank_voter_slot_members ((members count).dec bytes.now) }
-{
-    let mut value = blank_voter_slot_members();
-    let mut at = 0;
-    let mut i = 0;
-    while i < count {
-        let read = read_member(&bytes[at..]);
-        let to = read.answer;
-        let Extent::To(n) = to else {
-            return refused_members(why(to));
-        };
-        let place = read.value;
-        value[i] = place;
-        at += n;
-        i += 1;
+    // The first so many of the nine places, which are blank; the others stay so. `slots` is the same
+    // of slots: one function for both would take the reader of a place as a closure, with a clause
+    // of what each call of it leaves, and is no shorter.
+    #[tactic(auto, using(format::specs::ReadsMore::filled_none, format::specs::ReadsMore::padded_refused), unfolding(layout::specs::Layout::members, layout::specs::Parts::blank_voter_slot_members))]
+    fn members(
+        &mut self,
+        count: usize,
+        places: &mut [VoterSlotMember; MAX_FIXED_VOTER_SLOTS],
+    ) -> Result<(), Refusal>
+        requires few { count ≤ 9 }
+        requires blank { places.old ≡ blank_voter_slot_members }
+        ensures { told_at result places.new self.new.bytes.now ≡ reads (members count) self.old.bytes.now }
+    {
+        for i in 0..count {
+            places[i] = self.member()?;
+        }
+        Ok(())
     }
-    MembersRead {
-        answer: Extent::To(at),
-        value,
-    }
-}
 
-// `configuration`
-fn read_configuration(bytes: &[u8]) -> ConfigurationRead
-    ensures { (report result.answer, result.value) ≡ outcome blank_voter_configuration (configuration.dec bytes.now) }
-{
-    let epoch_read = read_epoch(bytes);
-    let U64Read::Read(epoch, at) = epoch_read else {
-        return refused_configuration(why_u64(epoch_read));
-    };
-    let count_read = read_count(&bytes[at..]);
-    let U8Read::Read(count, n) = count_read else {
-        return refused_configuration(why_u8(count_read));
-    };
-    let at = at + n;
-    let members_read = read_members(&bytes[at..], count as usize);
-    let members_to = members_read.answer;
-    let Extent::To(n) = members_to else {
-        return refused_configuration(why(members_to));
-    };
-    let members = members_read.value;
-    ConfigurationRead {
-        answer: Extent::To(at + n),
-        value: VoterConfiguration {
+    // `configuration`
+    #[tactic(auto, using(format::specs::Reads::reads_three), unfolding(layout::specs::Layout::configuration))]
+    fn configuration(&mut self) -> Result<VoterConfiguration, Refusal>
+        ensures { told result self.new.bytes.now ≡ reads configuration self.old.bytes.now }
+    {
+        let epoch = self.epoch()?;
+        let count = self.count()?;
+        let mut members = blank_voter_slot_members();
+        self.members(count, &mut members)?;
+        Ok(VoterConfiguration {
             epoch,
             members,
-            count: count as usize,
-        },
+            count,
+        })
     }
-}
 
-// The front of a receipt.
-fn read_result_head(bytes: &[u8]) -> ResultHeadRead
-    ensures { (report result.answer, result.value) ≡ outcome blank_result_head (result_head.dec bytes.now) }
-{
-    let request_id_read = read_array16(bytes);
-    let request_id_to = request_id_read.answer;
-    let Extent::To(at) = request_id_to else {
-        return refused_result_head(why(request_id_to));
-    };
-    let request_id = request_id_read.value;
-    let request_digest_read = read_array32(&bytes[at..]);
-    let request_digest_to = request_digest_read.answer;
-    let Extent::To(n) = request_digest_to else {
-        return refused_result_head(why(request_digest_to));
-    };
-    let request_digest = request_digest_read.value;
-    let at = at + n;
-    let incarnation_read = read_incarnation(&bytes[at..]);
-    let U64Read::Read(incarnation, n) = incarnation_read else {
-        return refused_result_head(why_u64(incarnation_read));
-    };
-    let at = at + n;
-    let revision_read = read_u64(&bytes[at..]);
-    let U64Read::Read(revision, n) = revision_read else {
-        return refused_result_head(why_u64(revision_read));
-    };
-    ResultHeadRead {
-        answer: Extent::To(at + n),
-        value: ResultHead {
-            request_id,
-            request_digest,
-            incarnation,
-            revision,
-        },
+    // The front of a receipt.
+    #[tactic(auto, using(format::specs::Reads::reads_four), unfolding(layout::specs::Layout::result_head))]
+    fn result_head(&mut self) -> Result<ResultHead, Refusal>
+        ensures { told result self.new.bytes.now ≡ reads result_head self.old.bytes.now }
+    {
+        Ok(ResultHead {
+            request_id: self.array()?,
+            request_digest: self.array()?,
+            incarnation: self.incarnation()?,
+            revision: self.u64()?,
+        })
     }
-}
 
-// A receipt.
-fn read_result(bytes: &[u8]) -> ResultRead
-    ensures { (report result.answer, result.value) ≡ outcome blank_voter_replacement_result (replacement_result.dec bytes.now) }
-{
-    let head_read = read_result_head(bytes);
-    let head_to = head_read.answer;
-    let Extent::To(at) = head_to else {
-        return refused_result(why(head_to));
-    };
-    let head = head_read.value;
-    let configuration_epoch_read = read_epoch(&bytes[at..]);
-    let U64Read::Read(configuration_epoch, n) = configuration_epoch_read else {
-        return refused_result(why_u64(configuration_epoch_read));
-    };
-    let at = at + n;
-    let kind_read = read_choice(&bytes[at..], COMPLETED, SUPERSEDED);
-    let U8Read::Read(kind, n) = kind_read else {
-        return refused_result(why_u8(kind_read));
-    };
-    let at = at + n;
-    let terminal_read = read_log_id(&bytes[at..]);
-    let LogIdRead::Read(terminal, n) = terminal_read else {
-        return refused_result(why_log_id(terminal_read));
-    };
-    ResultRead {
-        answer: Extent::To(at + n),
-        value: result_of(head, configuration_epoch, kind, terminal),
+    // A receipt.
+    #[tactic(auto, using(format::specs::Reads::reads_four), unfolding(layout::specs::Layout::replacement_result))]
+    fn replacement_result(&mut self) -> Result<VoterReplacementResult, Refusal>
+        ensures { told result self.new.bytes.now ≡ reads replacement_result self.old.bytes.now }
+    {
+        let head = self.result_head()?;
+        let configuration_epoch = self.epoch()?;
+        let kind = self.choice(COMPLETED, SUPERSEDED)?;
+        let terminal = self.log_id()?;
+        Ok(result_of(head, configuration_epoch, kind, terminal))
     }
-}
 
-// A receipt, or none.
-fn read_optional_result(bytes: &[u8]) -> OptionalResultRead
-    ensures { (report result.answer, (result.is_some, result.value)) ≡ outcome absent_result ((opt replacement_result blank_voter_replacement_result).dec bytes.now) }
-{
-    let flag = read_flag(bytes);
-    let BoolRead::Read(is_some, at) = flag else {
-        return refused_optional_result(why_bool(flag));
-    };
-    if !is_some {
-        return OptionalResultRead {
-            answer: Extent::To(at),
-            is_some,
-            value: blank_voter_replacement_result(),
-        };
+    // A receipt, or none.
+    #[tactic(auto, using(format::specs::Reads::reads_opt))]
+    fn optional_result(&mut self) -> Result<(bool, VoterReplacementResult), Refusal>
+        ensures { told result self.new.bytes.now ≡ reads (opt replacement_result blank_voter_replacement_result) self.old.bytes.now }
+    {
+        if !self.flag()? {
+            return Ok((false, blank_voter_replacement_result()));
+        }
+        Ok((true, self.replacement_result()?))
     }
-    let read = read_result(&bytes[at..]);
-    let to = read.answer;
-    let Extent::To(n) = to else {
-        return refused_optional_result(why(to));
-    };
-    let value = read.value;
-    OptionalResultRead {
-        answer: Extent::To(at + n),
-        is_some,
-        value,
-    }
-}
 
-// The front of a slot.
-fn read_slot_member(bytes: &[u8]) -> SlotMemberRead
-    ensures { (report result.answer, result.value) ≡ outcome blank_slot_member (slot_member.dec bytes.now) }
-{
-    let identity_read = read_identity(bytes);
-    let IdentityRead::Read(identity, at) = identity_read else {
-        return refused_slot_member(why_identity(identity_read));
-    };
-    let retired_through_read = read_u64(&bytes[at..]);
-    let U64Read::Read(retired_through, n) = retired_through_read else {
-        return refused_slot_member(why_u64(retired_through_read));
-    };
-    let at = at + n;
-    let binding_read = read_binding(&bytes[at..]);
-    let binding_to = binding_read.answer;
-    let Extent::To(n) = binding_to else {
-        return refused_slot_member(why(binding_to));
-    };
-    let binding = binding_read.value;
-    SlotMemberRead {
-        answer: Extent::To(at + n),
-        value: SlotMember {
+    // The front of a slot.
+    #[tactic(auto, using(format::specs::Reads::reads_three), unfolding(layout::specs::Layout::slot_member))]
+    fn slot_member(&mut self) -> Result<SlotMember, Refusal>
+        ensures { told result self.new.bytes.now ≡ reads slot_member self.old.bytes.now }
+    {
+        let identity = self.identity()?;
+        let retired_through = self.u64()?;
+        let binding = self.binding()?;
+        Ok(SlotMember {
             member: member_of(identity, binding),
             retired_through,
-        },
+        })
     }
-}
 
-// A slot.
-fn read_slot(bytes: &[u8]) -> SlotRead
-    ensures { (report result.answer, result.value) ≡ outcome blank_voter_slot_record (slot.dec bytes.now) }
-{
-    let head_read = read_slot_member(bytes);
-    let head_to = head_read.answer;
-    let Extent::To(at) = head_to else {
-        return refused_slot(why(head_to));
-    };
-    let head = head_read.value;
-    let phase_read = read_choice(&bytes[at..], PENDING, VOTING);
-    let U8Read::Read(phase, n) = phase_read else {
-        return refused_slot(why_u8(phase_read));
-    };
-    let at = at + n;
-    let last_result_read = read_optional_result(&bytes[at..]);
-    let last_result_to = last_result_read.answer;
-    let Extent::To(n) = last_result_to else {
-        return refused_slot(why(last_result_to));
-    };
-    let last_result = last_result_read.value;
-    let member = head.member;
-    SlotRead {
-        answer: Extent::To(at + n),
-        value: VoterSlotRecord {
-            member,
+    // A slot.
+    #[tactic(auto, using(format::specs::Reads::reads_three), unfolding(layout::specs::Layout::slot))]
+    fn slot(&mut self) -> Result<VoterSlotRecord, Refusal>
+        ensures { told result self.new.bytes.now ≡ reads slot self.old.bytes.now }
+    {
+        let head = self.slot_member()?;
+        let phase = self.choice(PENDING, VOTING)?;
+        let (has_last_result, last_result) = self.optional_result()?;
+        Ok(VoterSlotRecord {
+            member: head.member,
             retired_through: head.retired_through,
             phase,
-            has_last_result: last_result_read.is_some,
+            has_last_result,
             last_result,
-        },
+        })
+    }
+
+    // The first so many of the nine places, which are blank; the others stay so.
+    #[tactic(auto, using(format::specs::ReadsMore::filled_none, format::specs::ReadsMore::padded_refused), unfolding(layout::specs::Layout::slots, layout::specs::Parts::blank_voter_slot_records))]
+    fn slots(
+        &mut self,
+        count: usize,
+        places: &mut [VoterSlotRecord; MAX_FIXED_VOTER_SLOTS],
+    ) -> Result<(), Refusal>
+        requires few { count ≤ 9 }
+        requires blank { places.old ≡ blank_voter_slot_records }
+        ensures { told_at result places.new self.new.bytes.now ≡ reads (slots count) self.old.bytes.now }
+    {
+        for i in 0..count {
+            places[i] = self.slot()?;
+        }
+        Ok(())
+    }
+
+    // The groups of an attestation.
+    #[tactic(auto, using(format::specs::Reads::reads_three), unfolding(layout::specs::Layout::claims_request))]
+    fn claims_request(&mut self) -> Result<ClaimsRequest, Refusal>
+        ensures { told result self.new.bytes.now ≡ reads claims_request self.old.bytes.now }
+    {
+        self.version()?;
+        Ok(ClaimsRequest {
+            request_id: self.array()?,
+            request_digest: self.array()?,
+        })
+    }
+
+    #[tactic(auto, using(format::specs::Reads::reads_four), unfolding(layout::specs::Layout::claims_slot))]
+    fn claims_slot(&mut self) -> Result<ClaimsSlot, Refusal>
+        ensures { told result self.new.bytes.now ≡ reads claims_slot self.old.bytes.now }
+    {
+        Ok(ClaimsSlot {
+            cluster_instance: self.array()?,
+            identity: self.identity()?,
+            old_descriptor_digest: self.array()?,
+            candidate_key_digest: self.array()?,
+        })
+    }
+
+    #[tactic(auto, using(format::specs::Reads::reads_four), unfolding(layout::specs::Layout::claims_end))]
+    fn claims_end(&mut self) -> Result<ClaimsEnd, Refusal>
+        ensures { told result self.new.bytes.now ≡ reads claims_end self.old.bytes.now }
+    {
+        Ok(ClaimsEnd {
+            reason: self.choice(STORAGE_LOST, TIME_BOUND_LOSS)?,
+            policy_digest: self.array()?,
+            times: self.times()?,
+            signature: self.array()?,
+        })
+    }
+
+    // The fields of an attestation, into a place that is blank; anything may come after them.
+    #[tactic(auto, using(layout::specs::ReadingLaws::reads_claims, layout::specs::ReadingLaws::blank_candidate, layout::specs::ReadingLaws::blank_controller))]
+    pub fn attestation(&mut self, place: &mut LostVoterAttestationV1) -> Result<(), Refusal>
+        requires { place.old ≡ blank_lost_voter_attestation_v1 }
+        ensures { told_at result place.new self.new.bytes.now ≡ reads claims self.old.bytes.now }
+    {
+        let request = self.claims_request()?;
+        let request_id = request.request_id;
+        let request_digest = request.request_digest;
+        place.request_id = request_id;
+        place.request_digest = request_digest;
+        let slot = self.claims_slot()?;
+        let cluster_instance = slot.cluster_instance;
+        let old_descriptor_digest = slot.old_descriptor_digest;
+        let candidate_key_digest = slot.candidate_key_digest;
+        place.cluster_instance = cluster_instance;
+        place.slot = slot.identity.slot;
+        place.expected_incarnation = slot.identity.incarnation;
+        place.old_descriptor_digest = old_descriptor_digest;
+        place.candidate_key_digest = candidate_key_digest;
+        place.admission_generation = self.u64()?;
+        self.spiffe_id(&mut place.candidate_spiffe_id)?;
+        self.spiffe_id(&mut place.controller_spiffe_id)?;
+        let signing_key_digest = self.array()?;
+        place.signing_key_digest = signing_key_digest;
+        let end = self.claims_end()?;
+        let policy_digest = end.policy_digest;
+        let signature = end.signature;
+        place.reason = end.reason;
+        place.policy_digest = policy_digest;
+        place.observation_start_ms = end.times.observation_start_ms;
+        place.decision_ms = end.times.decision_ms;
+        place.issued_ms = end.times.issued_ms;
+        place.expires_ms = end.times.expires_ms;
+        place.signature = signature;
+        Ok(())
+    }
+
+    // `sized_bytes(MAX_LOST_VOTER_ATTESTATION_BYTES)`, and the attestation in them.
+    #[tactic(auto, using(format::specs::ReadsMore::reads_boxed), unfolding(layout::specs::Layout::sized))]
+    fn boxed_attestation(&mut self, place: &mut LostVoterAttestationV1) -> Result<(), Refusal>
+        requires { place.old ≡ blank_lost_voter_attestation_v1 }
+        ensures { told_at result place.new self.new.bytes.now ≡ reads (boxed attestation 8192) self.old.bytes.now }
+    {
+        read_whole_attestation(self.sized_bytes(MAX_LOST_VOTER_ATTESTATION_BYTES)?, place)
+    }
+
+    // The evidence of a snapshot.
+    #[tactic(auto, using(format::specs::Reads::reads_three), unfolding(layout::specs::Layout::snapshot))]
+    fn snapshot(&mut self) -> Result<VoterSnapshotEvidence, Refusal>
+        ensures { told result self.new.bytes.now ≡ reads snapshot self.old.bytes.now }
+    {
+        Ok(VoterSnapshotEvidence {
+            cut: self.log_id()?,
+            snapshot_id: self.snapshot_id()?,
+            digest: self.array()?,
+        })
+    }
+
+    // A snapshot, or none.
+    #[tactic(auto, using(format::specs::Reads::reads_opt))]
+    fn optional_snapshot(&mut self) -> Result<(bool, VoterSnapshotEvidence), Refusal>
+        ensures { told result self.new.bytes.now ≡ reads (opt snapshot blank_voter_snapshot_evidence) self.old.bytes.now }
+    {
+        if !self.flag()? {
+            return Ok((false, blank_voter_snapshot_evidence()));
+        }
+        Ok((true, self.snapshot()?))
+    }
+
+    // The evidence of a replacement.
+    #[tactic(auto, using(format::specs::Reads::reads_four), unfolding(layout::specs::Layout::evidence))]
+    fn evidence(&mut self) -> Result<VoterReplacementEvidence, Refusal>
+        ensures { told result self.new.bytes.now ≡ reads evidence self.old.bytes.now }
+    {
+        let prepare = self.log_id()?;
+        let (has_snapshot, snapshot) = self.optional_snapshot()?;
+        let early = self.three_cuts()?;
+        let late = self.three_cuts()?;
+        Ok(evidence_of(prepare, has_snapshot, snapshot, early, late))
+    }
+
+    // An open request, into a place that is blank.
+    #[tactic(auto, using(layout::specs::ReadingLaws::reads_replacement, layout::specs::ReadingLaws::blank_attestation))]
+    fn replacement(&mut self, place: &mut VoterReplacementRecord) -> Result<(), Refusal>
+        requires { place.old ≡ blank_voter_replacement_record }
+        ensures { told_at result place.new self.new.bytes.now ≡ reads replacement self.old.bytes.now }
+    {
+        place.expected_revision = self.u64()?;
+        self.boxed_attestation(&mut place.attestation)?;
+        place.predecessor = self.configuration()?;
+        place.successor = self.configuration()?;
+        place.phase = self.choice(PREPARED, UNIFORM)?;
+        place.evidence = self.evidence()?;
+        Ok(())
+    }
+
+    // The front of a table.
+    #[tactic(auto, using(format::specs::Reads::reads_four), unfolding(layout::specs::Layout::table_head))]
+    fn table_head(&mut self) -> Result<TableHead, Refusal>
+        ensures { told result self.new.bytes.now ≡ reads table_head self.old.bytes.now }
+    {
+        Ok(TableHead {
+            cluster_instance: self.array()?,
+            manifest_digest: self.array()?,
+            revision: self.u64()?,
+            configuration_epoch: self.epoch()?,
+        })
+    }
+
+    // The fields of a table, into a place that is blank; anything may come after them. The table is
+    // filled where it stands: a `Result` that has it would copy its 8 KB at each `?`.
+    #[tactic(auto, using(layout::specs::ReadingLaws::reads_table, format::specs::Reads::reads_opt, layout::specs::ReadingLaws::blank_slots, layout::specs::ReadingLaws::blank_replacement))]
+    pub fn table(&mut self, place: &mut VoterSlotTable) -> Result<(), Refusal>
+        requires { place.old ≡ blank_voter_slot_table }
+        ensures form { told_at result place.new self.new.bytes.now ≡ reads table self.old.bytes.now }
+        ensures small { IfOk result (λ nothing. place.new.count ≤ 9) }
+    {
+        self.magic_and_version()?;
+        let head = self.table_head()?;
+        let cluster_instance = head.cluster_instance;
+        let manifest_digest = head.manifest_digest;
+        place.cluster_instance = cluster_instance;
+        place.manifest_digest = manifest_digest;
+        place.revision = head.revision;
+        place.configuration_epoch = head.configuration_epoch;
+        let count = self.count()?;
+        place.count = count;
+        self.slots(count, &mut place.slots)?;
+        let is_open = self.flag()?;
+        place.has_replacement = is_open;
+        if !is_open {
+            return Ok(());
+        }
+        self.replacement(&mut place.replacement)
     }
 }
 
-// The first so many of the nine places; blanks after them.
-fn read_slots(bytes: &[u8], count: usize) -> SlotsRead
-    requires { count ≤ 9 }
-    ensures { (report result.answer, result.value) ≡ outcome blank_voter_slot_records ((slots count).dec bytes.now) }
+// All of the bytes are one attestation, of the rule of validation.rs. It is read into a place that
+// is blank.
+#[tactic(auto, using(format::specs::ReadsMore::reads_whole, format::specs::Reads::reads_check), unfolding(layout::specs::Layout::attestation, format::specs::Num::pick))]
+pub fn read_whole_attestation(
+    bytes: &[u8],
+    place: &mut LostVoterAttestationV1,
+) -> Result<(), Refusal>
+    requires { place.old ≡ blank_lost_voter_attestation_v1 }
+    ensures { told_whole_at result place.new (length bytes.now) ≡ whole attestation bytes.now }
 {
-    let mut value = blank_voter_slot_records();
-    let mut at = 0;
-    let mut i = 0;
-    while i < count {
-        let read = read_slot(&bytes[at..]);
-        let to = read.answer;
-        let Extent::To(n) = to else {
-            return refused_slots(why(to));
-        };
-        let place = read.value;
-        value[i] = place;
-        at += n;
-        i += 1;
+    let mut input = Reader::new(bytes);
+    input.attestation(place)?;
+    input.finish()?;
+    if !is_valid_attestation(*place) {
+        return Err(Refusal::InvalidRecord);
     }
-    SlotsRead {
-        answer: Extent::To(at),
-        value,
-    }
-}
-
-// The groups of an attestation.
-fn read_claims_request(bytes: &[u8]) -> ClaimsRequestRead
-    ensures { (report result.answer, result.value) ≡ outcome blank_claims_request (claims_request.dec bytes.now) }
-{
-    let version = read_version(bytes);
-    let Extent::To(at) = version else {
-        return refused_claims_request(why(version));
-    };
-    let request_id_read = read_array16(&bytes[at..]);
-    let request_id_to = request_id_read.answer;
-    let Extent::To(n) = request_id_to else {
-        return refused_claims_request(why(request_id_to));
-    };
-    let request_id = request_id_read.value;
-    let at = at + n;
-    let request_digest_read = read_array32(&bytes[at..]);
-    let request_digest_to = request_digest_read.answer;
-    let Extent::To(n) = request_digest_to else {
-        return refused_claims_request(why(request_digest_to));
-    };
-    let request_digest = request_digest_read.value;
-    ClaimsRequestRead {
-        answer: Extent::To(at + n),
-        value: ClaimsRequest {
-            request_id,
-            request_digest,
-        },
-    }
-}
-
-fn read_claims_slot(bytes: &[u8]) -> ClaimsSlotRead
-    ensures { (report result.answer, result.value) ≡ outcome blank_claims_slot (claims_slot.dec bytes.now) }
-{
-    let cluster_instance_read = read_array32(bytes);
-    let cluster_instance_to = cluster_instance_read.answer;
-    let Extent::To(at) = cluster_instance_to else {
-        return refused_claims_slot(why(cluster_instance_to));
-    };
-    let cluster_instance = cluster_instance_read.value;
-    let identity_read = read_identity(&bytes[at..]);
-    let IdentityRead::Read(identity, n) = identity_read else {
-        return refused_claims_slot(why_identity(identity_read));
-    };
-    let at = at + n;
-    let old_descriptor_digest_read = read_array32(&bytes[at..]);
-    let old_descriptor_digest_to = old_descriptor_digest_read.answer;
-    let Extent::To(n) = old_descriptor_digest_to else {
-        return refused_claims_slot(why(old_descriptor_digest_to));
-    };
-    let old_descriptor_digest = old_descriptor_digest_read.value;
-    let at = at + n;
-    let candidate_key_digest_read = read_array32(&bytes[at..]);
-    let candidate_key_digest_to = candidate_key_digest_read.answer;
-    let Extent::To(n) = candidate_key_digest_to else {
-        return refused_claims_slot(why(candidate_key_digest_to));
-    };
-    let candidate_key_digest = candidate_key_digest_read.value;
-    ClaimsSlotRead {
-        answer: Extent::To(at + n),
-        value: ClaimsSlot {
-            cluster_instance,
-            identity,
-            old_descriptor_digest,
-            candidate_key_digest,
-        },
-    }
-}
-
-fn read_claims_names(bytes: &[u8]) -> ClaimsNamesRead
-    ensures { (report result.answer, result.value) ≡ outcome blank_claims_names (claims_names.dec bytes.now) }
-{
-    let admission_generation_read = read_u64(bytes);
-    let U64Read::Read(admission_generation, at) = admission_generation_read else {
-        return refused_claims_names(why_u64(admission_generation_read));
-    };
-    let candidate_spiffe_id_read = read_spiffe_id(&bytes[at..]);
-    let candidate_spiffe_id_to = candidate_spiffe_id_read.answer;
-    let Extent::To(n) = candidate_spiffe_id_to else {
-        return refused_claims_names(why(candidate_spiffe_id_to));
-    };
-    let candidate_spiffe_id = candidate_spiffe_id_read.value;
-    let at = at + n;
-    let controller_spiffe_id_read = read_spiffe_id(&bytes[at..]);
-    let controller_spiffe_id_to = controller_spiffe_id_read.answer;
-    let Extent::To(n) = controller_spiffe_id_to else {
-        return refused_claims_names(why(controller_spiffe_id_to));
-    };
-    let controller_spiffe_id = controller_spiffe_id_read.value;
-    let at = at + n;
-    let signing_key_digest_read = read_array32(&bytes[at..]);
-    let signing_key_digest_to = signing_key_digest_read.answer;
-    let Extent::To(n) = signing_key_digest_to else {
-        return refused_claims_names(why(signing_key_digest_to));
-    };
-    let signing_key_digest = signing_key_digest_read.value;
-    ClaimsNamesRead {
-        answer: Extent::To(at + n),
-        value: ClaimsNames {
-            admission_generation,
-            candidate_spiffe_id,
-            controller_spiffe_id,
-            signing_key_digest,
-        },
-    }
-}
-
-fn read_claims_end(bytes: &[u8]) -> ClaimsEndRead
-    ensures { (report result.answer, result.value) ≡ outcome blank_claims_end (claims_end.dec bytes.now) }
-{
-    let reason_read = read_choice(bytes, STORAGE_LOST, TIME_BOUND_LOSS);
-    let U8Read::Read(reason, at) = reason_read else {
-        return refused_claims_end(why_u8(reason_read));
-    };
-    let policy_digest_read = read_array32(&bytes[at..]);
-    let policy_digest_to = policy_digest_read.answer;
-    let Extent::To(n) = policy_digest_to else {
-        return refused_claims_end(why(policy_digest_to));
-    };
-    let policy_digest = policy_digest_read.value;
-    let at = at + n;
-    let times_read = read_times(&bytes[at..]);
-    let TimesRead::Read(times, n) = times_read else {
-        return refused_claims_end(why_times(times_read));
-    };
-    let at = at + n;
-    let signature_read = read_array64(&bytes[at..]);
-    let signature_to = signature_read.answer;
-    let Extent::To(n) = signature_to else {
-        return refused_claims_end(why(signature_to));
-    };
-    let signature = signature_read.value;
-    ClaimsEndRead {
-        answer: Extent::To(at + n),
-        value: ClaimsEnd {
-            reason,
-            policy_digest,
-            times,
-            signature,
-        },
-    }
-}
-
-// The fields of an attestation; anything may come after them.
-pub fn read_attestation(bytes: &[u8]) -> AttestationRead
-    ensures { (report result.answer, result.value) ≡ outcome blank_lost_voter_attestation_v1 (claims.dec bytes.now) }
-{
-    let request_read = read_claims_request(bytes);
-    let request_to = request_read.answer;
-    let Extent::To(at) = request_to else {
-        return refused_attestation(why(request_to));
-    };
-    let request = request_read.value;
-    let slot_read = read_claims_slot(&bytes[at..]);
-    let slot_to = slot_read.answer;
-    let Extent::To(n) = slot_to else {
-        return refused_attestation(why(slot_to));
-    };
-    let slot = slot_read.value;
-    let at = at + n;
-    let names_read = read_claims_names(&bytes[at..]);
-    let names_to = names_read.answer;
-    let Extent::To(n) = names_to else {
-        return refused_attestation(why(names_to));
-    };
-    let names = names_read.value;
-    let at = at + n;
-    let end_read = read_claims_end(&bytes[at..]);
-    let end_to = end_read.answer;
-    let Extent::To(n) = end_to else {
-        return refused_attestation(why(end_to));
-    };
-    let end = end_read.value;
-    AttestationRead {
-        answer: Extent::To(at + n),
-        value: attestation_of(request, slot, names, end),
-    }
-}
-
-// All of the bytes are one attestation, of the rule of validation.rs.
-pub fn read_whole_attestation(bytes: &[u8]) -> AttestationRead
-    ensures { (report result.answer, result.value) ≡ outcome blank_lost_voter_attestation_v1 (whole attestation bytes.now) }
-{
-    let read = read_attestation(bytes);
-    let to = read.answer;
-    let Extent::To(n) = to else {
-        return read;
-    };
-    let value = read.value;
-    if !((n == bytes.len()) & is_valid_attestation(value)) {
-        return refused_attestation(Answer::InvalidRecord);
-    }
-    read
-}
-
-// `sized_bytes(MAX_LOST_VOTER_ATTESTATION_BYTES)`, and the attestation in them.
-fn read_boxed_attestation(bytes: &[u8]) -> AttestationRead
-    ensures { (report result.answer, result.value) ≡ outcome blank_lost_voter_attestation_v1 ((boxed attestation 8192).dec bytes.now) }
-{
-    let size = read_sized(bytes, MAX_LOST_VOTER_ATTESTATION_BYTES);
-    let SizedRead::Read(len, at) = size else {
-        return refused_attestation(why_sized(size));
-    };
-    let end = at + len;
-    let read = read_whole_attestation(&bytes[at..end]);
-    let to = read.answer;
-    let Extent::To(_) = to else {
-        return read;
-    };
-    let value = read.value;
-    AttestationRead {
-        answer: Extent::To(end),
-        value,
-    }
-}
-
-// The evidence of a snapshot.
-fn read_snapshot(bytes: &[u8]) -> SnapshotRead
-    ensures { (report result.answer, result.value) ≡ outcome blank_voter_snapshot_evidence (snapshot.dec bytes.now) }
-{
-    let cut_read = read_log_id(bytes);
-    let LogIdRead::Read(cut, at) = cut_read else {
-        return refused_snapshot(why_log_id(cut_read));
-    };
-    let snapshot_id_read = read_snapshot_id(&bytes[at..]);
-    let snapshot_id_to = snapshot_id_read.answer;
-    let Extent::To(n) = snapshot_id_to else {
-        return refused_snapshot(why(snapshot_id_to));
-    };
-    let snapshot_id = snapshot_id_read.value;
-    let at = at + n;
-    let digest_read = read_array32(&bytes[at..]);
-    let digest_to = digest_read.answer;
-    let Extent::To(n) = digest_to else {
-        return refused_snapshot(why(digest_to));
-    };
-    let digest = digest_read.value;
-    SnapshotRead {
-        answer: Extent::To(at + n),
-        value: VoterSnapshotEvidence {
-            cut,
-            snapshot_id,
-            digest,
-        },
-    }
-}
-
-// A snapshot, or none.
-fn read_optional_snapshot(bytes: &[u8]) -> OptionalSnapshotRead
-    ensures { (report result.answer, (result.is_some, result.value)) ≡ outcome absent_snapshot ((opt snapshot blank_voter_snapshot_evidence).dec bytes.now) }
-{
-    let flag = read_flag(bytes);
-    let BoolRead::Read(is_some, at) = flag else {
-        return refused_optional_snapshot(why_bool(flag));
-    };
-    if !is_some {
-        return OptionalSnapshotRead {
-            answer: Extent::To(at),
-            is_some,
-            value: blank_voter_snapshot_evidence(),
-        };
-    }
-    let read = read_snapshot(&bytes[at..]);
-    let to = read.answer;
-    let Extent::To(n) = to else {
-        return refused_optional_snapshot(why(to));
-    };
-    let value = read.value;
-    OptionalSnapshotRead {
-        answer: Extent::To(at + n),
-        is_some,
-        value,
-    }
-}
-
-// The evidence of a replacement.
-fn read_evidence(bytes: &[u8]) -> EvidenceRead
-    ensures { (report result.answer, result.value) ≡ outcome blank_voter_replacement_evidence (evidence.dec bytes.now) }
-{
-    let prepare_read = read_log_id(bytes);
-    let LogIdRead::Read(prepare, at) = prepare_read else {
-        return refused_evidence(why_log_id(prepare_read));
-    };
-    let snapshot_read = read_optional_snapshot(&bytes[at..]);
-    let snapshot_to = snapshot_read.answer;
-    let Extent::To(n) = snapshot_to else {
-        return refused_evidence(why(snapshot_to));
-    };
-    let snapshot = snapshot_read.value;
-    let at = at + n;
-    let early_read = read_three_cuts(&bytes[at..]);
-    let ThreeCutsRead::Read(early, n) = early_read else {
-        return refused_evidence(why_three_cuts(early_read));
-    };
-    let at = at + n;
-    let late_read = read_three_cuts(&bytes[at..]);
-    let ThreeCutsRead::Read(late, n) = late_read else {
-        return refused_evidence(why_three_cuts(late_read));
-    };
-    EvidenceRead {
-        answer: Extent::To(at + n),
-        value: evidence_of(prepare, snapshot_read.is_some, snapshot, early, late),
-    }
-}
-
-// What an open request changes, and how far it is.
-fn read_change(bytes: &[u8]) -> ChangeRead
-    ensures { (report result.answer, result.value) ≡ outcome blank_change (change.dec bytes.now) }
-{
-    let predecessor_read = read_configuration(bytes);
-    let predecessor_to = predecessor_read.answer;
-    let Extent::To(at) = predecessor_to else {
-        return refused_change(why(predecessor_to));
-    };
-    let predecessor = predecessor_read.value;
-    let successor_read = read_configuration(&bytes[at..]);
-    let successor_to = successor_read.answer;
-    let Extent::To(n) = successor_to else {
-        return refused_change(why(successor_to));
-    };
-    let successor = successor_read.value;
-    let at = at + n;
-    let phase_read = read_choice(&bytes[at..], PREPARED, UNIFORM);
-    let U8Read::Read(phase, n) = phase_read else {
-        return refused_change(why_u8(phase_read));
-    };
-    ChangeRead {
-        answer: Extent::To(at + n),
-        value: Change {
-            predecessor,
-            successor,
-            phase,
-        },
-    }
-}
-
-// An open request.
-fn read_replacement(bytes: &[u8]) -> ReplacementRead
-    ensures { (report result.answer, result.value) ≡ outcome blank_voter_replacement_record (replacement.dec bytes.now) }
-{
-    let expected_revision_read = read_u64(bytes);
-    let U64Read::Read(expected_revision, at) = expected_revision_read else {
-        return refused_replacement(why_u64(expected_revision_read));
-    };
-    let attestation_read = read_boxed_attestation(&bytes[at..]);
-    let attestation_to = attestation_read.answer;
-    let Extent::To(n) = attestation_to else {
-        return refused_replacement(why(attestation_to));
-    };
-    let attestation = attestation_read.value;
-    let at = at + n;
-    let change_read = read_change(&bytes[at..]);
-    let change_to = change_read.answer;
-    let Extent::To(n) = change_to else {
-        return refused_replacement(why(change_to));
-    };
-    let change = change_read.value;
-    let at = at + n;
-    let evidence_read = read_evidence(&bytes[at..]);
-    let evidence_to = evidence_read.answer;
-    let Extent::To(n) = evidence_to else {
-        return refused_replacement(why(evidence_to));
-    };
-    let evidence = evidence_read.value;
-    ReplacementRead {
-        answer: Extent::To(at + n),
-        value: replacement_of(expected_revision, attestation, change, evidence),
-    }
-}
-
-// The front of a table.
-fn read_table_head(bytes: &[u8]) -> TableHeadRead
-    ensures { (report result.answer, result.value) ≡ outcome blank_table_head (table_head.dec bytes.now) }
-{
-    let cluster_instance_read = read_array32(bytes);
-    let cluster_instance_to = cluster_instance_read.answer;
-    let Extent::To(at) = cluster_instance_to else {
-        return refused_table_head(why(cluster_instance_to));
-    };
-    let cluster_instance = cluster_instance_read.value;
-    let manifest_digest_read = read_array32(&bytes[at..]);
-    let manifest_digest_to = manifest_digest_read.answer;
-    let Extent::To(n) = manifest_digest_to else {
-        return refused_table_head(why(manifest_digest_to));
-    };
-    let manifest_digest = manifest_digest_read.value;
-    let at = at + n;
-    let revision_read = read_u64(&bytes[at..]);
-    let U64Read::Read(revision, n) = revision_read else {
-        return refused_table_head(why_u64(revision_read));
-    };
-    let at = at + n;
-    let configuration_epoch_read = read_epoch(&bytes[at..]);
-    let U64Read::Read(configuration_epoch, n) = configuration_epoch_read else {
-        return refused_table_head(why_u64(configuration_epoch_read));
-    };
-    TableHeadRead {
-        answer: Extent::To(at + n),
-        value: TableHead {
-            cluster_instance,
-            manifest_digest,
-            revision,
-            configuration_epoch,
-        },
-    }
-}
-
-// What stands before the flag of a table: magic and version, the head, the count and the slots.
-fn read_table_front(bytes: &[u8]) -> TableFrontRead
-    ensures { (report result.answer, (((tt, result.head), result.count), result.slots)) ≡ outcome blank_table_front (table_front.dec bytes.now) }
-{
-    let magic = read_head(bytes);
-    let Extent::To(at) = magic else {
-        return refused_table_front(why(magic));
-    };
-    let head_read = read_table_head(&bytes[at..]);
-    let head_to = head_read.answer;
-    let Extent::To(n) = head_to else {
-        return refused_table_front(why(head_to));
-    };
-    let head = head_read.value;
-    let at = at + n;
-    let count_read = read_count(&bytes[at..]);
-    let U8Read::Read(count, n) = count_read else {
-        return refused_table_front(why_u8(count_read));
-    };
-    let at = at + n;
-    let slots_read = read_slots(&bytes[at..], count as usize);
-    let slots_to = slots_read.answer;
-    let Extent::To(n) = slots_to else {
-        return refused_table_front(why(slots_to));
-    };
-    let slots = slots_read.value;
-    TableFrontRead {
-        answer: Extent::To(at + n),
-        head,
-        count: count as usize,
-        slots,
-    }
-}
-
-// The fields of a table; anything may come after them. The table is made here, where its cursor is
-// known: passed on by a reader of the open request's end, its 8 KB would be copied once more.
-pub fn read_table(bytes: &[u8]) -> TableRead
-    ensures { (report result.answer, result.value) ≡ outcome blank_voter_slot_table (table.dec bytes.now) }
-{
-    let front = read_table_front(bytes);
-    let front_to = front.answer;
-    let Extent::To(at) = front_to else {
-        return refused_table(why(front_to));
-    };
-    let head = front.head;
-    let slots = front.slots;
-    let flag = read_flag(&bytes[at..]);
-    let BoolRead::Read(is_open, n) = flag else {
-        return refused_table(why_bool(flag));
-    };
-    let at = at + n;
-    if !is_open {
-        return TableRead {
-            answer: Extent::To(at),
-            value: idle_table_of(head, front.count, slots),
-        };
-    }
-    let replacement_read = read_replacement(&bytes[at..]);
-    let replacement_to = replacement_read.answer;
-    let Extent::To(n) = replacement_to else {
-        return refused_table(why(replacement_to));
-    };
-    let replacement = replacement_read.value;
-    TableRead {
-        answer: Extent::To(at + n),
-        value: table_of_parts(head, front.count, slots, true, replacement),
-    }
+    Ok(())
 }

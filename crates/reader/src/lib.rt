@@ -1,4 +1,4 @@
-// Layer three, the readers of the fields and of the records.
+// Layer three: the readers.
 
 #![tactic(auto)]
 

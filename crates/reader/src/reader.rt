@@ -1,292 +1,307 @@
-// The readers of checked numbers, of text, and of what is made of numbers alone: `Reader` of
-// codec.rs. Those of a plain number and of bytes stand in layout's get.rt.
+// The cursor over the bytes, and what it reads that is made of numbers and text alone: `Reader` of
+// codec.rs. decode.rt has the records.
 //
 // Ported from crates/opc-consensus/src/voter_slots/codec.rs of openpacketcore-sdk, commit
-// 717de332e7, Apache-2.0 (see NOTICE). Changed: each takes the rest of the bytes and returns the
-// count that it read.
-ghost use Rattle.std.specs.Prelude.{◌≡◌};
+// 717de332e7, Apache-2.0 (see NOTICE). Changed: text is copied into a place of fixed size; an
+// optional part comes as a yes or no beside its value, the blank where there is none.
+//
+// Each method promises that its answer, with the bytes that are left after it, is what reading its
+// form leaves (`reads` of format's Reads.antt).
+ghost use Rattle.std.specs.Prelude.{◌≡◌, ◌≤◌, length, eqb, IfOk};
+ghost use Rattle.identity.specs.Answer.{Accepted, InvalidRecord};
+ghost use Rattle.format.specs.Num.{uint, raw, pick};
 ghost use Rattle.format.specs.List.{flag};
-ghost use Rattle.layout.specs.Reading.{report, outcome, u64_read, u16_read, u8_read, bool_read, identity_read, log_id_read, optional_log_id_read, three_cuts_read, times_read};
-ghost use Rattle.records.specs.Blank.{blank_spiffe_id, blank_snapshot_id};
-ghost use Rattle.layout.specs.Layout.{slot_id, incarnation, epoch, slot_count, choice, spiffe_id, snapshot_id, identity, log_id, optional_log_id, three_cuts, times, version, magic_and_version};
+ghost use Rattle.format.specs.Reads.{reads, made_read};
+ghost use Rattle.layout.specs.Told.{told, told_at, told_beside, told_bytes, told_sized};
+ghost use Rattle.format.specs.Copy.{zeros};
+ghost use Rattle.records.specs.Blank.{blank_spiffe_id};
+ghost use Rattle.layout.specs.Layout.{slot_id, incarnation, epoch, slot_count, choice, log_id, optional_log_id, three_cuts, identity, times, version, magic_and_version, sized, string, placed, spiffe_id, snapshot_id};
 
-use identity::answer::{Answer, accepted};
+use identity::answer::Refusal;
 use identity::identity::*;
 use identity::text::{MAX_VOTER_SNAPSHOT_ID_BYTES, MAX_VOTER_SPIFFE_ID_BYTES, is_utf8};
-use layout::get::*;
 use layout::parts::{ThreeCuts, Times, VERSION};
-use layout::put::put_bytes;
-use layout::reading::*;
 use records::records::*;
 use records::validation::is_valid_count;
 
-// `epoch`
-pub fn read_epoch(bytes: &[u8]) -> U64Read
-    ensures { u64_read result ≡ epoch.dec bytes.now }
-{
-    let number = read_u64(bytes);
-    let U64Read::Read(value, n) = number else {
-        return number;
-    };
-    if !is_configuration_epoch(value) {
-        return U64Read::Refused(Answer::InvalidRecord);
-    }
-    U64Read::Read(value, n)
+// What is left of the bytes that are read.
+#[derive(Clone, Copy)]
+pub struct Reader<'a> {
+    bytes: &'a [u8],
 }
 
-// `incarnation`
-pub fn read_incarnation(bytes: &[u8]) -> U64Read
-    ensures { u64_read result ≡ incarnation.dec bytes.now }
-{
-    let number = read_u64(bytes);
-    let U64Read::Read(value, n) = number else {
-        return number;
-    };
-    let answer = validate_voter_incarnation(value);
-    if !accepted(answer) {
-        return U64Read::Refused(answer);
+impl<'a> Reader<'a> {
+    // `new`, without its bound: the two decoders test that first (codec).
+    pub fn new(bytes: &'a [u8]) -> Reader<'a>
+        ensures { result.bytes.now ≡ bytes.now }
+    {
+        Reader { bytes }
     }
-    U64Read::Read(value, n)
-}
 
-// `SlotId::new` of a number that was read
-fn read_slot_id(bytes: &[u8]) -> U16Read
-    ensures { u16_read result ≡ slot_id.dec bytes.now }
-{
-    let number = read_u16(bytes);
-    let U16Read::Read(value, n) = number else {
-        return number;
-    };
-    let answer = validate_slot_id(value);
-    if !accepted(answer) {
-        return U16Read::Refused(answer);
+    // `take`
+    #[tactic(auto, using(format::specs::Reads::reads_raw, format::specs::Reads::reads_raw_short))]
+    pub fn take(&mut self, count: usize) -> Result<&'a [u8], Refusal>
+        ensures form { told_bytes result self.new.bytes.now ≡ reads (raw count) self.old.bytes.now }
+        ensures long { IfOk result (λ bytes. length bytes.now ≡ count) }
+    {
+        let Some((front, rest)) = self.bytes.split_at_checked(count) else {
+            return Err(Refusal::InvalidRecord);
+        };
+        self.bytes = rest;
+        Ok(front)
     }
-    U16Read::Read(value, n)
-}
 
-// `identity`
-pub fn read_identity(bytes: &[u8]) -> IdentityRead
-    ensures { identity_read result ≡ identity.dec bytes.now }
-{
-    let slot_read = read_slot_id(bytes);
-    let U16Read::Read(slot, at) = slot_read else {
-        return IdentityRead::Refused(why_u16(slot_read));
-    };
-    let incarnation_read = read_incarnation(&bytes[at..]);
-    let U64Read::Read(incarnation, n) = incarnation_read else {
-        return IdentityRead::Refused(why_u64(incarnation_read));
-    };
-    IdentityRead::Read(VoterSlotIdentity { slot, incarnation }, at + n)
-}
+    // `array`
+    #[tactic(auto, using(format::specs::Reads::reads_raw, format::specs::Reads::reads_raw_short))]
+    pub fn array<const N: usize>(&mut self) -> Result<[u8; N], Refusal>
+        ensures { told result self.new.bytes.now ≡ reads (raw N) self.old.bytes.now }
+    {
+        let Some((front, rest)) = self.bytes.split_first_chunk::<N>() else {
+            return Err(Refusal::InvalidRecord);
+        };
+        self.bytes = rest;
+        Ok(*front)
+    }
 
-// `count`: odd, up to nine.
-pub fn read_count(bytes: &[u8]) -> U8Read
-    ensures { u8_read result ≡ slot_count.dec bytes.now }
-{
-    let number = read_u8(bytes);
-    let U8Read::Read(value, n) = number else {
-        return number;
-    };
-    if !is_valid_count(value as usize) {
-        return U8Read::Refused(Answer::InvalidRecord);
+    // `u8`
+    #[tactic(auto, using(format::specs::Reads::reads_uint, format::specs::Reads::number_of_1))]
+    pub fn u8(&mut self) -> Result<u8, Refusal>
+        ensures { told result self.new.bytes.now ≡ reads (uint 1) self.old.bytes.now }
+    {
+        Ok(self.array::<1>()?[0])
     }
-    U8Read::Read(value, n)
-}
 
-// One of the numbers from low to high: a phase, a kind, a reason.
-pub fn read_choice(bytes: &[u8], low: u8, high: u8) -> U8Read
-    ensures { u8_read result ≡ (choice low high).dec bytes.now }
-{
-    let number = read_u8(bytes);
-    let U8Read::Read(value, n) = number else {
-        return number;
-    };
-    if !((low <= value) & (value <= high)) {
-        return U8Read::Refused(Answer::InvalidRecord);
+    // `u16`
+    #[tactic(auto, using(format::specs::Reads::reads_uint, format::specs::Reads::number_of_2))]
+    pub fn u16(&mut self) -> Result<u16, Refusal>
+        ensures { told result self.new.bytes.now ≡ reads (uint 2) self.old.bytes.now }
+    {
+        Ok(u16::from_be_bytes(self.array()?))
     }
-    U8Read::Read(value, n)
-}
 
-// The byte in front of an optional part.
-pub fn read_flag(bytes: &[u8]) -> BoolRead
-    ensures { bool_read result ≡ flag.dec bytes.now }
-{
-    let number = read_u8(bytes);
-    let U8Read::Read(value, n) = number else {
-        return BoolRead::Refused(why_u8(number));
-    };
-    if 1 < value {
-        return BoolRead::Refused(Answer::InvalidRecord);
+    // `u64`
+    #[tactic(auto, using(format::specs::Reads::reads_uint, format::specs::Reads::number_of_8))]
+    pub fn u64(&mut self) -> Result<u64, Refusal>
+        ensures { told result self.new.bytes.now ≡ reads (uint 8) self.old.bytes.now }
+    {
+        Ok(u64::from_be_bytes(self.array()?))
     }
-    BoolRead::Read(value == 1, n)
-}
 
-// `log_id`
-pub fn read_log_id(bytes: &[u8]) -> LogIdRead
-    ensures { log_id_read result ≡ log_id.dec bytes.now }
-{
-    let term_read = read_u64(bytes);
-    let U64Read::Read(term, at) = term_read else {
-        return LogIdRead::Refused(why_u64(term_read));
-    };
-    let index_read = read_u64(&bytes[at..]);
-    let U64Read::Read(index, n) = index_read else {
-        return LogIdRead::Refused(why_u64(index_read));
-    };
-    LogIdRead::Read(VoterSlotLogId { term, index }, at + n)
-}
+    // `epoch`
+    #[tactic(auto, using(format::specs::Reads::reads_check), unfolding(layout::specs::Layout::epoch, format::specs::Num::pick))]
+    pub fn epoch(&mut self) -> Result<ConsensusConfigurationEpoch, Refusal>
+        ensures { told result self.new.bytes.now ≡ reads epoch self.old.bytes.now }
+    {
+        let value = self.u64()?;
+        if !is_configuration_epoch(value) {
+            return Err(Refusal::InvalidRecord);
+        }
+        Ok(value)
+    }
 
-// `optional(Reader::log_id)`
-fn read_optional_log_id(bytes: &[u8]) -> OptionalLogIdRead
-    ensures { optional_log_id_read result ≡ optional_log_id.dec bytes.now }
-{
-    let first = read_flag(bytes);
-    let BoolRead::Read(is_some, at) = first else {
-        return OptionalLogIdRead::Refused(why_bool(first));
-    };
-    if !is_some {
-        let cut = VoterSlotLogId { term: 0, index: 0 };
-        return OptionalLogIdRead::Read(OptionalLogId { is_some, cut }, at);
+    // `incarnation`
+    #[tactic(auto, using(format::specs::Reads::reads_check), unfolding(layout::specs::Layout::incarnation))]
+    pub fn incarnation(&mut self) -> Result<VoterIncarnation, Refusal>
+        ensures { told result self.new.bytes.now ≡ reads incarnation self.old.bytes.now }
+    {
+        let value = self.u64()?;
+        validate_voter_incarnation(value)?;
+        Ok(value)
     }
-    let second = read_log_id(&bytes[at..]);
-    let LogIdRead::Read(cut, n) = second else {
-        return OptionalLogIdRead::Refused(why_log_id(second));
-    };
-    OptionalLogIdRead::Read(OptionalLogId { is_some, cut }, at + n)
-}
 
-// Three of the cuts that end the evidence.
-pub fn read_three_cuts(bytes: &[u8]) -> ThreeCutsRead
-    ensures { three_cuts_read result ≡ three_cuts.dec bytes.now }
-{
-    let first_read = read_optional_log_id(bytes);
-    let OptionalLogIdRead::Read(first, at) = first_read else {
-        return ThreeCutsRead::Refused(why_optional_log_id(first_read));
-    };
-    let second_read = read_optional_log_id(&bytes[at..]);
-    let OptionalLogIdRead::Read(second, n) = second_read else {
-        return ThreeCutsRead::Refused(why_optional_log_id(second_read));
-    };
-    let at = at + n;
-    let third_read = read_optional_log_id(&bytes[at..]);
-    let OptionalLogIdRead::Read(third, n) = third_read else {
-        return ThreeCutsRead::Refused(why_optional_log_id(third_read));
-    };
-    ThreeCutsRead::Read(
-        ThreeCuts {
-            first,
-            second,
-            third,
-        },
-        at + n,
-    )
-}
+    // `SlotId::new` of a number that was read
+    #[tactic(auto, using(format::specs::Reads::reads_check), unfolding(layout::specs::Layout::slot_id))]
+    fn slot_id(&mut self) -> Result<SlotId, Refusal>
+        ensures { told result self.new.bytes.now ≡ reads slot_id self.old.bytes.now }
+    {
+        let value = self.u16()?;
+        validate_slot_id(value)?;
+        Ok(value)
+    }
 
-// The times of an attestation.
-pub fn read_times(bytes: &[u8]) -> TimesRead
-    ensures { times_read result ≡ times.dec bytes.now }
-{
-    let observation_start_ms_read = read_u64(bytes);
-    let U64Read::Read(observation_start_ms, at) = observation_start_ms_read else {
-        return TimesRead::Refused(why_u64(observation_start_ms_read));
-    };
-    let decision_ms_read = read_u64(&bytes[at..]);
-    let U64Read::Read(decision_ms, n) = decision_ms_read else {
-        return TimesRead::Refused(why_u64(decision_ms_read));
-    };
-    let at = at + n;
-    let issued_ms_read = read_u64(&bytes[at..]);
-    let U64Read::Read(issued_ms, n) = issued_ms_read else {
-        return TimesRead::Refused(why_u64(issued_ms_read));
-    };
-    let at = at + n;
-    let expires_ms_read = read_u64(&bytes[at..]);
-    let U64Read::Read(expires_ms, n) = expires_ms_read else {
-        return TimesRead::Refused(why_u64(expires_ms_read));
-    };
-    TimesRead::Read(
-        Times {
-            observation_start_ms,
-            decision_ms,
-            issued_ms,
-            expires_ms,
-        },
-        at + n,
-    )
-}
+    // `identity`
+    #[tactic(auto, using(format::specs::Reads::reads_two), unfolding(layout::specs::Layout::identity))]
+    pub fn identity(&mut self) -> Result<VoterSlotIdentity, Refusal>
+        ensures { told result self.new.bytes.now ≡ reads identity self.old.bytes.now }
+    {
+        Ok(VoterSlotIdentity {
+            slot: self.slot_id()?,
+            incarnation: self.incarnation()?,
+        })
+    }
 
-// `identity_string`
-pub fn read_spiffe_id(bytes: &[u8]) -> SpiffeIdRead
-    ensures { (report result.answer, result.value) ≡ outcome blank_spiffe_id (spiffe_id.dec bytes.now) }
-{
-    let size = read_sized(bytes, MAX_VOTER_SPIFFE_ID_BYTES);
-    let SizedRead::Read(len, at) = size else {
-        return refused_spiffe_id(why_sized(size));
-    };
-    let end = at + len;
-    let text = &bytes[at..end];
-    if !is_utf8(text) {
-        return refused_spiffe_id(Answer::InvalidRecord);
+    // `count`: odd, up to nine.
+    #[tactic(auto, using(format::specs::Reads::reads_check, records::specs::ValidationLaws::count_small), unfolding(layout::specs::Layout::slot_count, format::specs::Num::pick))]
+    pub fn count(&mut self) -> Result<usize, Refusal>
+        ensures form { told result self.new.bytes.now ≡ reads slot_count self.old.bytes.now }
+        ensures small { IfOk result (λ count. count ≤ 9) }
+    {
+        let count = self.u8()? as usize;
+        if !is_valid_count(count) {
+            return Err(Refusal::InvalidRecord);
+        }
+        Ok(count)
     }
-    let mut place = zeros2048();
-    put_bytes(&mut place, 0, text);
-    SpiffeIdRead {
-        answer: Extent::To(end),
-        value: SpiffeId { len, bytes: place },
-    }
-}
 
-// `string(MAX_VOTER_SNAPSHOT_ID_BYTES)`
-pub fn read_snapshot_id(bytes: &[u8]) -> SnapshotIdRead
-    ensures { (report result.answer, result.value) ≡ outcome blank_snapshot_id (snapshot_id.dec bytes.now) }
-{
-    let size = read_sized(bytes, MAX_VOTER_SNAPSHOT_ID_BYTES);
-    let SizedRead::Read(len, at) = size else {
-        return refused_snapshot_id(why_sized(size));
-    };
-    let end = at + len;
-    let text = &bytes[at..end];
-    if !is_utf8(text) {
-        return refused_snapshot_id(Answer::InvalidRecord);
+    // One of the numbers from low to high: a phase, a kind, a reason.
+    #[tactic(auto, using(format::specs::Reads::reads_check), unfolding(layout::specs::Layout::choice, format::specs::Num::pick))]
+    pub fn choice(&mut self, low: u8, high: u8) -> Result<u8, Refusal>
+        ensures { told result self.new.bytes.now ≡ reads (choice low high) self.old.bytes.now }
+    {
+        let value = self.u8()?;
+        if !((low <= value) & (value <= high)) {
+            return Err(Refusal::InvalidRecord);
+        }
+        Ok(value)
     }
-    let mut place = zeros256();
-    put_bytes(&mut place, 0, text);
-    SnapshotIdRead {
-        answer: Extent::To(end),
-        value: SnapshotId { len, bytes: place },
-    }
-}
 
-// The version of an attestation.
-pub fn read_version(bytes: &[u8]) -> Extent
-    ensures { report result ≡ version.dec bytes.now }
-{
-    let number = read_u16(bytes);
-    let U16Read::Read(value, n) = number else {
-        return Extent::Refused(why_u16(number));
-    };
-    if value as u64 != VERSION {
-        return Extent::Refused(Answer::InvalidRecord);
+    // The byte in front of an optional part.
+    #[tactic(auto, using(format::specs::Reads::reads_flag), unfolding(format::specs::List::flag_test, format::specs::Num::pick))]
+    pub fn flag(&mut self) -> Result<bool, Refusal>
+        ensures { told result self.new.bytes.now ≡ reads flag self.old.bytes.now }
+    {
+        match self.u8()? {
+            0 => Ok(false),
+            1 => Ok(true),
+            _ => Err(Refusal::InvalidRecord),
+        }
     }
-    Extent::To(n)
-}
 
-// The magic and the version of a table: both are read before either is judged.
-pub fn read_head(bytes: &[u8]) -> Extent
-    ensures { report result ≡ magic_and_version.dec bytes.now }
-{
-    if bytes.len() < 4 {
-        return Extent::Refused(Answer::InvalidRecord);
+    // `log_id`
+    #[tactic(auto, using(format::specs::Reads::reads_two), unfolding(layout::specs::Layout::log_id))]
+    pub fn log_id(&mut self) -> Result<VoterSlotLogId, Refusal>
+        ensures { told result self.new.bytes.now ≡ reads log_id self.old.bytes.now }
+    {
+        Ok(VoterSlotLogId {
+            term: self.u64()?,
+            index: self.u64()?,
+        })
     }
-    let number = read_u16(&bytes[4..]);
-    let U16Read::Read(value, n) = number else {
-        return Extent::Refused(why_u16(number));
-    };
-    if !((bytes[0] == b'O') & ((bytes[1] == b'P') & ((bytes[2] == b'V') & (bytes[3] == b'I')))) {
-        return Extent::Refused(Answer::InvalidRecord);
+
+    // `optional(Reader::log_id)`. A method `optional` that takes the reader as a closure, as codec.rs
+    // has it, would ask for a clause of what each call of it leaves, and its three callers would be
+    // no shorter than they are: this, `optional_result` and `optional_snapshot`.
+    #[tactic(auto, using(format::specs::Reads::reads_via, format::specs::Reads::reads_opt), unfolding(layout::specs::Layout::optional_log_id, records::specs::Blank::blank_voter_slot_log_id))]
+    fn optional_log_id(&mut self) -> Result<OptionalLogId, Refusal>
+        ensures { told result self.new.bytes.now ≡ reads optional_log_id self.old.bytes.now }
+    {
+        let is_some = self.flag()?;
+        let cut = if is_some {
+            self.log_id()?
+        } else {
+            VoterSlotLogId { term: 0, index: 0 }
+        };
+        Ok(OptionalLogId { is_some, cut })
     }
-    if value as u64 != VERSION {
-        return Extent::Refused(Answer::FreshInstallationRequired);
+
+    // Three of the cuts that end the evidence.
+    #[tactic(auto, using(format::specs::Reads::reads_three), unfolding(layout::specs::Layout::three_cuts))]
+    pub fn three_cuts(&mut self) -> Result<ThreeCuts, Refusal>
+        ensures { told result self.new.bytes.now ≡ reads three_cuts self.old.bytes.now }
+    {
+        Ok(ThreeCuts {
+            first: self.optional_log_id()?,
+            second: self.optional_log_id()?,
+            third: self.optional_log_id()?,
+        })
     }
-    Extent::To(4 + n)
+
+    // The times of an attestation.
+    #[tactic(auto, using(format::specs::Reads::reads_four), unfolding(layout::specs::Layout::times))]
+    pub fn times(&mut self) -> Result<Times, Refusal>
+        ensures { told result self.new.bytes.now ≡ reads times self.old.bytes.now }
+    {
+        Ok(Times {
+            observation_start_ms: self.u64()?,
+            decision_ms: self.u64()?,
+            issued_ms: self.u64()?,
+            expires_ms: self.u64()?,
+        })
+    }
+
+    // `sized_bytes`
+    #[tactic(auto, using(format::specs::Reads::reads_dep, format::specs::Reads::reads_check), unfolding(layout::specs::Layout::sized, format::specs::Num::pick))]
+    pub fn sized_bytes(&mut self, bound: usize) -> Result<&'a [u8], Refusal>
+        ensures form { told_sized result self.new.bytes.now ≡ reads (sized bound) self.old.bytes.now }
+        ensures small { IfOk result (λ bytes. length bytes.now ≤ bound) }
+    {
+        let count = self.u16()? as usize;
+        if bound < count {
+            return Err(Refusal::TooLarge);
+        }
+        self.take(count)
+    }
+
+    // `string`, into a place of zeros: how many bytes; zeros stay after them.
+    #[tactic(auto, using(format::specs::Reads::reads_check, layout::specs::ReadingLaws::rest_of_zeros), unfolding(layout::specs::Layout::string, format::specs::Num::pick))]
+    pub fn string<const N: usize>(&mut self, place: &mut [u8; N]) -> Result<usize, Refusal>
+        requires { place.old ≡ zeros N }
+        ensures { told_beside result place.new self.new.bytes.now ≡ made_read (λ p. (p.0, placed N p)) (reads (string N) self.old.bytes.now) }
+    {
+        let bytes = self.sized_bytes(N)?;
+        if !is_utf8(bytes) {
+            return Err(Refusal::InvalidRecord);
+        }
+        place[..bytes.len()].copy_from_slice(bytes);
+        Ok(bytes.len())
+    }
+
+    // `identity_string`, into a place that is blank: returned, its 2 KB would be copied at each
+    // step.
+    #[tactic(auto, using(format::specs::Reads::reads_via, layout::specs::ReadingLaws::blank_bytes), unfolding(layout::specs::Layout::spiffe_id))]
+    pub fn spiffe_id(&mut self, place: &mut SpiffeId) -> Result<(), Refusal>
+        requires { place.old ≡ blank_spiffe_id }
+        ensures { told_at result place.new self.new.bytes.now ≡ reads spiffe_id self.old.bytes.now }
+    {
+        place.len = self.string(&mut place.bytes)?;
+        Ok(())
+    }
+
+    // `string(MAX_VOTER_SNAPSHOT_ID_BYTES)`
+    #[tactic(auto, using(format::specs::Reads::reads_via), unfolding(layout::specs::Layout::snapshot_id, format::specs::Copy::zeros))]
+    pub fn snapshot_id(&mut self) -> Result<SnapshotId, Refusal>
+        ensures { told result self.new.bytes.now ≡ reads snapshot_id self.old.bytes.now }
+    {
+        let mut bytes = [0; MAX_VOTER_SNAPSHOT_ID_BYTES];
+        let len = self.string(&mut bytes)?;
+        Ok(SnapshotId { len, bytes })
+    }
+
+    // The version of an attestation.
+    #[tactic(auto, using(format::specs::Reads::reads_via, format::specs::Reads::reads_check), unfolding(layout::specs::Layout::version, format::specs::Num::pick))]
+    pub fn version(&mut self) -> Result<(), Refusal>
+        ensures { told result self.new.bytes.now ≡ reads version self.old.bytes.now }
+    {
+        if self.u16()? as u64 != VERSION {
+            return Err(Refusal::InvalidRecord);
+        }
+        Ok(())
+    }
+
+    // The magic and the version of a table: both are read before either is judged.
+    #[tactic(auto, using(layout::specs::ReadingLaws::reads_magic, layout::specs::ReadingLaws::same_bytes), unfolding(layout::specs::Layout::head_test, format::specs::Num::pick))]
+    pub fn magic_and_version(&mut self) -> Result<(), Refusal>
+        ensures { told result self.new.bytes.now ≡ reads magic_and_version self.old.bytes.now }
+    {
+        let magic = self.array::<4>()?;
+        let version = self.u16()?;
+        if magic != *b"OPVI" {
+            return Err(Refusal::InvalidRecord);
+        }
+        if version as u64 != VERSION {
+            return Err(Refusal::FreshInstallationRequired);
+        }
+        Ok(())
+    }
+
+    // `finish`: nothing is left over.
+    #[tactic(auto, unfolding(format::specs::Num::pick))]
+    pub fn finish(self) -> Result<(), Refusal>
+        ensures { result ≡ pick (eqb (length self.entry.bytes.now) 0) Accepted InvalidRecord }
+    {
+        if !self.bytes.is_empty() {
+            return Err(Refusal::InvalidRecord);
+        }
+        Ok(())
+    }
 }

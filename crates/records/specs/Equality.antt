@@ -2,8 +2,9 @@
 -- element. Written by scripts/records.py.
 -- From voter_slots/records.rs and identity.rs: the `PartialEq` that the Rust derives.
 -- Assumes nothing.
-use Rattle.std.specs.Prelude.{ℕ, Bool, true, false, ◌&&◌, List, [], ◌∷◌, eqb}
+use Rattle.std.specs.Prelude.{ℕ, Bool, true, ◌&&◌, List, [], ◌∷◌, eqb}
 use Rattle.std.specs.Bool.{beq}
+use Rattle.std.specs.Cmp.Lexicographic.{pointwise}
 use Rattle.identity.specs.declared.identity.VoterSlotIdentity.{VoterSlotIdentity}
 use Rattle.records.specs.declared.records.SpiffeId.{SpiffeId}
 use Rattle.records.specs.declared.records.SnapshotId.{SnapshotId}
@@ -25,12 +26,9 @@ all_true [] = true
 all_true (p ∷ []) = p
 all_true (p ∷ (q ∷ ps)) = p && all_true (q ∷ ps)
 
--- two lists of one length, element by element
-unfoldable pub eq_list : {A : Type 0} → (A → A → Bool) → List A → List A → Bool
-eq_list f [] [] = true
-eq_list f [] (y ∷ b) = false
-eq_list f (x ∷ a) [] = false
-eq_list f (x ∷ a) (y ∷ b) = f x y && eq_list f a b
+-- two lists of one length, element by element: what `==` answers at arrays and slices
+abbrev pub eq_list : {A : Type 0} → (A → A → Bool) → List A → List A → Bool
+eq_list f a b = pointwise f a b
 
 abbrev pub eq_bytes : List ℕ → List ℕ → Bool
 eq_bytes a b = eq_list eqb a b

@@ -75,7 +75,6 @@ all_first p q ps h = rw h
 
 module _ {A : Type 0} (f : A → A → Bool) where
   pub eq_list-true : ((x y : A) → f x y ≡ true → x ≡ y) → (a b : List A) → eq_list f a b ≡ true → a ≡ b
-  unfolding eq_list
   eq_list-true d [] [] h = refl
   eq_list-true d [] (y ∷ b) h = absurd (false≢true h)
   eq_list-true d (x ∷ a) [] h = absurd (false≢true h)
@@ -86,13 +85,11 @@ module _ {A : Type 0} (f : A → A → Bool) where
       λ i. p i ∷ q i
 
   pub eq_list-refl : ((x : A) → f x x ≡ true) → (a : List A) → eq_list f a a ≡ true
-  unfolding eq_list
   eq_list-refl d [] = refl
   eq_list-refl d (x ∷ a) = rw (d x) (eq_list-refl d a)
 
   -- lists of two lengths differ
   pub eq_list-lengths : (a b : List A) → (length a ≡ length b → ⊥) → eq_list f a b ≡ false
-  unfolding eq_list
   eq_list-lengths [] [] n = absurd (n refl)
   eq_list-lengths [] (y ∷ b) n = refl
   eq_list-lengths (x ∷ a) [] n = refl
@@ -100,7 +97,6 @@ module _ {A : Type 0} (f : A → A → Bool) where
 
   eq_list-suc : (d : A) (a b : List A) (i : ℕ) → i < length a → i < length b
       → eq_list f (take (suc i) a) (take (suc i) b) ≡ (eq_list f (take i a) (take i b) && f (get_or a i d) (get_or b i d))
-  unfolding eq_list
   eq_list-suc d [] b i h k = absurd (omega arith)
   eq_list-suc d (x ∷ a) [] i h k = absurd (omega arith)
   eq_list-suc d (x ∷ a) (y ∷ b) zero h k = and-true (f x y)

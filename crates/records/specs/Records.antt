@@ -2,7 +2,7 @@
 -- From records.rs: `VoterSlotPhase`, `VoterReplacementPhase`, `VoterReplacementResultKind`,
 -- `VoterLossReason`, `MAX_FIXED_VOTER_SLOTS`.
 -- Assumes nothing.
-use Rattle.std.specs.Prelude.{ℕ, zero, suc, ◌+◌, Bool, true, false, cond, ◌&&◌, [], get_or}
+use Rattle.std.specs.Prelude.{ℕ, zero, suc, ◌+◌, Bool, true, false, cond, ◌&&◌, List, [], get_or, take}
 use Rattle.identity.specs.Identity.{identity_of}
 use Rattle.records.specs.declared.records.VoterSlotLogId.{VoterSlotLogId}
 use Rattle.records.specs.declared.records.VoterSlotMember.{VoterSlotMember}
@@ -106,3 +106,17 @@ slot_at t i = get_or t.slots i no_slot_record
 
 abbrev pub member_at : VoterConfiguration → ℕ → VoterSlotMember
 member_at c i = get_or c.members i no_member
+
+-- the members and the slots in use
+abbrev pub members_in_use : VoterConfiguration → List VoterSlotMember
+members_in_use c = take c.count c.members
+
+abbrev pub slots_in_use : VoterSlotTable → List VoterSlotRecord
+slots_in_use t = take t.count t.slots
+
+-- the member and the slot at a place of those in use
+abbrev pub member_in : List VoterSlotMember → ℕ → VoterSlotMember
+member_in members i = get_or members i no_member
+
+abbrev pub slot_in : List VoterSlotRecord → ℕ → VoterSlotRecord
+slot_in slots i = get_or slots i no_slot_record

@@ -3,11 +3,13 @@
 -- Each name here is a step of a proof; what is right is said in Records.
 -- Assumes nothing.
 use Prim.Native.Nat.{ℕ, zero, suc, ◌+◌, ◌-◌, ◌<◌, ◌≤◌}
-use Rattle.std.specs.Prelude.{◌≡◌, refl, Bool, true, false, ◌&&◌, ◌||◌, leb, eqb}
+use Rattle.std.specs.Prelude.{◌≡◌, refl, Bool, true, false, cond, not, ◌&&◌, ◌||◌, leb, eqb, List, [], ◌∷◌, length, get_or, take}
 use Rattle.std.proofs.Common.{ap, ◌∙◌, add-one, le-leb, eqb-true}
 use Rattle.std.proofs.Math.Bool.{and-true, and-eq-true_iff}
 use native.Mathlib.Omega.{arith}
 use Rattle.std.proofs.lemmas.Bool.{lt-leb, eqb-false}
+use Rattle.std.proofs.lemmas.List.{get_or-take}
+use Rattle.std.specs.List.{position_or_len}
 use Rattle.records.specs.Records.{all_below, first_from}
 
 -- one more place
@@ -49,6 +51,30 @@ pub all_below-eight : (p : ℕ → Bool) (n m : ℕ) → n - 1 ≤ m → all_bel
 all_below-eight p n m h =
     all_below-after p (λ i. leb n (i + 1) || p i) (n - 1) m h (λ i k. rw (lt-leb n (i + 1) (omega arith))) (λ i k. rw (le-leb n (i + 1) (omega arith)))
 
+-- ---- the places in use: the first n of a list
+
+module _ {A : Type 0} (d : A) (xs ys : List A) (n : ℕ) (e : ys ≡ take n xs) (h : length ys ≡ n) where
+  pub front-at : (i : ℕ) → i < n → get_or ys i d ≡ get_or xs i d
+  front-at i l = ap (λ (zs : List A). get_or zs i d) e ∙ get_or-take n xs i d l
+
+  -- a test of each
+  pub front-each : (p : A → Bool) → all_below (λ i. p (get_or ys i d)) (length ys) ≡ all_below (λ i. p (get_or xs i d)) n
+  front-each p = rw h (all_below-same _ _ n (λ i l. ap p (front-at i l)))
+
+  -- a test of each with the next
+  pub front-neighbours : (p : A → A → Bool)
+      → all_below (λ i. p (get_or ys i d) (get_or ys (i + 1) d)) (length ys - 1) ≡ all_below (λ i. p (get_or xs i d) (get_or xs (i + 1) d)) (n - 1)
+  front-neighbours p =
+      rw h (all_below-same _ _ (n - 1) (λ i l. rw (front-at i (omega arith), front-at (i + 1) (omega arith))))
+
+  -- a test of each with those before it
+  pub front-before : (p : A → A → Bool)
+      → all_below (λ i. all_below (λ j. p (get_or ys j d) (get_or ys i d)) i) (length ys)
+      ≡ all_below (λ i. all_below (λ j. p (get_or xs j d) (get_or xs i d)) i) n
+  front-before p =
+      rw h
+      (all_below-same _ _ n (λ i l. all_below-same _ _ i (λ j k. rw (front-at j (omega arith), front-at i l))))
+
 -- ---- the first place of which a test holds
 
 module _ (p : ℕ → Bool) (n i : ℕ) where
@@ -81,3 +107,21 @@ pub all_below-all : (p : ℕ → Bool) (n : ℕ) → ((i : ℕ) → i < n → p 
 unfolding all_below
 all_below-all p zero h = refl
 all_below-all p (suc n) h = rw (all_below-all p n (λ i l. h i (omega arith)), h n (omega arith))
+
+-- the first of the elements of a list
+pub first-position : {A : Type 0} (p : A → Bool) (d : A) (q : ℕ → Bool) (xs : List A) (i : ℕ)
+    → ((j : ℕ) → j < length xs → q (i + j) ≡ p (get_or xs j d)) → first_from q (length xs) i ≡ i + position_or_len p xs
+unfolding first_from
+first-position p d q [] i h = omega arith
+first-position p d q (x ∷ xs) i h =
+    rw (here, first-position p d q xs (i + 1) (λ j l. rest j l)) (by (p x))
+  where
+    here : q i ≡ p x
+    here = let e : i ≡ i + 0 = omega arith in ap q e ∙ h 0 (omega arith)
+
+    rest : (j : ℕ) → j < length xs → q (i + 1 + j) ≡ p (get_or xs j d)
+    rest j l = let e : i + 1 + j ≡ i + suc j = omega arith in ap q e ∙ h (suc j) (omega arith)
+
+    by : (b : Bool) → cond b i (i + 1 + position_or_len p xs) ≡ i + cond (not b) (1 + position_or_len p xs) 0
+    by true = omega arith
+    by false = omega arith

@@ -6,10 +6,8 @@
 -- Assumes nothing.
 use Rattle.std.specs.Prelude.{ℕ, ◌+◌, Bool, false, cond, not, ◌&&◌, ◌||◌, eqb, leb, ltb}
 use Rattle.identity.specs.Conditions.{◌and◌}
-use Rattle.identity.specs.Answer.{is_accepted}
+use Rattle.identity.specs.Answer.{is_accepted, Answer, Accepted, IncarnationExhausted, Regression, Unrepresentable}
 use Rattle.identity.specs.Identity.{max_voter_incarnation}
-use Rattle.identity.specs.declared.answer.Answer.{Answer}
-use Rattle.identity.specs.declared.answer.Answer.TheVariants.{Accepted, IncarnationExhausted, Regression, Unrepresentable}
 use Rattle.records.specs.Equality.{eq_bytes, same_voter_slot_member, same_voter_replacement_result, same_lost_voter_attestation_v1, same_voter_configuration, same_voter_slot_table}
 use Rattle.records.specs.Records.{fenced, completed, all_below, first_from, slot_at}
 use Rattle.records.specs.Representable.{representable}

@@ -8,7 +8,7 @@
 use Rattle.std.specs.Prelude.{ℕ, ◌+◌, ◌-◌, ◌%◌, ◌<◌, ◌≤◌, refl, ◌≡◌, Bool, true, false, eqb}
 use Rattle.std.proofs.Common.{sym, subst, inl, le_refl, eqb-true, leb-true, ltb-true, eq-eqb, le-leb}
 use Rattle.std.proofs.lemmas.Bool.{eqb-false}
-use Rattle.identity.specs.declared.answer.Answer.TheVariants.{Accepted, Regression}
+use Rattle.identity.specs.Answer.{Accepted, Regression}
 use Rattle.records.specs.declared.records.VoterSlotRecord.{VoterSlotRecord}
 use Rattle.records.specs.declared.records.VoterReplacementRecord.{VoterReplacementRecord}
 use Rattle.records.specs.declared.records.VoterSlotTable.{VoterSlotTable}

@@ -9,10 +9,8 @@ use Rattle.std.proofs.Math.Bool.{true, false, cond, and-true}
 use Rattle.std.proofs.lemmas.Bool.{false≢true}
 use Rattle.std.proofs.Math.Dec.{eqb}
 use borrow.Author.Tests.{eqb-true, eqb-false, eq-eqb, ne_eqb, le-leb, lt-ltb, le-ltb}
-use Rattle.identity.specs.Answer.{is_accepted}
+use Rattle.identity.specs.Answer.{is_accepted, Answer, Accepted, Regression, Unrepresentable}
 use Rattle.identity.specs.Utf8Laws.{and_left, and_right}
-use Rattle.identity.specs.declared.answer.Answer.{Answer}
-use Rattle.identity.specs.declared.answer.Answer.TheVariants.{Accepted, Regression, Unrepresentable}
 use Rattle.records.specs.declared.records.VoterSlotRecord.{VoterSlotRecord}
 use Rattle.records.specs.declared.records.VoterReplacementResult.{VoterReplacementResult}
 use Rattle.records.specs.declared.records.VoterReplacementRecord.{VoterReplacementRecord}

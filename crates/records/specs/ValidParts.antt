@@ -11,8 +11,7 @@ use Rattle.std.proofs.Math.Dec.{eqb}
 use borrow.Author.Tests.{eqb-true, eqb-false, leb-true, leb-false, ltb-true, eq-eqb, ne_eqb, le-leb, lt-ltb}
 use Rattle.identity.specs.Identity.{max_voter_incarnation}
 use Rattle.identity.specs.Utf8Laws.{and_left, and_right}
-use Rattle.identity.specs.declared.answer.Answer.{Answer}
-use Rattle.identity.specs.declared.answer.Answer.TheVariants.{Unrepresentable, Accepted, IncarnationExhausted, InvalidRecord}
+use Rattle.identity.specs.Answer.{Answer, Unrepresentable, Accepted, IncarnationExhausted, InvalidRecord}
 use Rattle.records.specs.declared.records.VoterSlotMember.{VoterSlotMember}
 use Rattle.records.specs.declared.records.VoterSlotRecord.{VoterSlotRecord}
 use Rattle.records.specs.declared.records.VoterConfiguration.{VoterConfiguration}

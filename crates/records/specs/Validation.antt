@@ -5,11 +5,9 @@
 -- Assumes nothing.
 use Rattle.std.specs.Prelude.{ℕ, zero, suc, ◌+◌, ◌-◌, ◌%◌, ◌≡◌, Bool, true, cond, not, ◌&&◌, ◌||◌, take, eqb, leb, ltb}
 use Rattle.identity.specs.Conditions.{◌and◌}
-use Rattle.identity.specs.Answer.{is_accepted}
+use Rattle.identity.specs.Answer.{is_accepted, Answer, Accepted, IncarnationExhausted, InvalidRecord, Unrepresentable}
 use Rattle.identity.specs.Identity.{max_voter_incarnation}
 use Rattle.identity.specs.Text.{is_name, max_spiffe_id_bytes}
-use Rattle.identity.specs.declared.answer.Answer.{Answer}
-use Rattle.identity.specs.declared.answer.Answer.TheVariants.{Accepted, IncarnationExhausted, InvalidRecord, Unrepresentable}
 use Rattle.records.specs.Equality.{eq_bytes, same_voter_slot_log_id, same_voter_slot_member}
 use Rattle.records.specs.Records.{max_fixed_voter_slots, min_replacement_slots, pending, catching_up, voting, snapshot_installed, fenced, uniform, completed, superseded, all_below, slot_at, member_at}
 use Rattle.records.specs.Evidence.{valid_log_id, valid_evidence}
@@ -43,8 +41,8 @@ valid_configuration c =
 abbrev pub valid_spiffe_id : SpiffeId → Bool
 valid_spiffe_id s = leb s.len max_spiffe_id_bytes && is_name (take s.len s.bytes)
 
--- Both names of an attestation are valid. No rule of its own: it is what the inner function
--- `validate_operation` requires, since its caller looks at the names.
+-- Both names of an attestation are valid. No rule of its own: with it the numbers alone decide
+-- (`names-hold` of ValidationLaws).
 pub record NamesHold (a : LostVoterAttestationV1) : Type 0 where
   pub candidate : valid_spiffe_id a.candidate_spiffe_id ≡ true
   pub controller : valid_spiffe_id a.controller_spiffe_id ≡ true

@@ -3,16 +3,13 @@
 -- Each name here is a step of a proof; what is right is said in Validation.
 -- Assumes nothing.
 use Prim.Native.Nat.{ℕ, zero, suc, ◌+◌, ◌-◌, ◌%◌, ◌<◌, ◌≤◌}
-use Rattle.std.specs.Prelude.{◌≡◌, refl, Bool, true, false, not, ◌&&◌, eqb, leb, ltb}
-use Rattle.std.proofs.Common.{sym, ap, ◌∙◌, add-one, eqb-true, leb-true, ltb-true}
+use Rattle.std.specs.Prelude.{◌≡◌, refl, Ok, Err, Bool, true, false, not, ◌&&◌, List, eqb, leb, ltb}
+use Rattle.std.proofs.Common.{sym, ap, ◌∙◌, add-one, leb-true, ltb-true}
 use Rattle.std.proofs.Math.Bool.{and-eq-true_iff, and-false}
 use native.Mathlib.Omega.{arith}
 use Rattle.std.proofs.lemmas.Bool.{not-true, not-false}
-use Rattle.identity.specs.Answer.{number_of, is_accepted}
-use Rattle.identity.specs.AnswerLaws.{number-injective}
-use Rattle.identity.specs.declared.answer.Answer.{Answer}
-use Rattle.identity.specs.declared.answer.Answer.TheVariants.{Accepted, InvalidRecord}
-use Rattle.records.specs.Records.{all_below, slot_at, member_at}
+use Rattle.identity.specs.Answer.{is_accepted, Answer, Accepted, InvalidRecord}
+use Rattle.records.specs.Records.{all_below, slot_at, slot_in, member_at}
 use Rattle.records.specs.RecordsLaws.{all_below-all}
 use Rattle.records.specs.Equality.{same_voter_slot_member}
 use Rattle.records.specs.Validation.{require_of, valid_count, valid_spiffe_id, NamesHold, valid_attestation, valid_operation, distinct_results, claims_of, other_member, other_request, validate_member, validate_members, validate_operation}
@@ -64,15 +61,16 @@ controller-fails t h = rw (h, and-false (valid_spiffe_id t.replacement.attestati
 -- ---- the receipts
 
 -- a slot without a receipt is distinct from all others
-pub distinct_without : (t : VoterSlotTable) (i : ℕ) → (slot_at t i).has_last_result ≡ false
-    → all_below (λ j. distinct_results (slot_at t j) (slot_at t i)) i ≡ true
-distinct_without t i h = all_below-all (λ j. distinct_results (slot_at t j) (slot_at t i)) i (λ j l. rw (h, and-false (slot_at t j).has_last_result))
+pub distinct_without : (slots : List VoterSlotRecord) (i : ℕ) → (slot_in slots i).has_last_result ≡ false
+    → all_below (λ j. distinct_results (slot_in slots j) (slot_in slots i)) i ≡ true
+distinct_without slots i h = all_below-all (λ j. distinct_results (slot_in slots j) (slot_in slots i)) i (λ j l. rw (h, and-false (slot_in slots j).has_last_result))
 
 -- ---- the slots one by one
 
 -- an answer that counts as accepted is that one
 pub is-accepted : (a : Answer) → is_accepted a ≡ true → a ≡ Accepted
-is-accepted a h = number-injective a Accepted (eqb-true (number_of a) 0 h)
+is-accepted (Ok nothing) h = refl
+is-accepted (Err e) h = absurd (let z : ◌≡◌ {A = ℕ} 0 1 = cc in omega arith)
 
 -- two requirements in turn are one
 require-and : (a b : Bool) → require_of (a && b) Accepted ≡ require_of a (require_of b Accepted)

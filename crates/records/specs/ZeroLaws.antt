@@ -12,7 +12,7 @@ use Rattle.records.specs.EqualityLaws.{eq_list-more}
 use Rattle.records.specs.Representable.{is_zero}
 
 zeros-same : (a : List ℕ) → eq_bytes a (replicate (length a) 0) ≡ every is_zero a
-unfolding every eq_list
+unfolding every
 zeros-same [] = refl
 zeros-same (x ∷ a) = ap (λ (t : Bool). is_zero x && t) (zeros-same a)
 

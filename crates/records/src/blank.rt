@@ -1,5 +1,8 @@
 // The blank of each record, all zero: what stands where a record is absent or was refused.
 // Written by scripts/records.py.
+//
+// A derived `Default` is as fast, and of an array it says only that each element is a default: the
+// layers above rest on the whole value, which these clauses name.
 ghost use Rattle.std.specs.Prelude.{◌≡◌};
 ghost use Rattle.records.specs.Blank.{blank_voter_slot_identity, blank_spiffe_id, blank_snapshot_id, blank_voter_slot_log_id, blank_optional_log_id, blank_voter_slot_member, blank_voter_replacement_result, blank_voter_slot_record, blank_voter_snapshot_evidence, blank_voter_configuration, blank_lost_voter_attestation_v1, blank_voter_replacement_evidence, blank_voter_replacement_record, blank_voter_slot_table};
 

@@ -1,12 +1,9 @@
 // Numbers that follow one another: the `checked_add(1)` and `next()` of the original.
 ghost use Rattle.std.specs.Prelude.{◌≡◌, ◌+◌, eqb};
 
-// Whether next is one more than value. No sum is made, so that none can overflow.
+// Whether next is one more than value.
 pub fn is_next(value: u64, next: u64) -> bool
     ensures { result ≡ eqb (value + 1) next }
 {
-    if next == 0 {
-        return false;
-    }
-    value == next - 1
+    value.checked_add(1) == Some(next)
 }

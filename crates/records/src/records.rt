@@ -4,6 +4,9 @@
 // 717de332e7, Apache-2.0 (see NOTICE). Changed: a `Vec` is nine places and a count, a `String` is
 // bytes and a length, an `Option` is a yes or no next to the record; what is after a count or a
 // length and what is absent is zero; enums that a table holds are numbers with names.
+ghost use Rattle.std.specs.Prelude.{◌≡◌, ◌≤◌, length};
+ghost use Rattle.records.specs.Records.{slots_in_use, members_in_use};
+
 use identity::identity::*;
 use identity::text::{MAX_VOTER_SNAPSHOT_ID_BYTES, MAX_VOTER_SPIFFE_ID_BYTES};
 
@@ -57,7 +60,7 @@ pub const TIME_BOUND_LOSS: u8 = 2;
 
 // The name of a controller or a candidate: so many bytes, zero after them.
 #[repr(C)]
-#[derive(Clone, Copy)]
+#[derive(Clone, Copy, PartialEq, Eq)]
 pub struct SpiffeId {
     // Bytes in use, at most 2,048.
     pub len: usize,
@@ -67,7 +70,7 @@ pub struct SpiffeId {
 
 // The id of a snapshot: so many bytes, zero after them.
 #[repr(C)]
-#[derive(Clone, Copy)]
+#[derive(Clone, Copy, PartialEq, Eq)]
 pub struct SnapshotId {
     // Bytes in use, at most 256.
     pub len: usize,
@@ -77,7 +80,7 @@ pub struct SnapshotId {
 
 // A cut: a position in the log.
 #[repr(C)]
-#[derive(Clone, Copy)]
+#[derive(Clone, Copy, PartialEq, Eq)]
 pub struct VoterSlotLogId {
     // Engine leader term, retained without rewriting after replacement.
     pub term: u64,
@@ -87,7 +90,7 @@ pub struct VoterSlotLogId {
 
 // A cut that may be absent; it is 0, 0 then.
 #[repr(C)]
-#[derive(Clone, Copy)]
+#[derive(Clone, Copy, PartialEq, Eq)]
 pub struct OptionalLogId {
     // Whether the cut is present.
     pub is_some: bool,
@@ -97,7 +100,7 @@ pub struct OptionalLogId {
 
 // Public incarnation binding. No field establishes possession or authorization.
 #[repr(C)]
-#[derive(Clone, Copy)]
+#[derive(Clone, Copy, PartialEq, Eq)]
 pub struct VoterSlotMember {
     // Installation-scoped slot and incarnation.
     pub identity: VoterSlotIdentity,
@@ -111,7 +114,7 @@ pub struct VoterSlotMember {
 
 // One bounded per-slot receipt; floors still reject older attempts after pruning it.
 #[repr(C)]
-#[derive(Clone, Copy)]
+#[derive(Clone, Copy, PartialEq, Eq)]
 pub struct VoterReplacementResult {
     // Terminal request identity.
     pub request_id: ConsensusRequestId,
@@ -131,7 +134,7 @@ pub struct VoterReplacementResult {
 
 // Permanent retirement floor and bounded idempotency receipt for one manifest slot.
 #[repr(C)]
-#[derive(Clone, Copy)]
+#[derive(Clone, Copy, PartialEq, Eq)]
 pub struct VoterSlotRecord {
     // Currently selected incarnation and its public binding.
     pub member: VoterSlotMember,
@@ -147,7 +150,7 @@ pub struct VoterSlotRecord {
 
 // Exact artifact initially installed before adding the replacement learner.
 #[repr(C)]
-#[derive(Clone, Copy)]
+#[derive(Clone, Copy, PartialEq, Eq)]
 pub struct VoterSnapshotEvidence {
     // Full committed cut included by the artifact.
     pub cut: VoterSlotLogId,
@@ -159,7 +162,7 @@ pub struct VoterSnapshotEvidence {
 
 // Exact canonical configuration, sorted by immutable slot ordinal.
 #[repr(C)]
-#[derive(Clone, Copy)]
+#[derive(Clone, Copy, PartialEq, Eq)]
 pub struct VoterConfiguration {
     // Monotonic uniform configuration epoch.
     pub epoch: ConsensusConfigurationEpoch,
@@ -171,7 +174,7 @@ pub struct VoterConfiguration {
 
 // Bounded signed claims retained with a replacement (RFC 023, version 1): untrusted data.
 #[repr(C)]
-#[derive(Clone, Copy)]
+#[derive(Clone, Copy, PartialEq, Eq)]
 pub struct LostVoterAttestationV1 {
     // Caller-stable idempotency identity.
     pub request_id: ConsensusRequestId,
@@ -213,7 +216,7 @@ pub struct LostVoterAttestationV1 {
 
 // Retained full engine cuts. Optional continuation depends on activation family.
 #[repr(C)]
-#[derive(Clone, Copy)]
+#[derive(Clone, Copy, PartialEq, Eq)]
 pub struct VoterReplacementEvidence {
     // Committed retirement and reservation cut.
     pub prepare: VoterSlotLogId,
@@ -237,7 +240,7 @@ pub struct VoterReplacementEvidence {
 
 // One durable desired replacement; decode alone never establishes authorization.
 #[repr(C)]
-#[derive(Clone, Copy)]
+#[derive(Clone, Copy, PartialEq, Eq)]
 pub struct VoterReplacementRecord {
     // Exact table revision against which the reservation was submitted.
     pub expected_revision: u64,
@@ -255,7 +258,7 @@ pub struct VoterReplacementRecord {
 
 // Reserved durable incarnation metadata, atomically included in store snapshots.
 #[repr(C)]
-#[derive(Clone, Copy)]
+#[derive(Clone, Copy, PartialEq, Eq)]
 pub struct VoterSlotTable {
     // Installation identity, never derived solely from a reused display name.
     pub cluster_instance: ConsensusClusterId,
@@ -273,4 +276,26 @@ pub struct VoterSlotTable {
     pub has_replacement: bool,
     // At most one active replacement across the entire installation.
     pub replacement: VoterReplacementRecord,
+}
+
+impl VoterConfiguration {
+    // Its members, without the blanks.
+    pub fn members_in_use(&self) -> &[VoterSlotMember]
+        requires { self.now.count ≤ 9 }
+        ensures members { result.now ≡ members_in_use self.now }
+        ensures count { length result.now ≡ self.now.count }
+    {
+        &self.members[..self.count]
+    }
+}
+
+impl VoterSlotTable {
+    // Its slots, without the blanks.
+    pub fn slots_in_use(&self) -> &[VoterSlotRecord]
+        requires { self.now.count ≤ 9 }
+        ensures slots { result.now ≡ slots_in_use self.now }
+        ensures count { length result.now ≡ self.now.count }
+    {
+        &self.slots[..self.count]
+    }
 }

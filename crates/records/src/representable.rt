@@ -14,66 +14,73 @@ use crate::zero::*;
 use identity::identity::{MAX_VOTER_INCARNATION, VoterIncarnation};
 use identity::text::{MAX_VOTER_SNAPSHOT_ID_BYTES, MAX_VOTER_SPIFFE_ID_BYTES, is_utf8};
 
+impl VoterSlotTable {
+    // Whether the Rust types can hold the table.
+    #[tactic(auto, unfolding(crate::specs::Representable::representable))]
+    pub fn is_representable(&self) -> bool
+        ensures { result ≡ representable self.now }
+    {
+        if self.configuration_epoch < 1 {
+            return false;
+        }
+        if MAX_FIXED_VOTER_SLOTS < self.count {
+            return false;
+        }
+        if !self.slot_places() {
+            return false;
+        }
+        if self.has_replacement {
+            return self.replacement.is_representable();
+        }
+        is_blank_voter_replacement_record(self.replacement)
+    }
+
+    // The nine places: a slot in each below the count, and a blank in each after it.
+    #[tactic(auto, unfolding(crate::specs::Records::all_below))]
+    fn slot_places(&self) -> bool
+        ensures { result ≡ all_below (λ i. slot_place (leb self.now.count i) (slot_at self.now i)) 9 }
+    {
+        let mut all = true;
+        for (i, slot) in self.slots.iter().enumerate() {
+            let held = if self.count <= i {
+                is_blank_voter_slot_record(*slot)
+            } else {
+                slot.is_representable()
+            };
+            all = all & held;
+        }
+        all
+    }
+}
+
 // Whether the Rust types can hold the table.
 pub fn is_representable(table: VoterSlotTable) -> bool
     ensures { result ≡ representable table }
 {
-    if table.configuration_epoch < 1 {
-        return false;
-    }
-    if MAX_FIXED_VOTER_SLOTS < table.count {
-        return false;
-    }
-    if !slot_places(table) {
-        return false;
-    }
-    let replacement = table.replacement;
-    if table.has_replacement {
-        return is_representable_replacement(replacement);
-    }
-    is_blank_voter_replacement_record(replacement)
+    table.is_representable()
 }
 
-// The nine places: a slot in each below the count, and a blank in each after it. A place is copied
-// out in the arm that looks at it, so that no field is read for nothing.
-fn slot_places(table: VoterSlotTable) -> bool
-    ensures { result ≡ all_below (λ i. slot_place (leb table.count i) (slot_at table i)) 9 }
-{
-    let slots = table.slots;
-    let mut all = true;
-    let mut i = 0;
-    while i < MAX_FIXED_VOTER_SLOTS {
-        if table.count <= i {
-            let slot = slots[i];
-            all = all & is_blank_voter_slot_record(slot);
-        } else {
-            let slot = slots[i];
-            all = all & is_representable_slot_record(slot);
+impl VoterSlotRecord {
+    // Whether the Rust types can hold the slot's record.
+    #[tactic(auto, unfolding(crate::specs::Representable::representable_slot_record))]
+    fn is_representable(&self) -> bool
+        ensures { result ≡ representable_slot_record self.now }
+    {
+        if !is_representable_member(self.member) {
+            return false;
         }
-        i += 1;
+        if VOTING < self.phase {
+            return false;
+        }
+        if self.has_last_result {
+            return self.last_result.is_representable();
+        }
+        is_blank_voter_replacement_result(self.last_result)
     }
-    all
-}
-
-// Whether the Rust types can hold the slot's record.
-fn is_representable_slot_record(slot: VoterSlotRecord) -> bool
-    ensures { result ≡ representable_slot_record slot }
-{
-    let member = slot.member;
-    if !is_representable_member(member) {
-        return false;
-    }
-    if VOTING < slot.phase {
-        return false;
-    }
-    let last_result = slot.last_result;
-    if slot.has_last_result {
-        return is_representable_result(last_result);
-    }
-    is_blank_voter_replacement_result(last_result)
 }
 
 // Whether the Rust types can hold the member.
+#[tactic(auto, unfolding(crate::specs::Representable::representable_member))]
 pub fn is_representable_member(member: VoterSlotMember) -> bool
     ensures { result ≡ representable_member member }
 {
@@ -87,71 +94,86 @@ fn is_incarnation(value: VoterIncarnation) -> bool
     (1 <= value) & (value <= MAX_VOTER_INCARNATION)
 }
 
-// Whether the Rust types can hold the receipt.
-fn is_representable_result(res: VoterReplacementResult) -> bool
-    ensures { result ≡ representable_result res }
-{
-    is_incarnation(res.incarnation) & ((1 <= res.configuration_epoch) & (res.kind <= SUPERSEDED))
+impl VoterReplacementResult {
+    // Whether the Rust types can hold the receipt.
+    #[tactic(auto, unfolding(crate::specs::Representable::representable_result))]
+    fn is_representable(&self) -> bool
+        ensures { result ≡ representable_result self.now }
+    {
+        is_incarnation(self.incarnation)
+            & ((1 <= self.configuration_epoch) & (self.kind <= SUPERSEDED))
+    }
 }
 
-// Whether the Rust types can hold the replacement.
-fn is_representable_replacement(replacement: VoterReplacementRecord) -> bool
-    ensures { result ≡ representable_replacement replacement }
-{
-    let attestation = replacement.attestation;
-    if !is_representable_attestation(attestation) {
-        return false;
+impl VoterReplacementRecord {
+    // Whether the Rust types can hold the replacement.
+    #[tactic(auto, unfolding(crate::specs::Representable::representable_replacement))]
+    fn is_representable(&self) -> bool
+        ensures { result ≡ representable_replacement self.now }
+    {
+        if !self.attestation.is_representable() {
+            return false;
+        }
+        if !self.predecessor.is_representable() {
+            return false;
+        }
+        if !self.successor.is_representable() {
+            return false;
+        }
+        if UNIFORM < self.phase {
+            return false;
+        }
+        self.evidence.is_representable()
     }
-    let predecessor = replacement.predecessor;
-    if !is_representable_configuration(predecessor) {
-        return false;
+}
+
+impl LostVoterAttestationV1 {
+    // Whether the Rust types can hold the attestation.
+    #[tactic(auto, unfolding(crate::specs::Representable::representable_attestation))]
+    fn is_representable(&self) -> bool
+        ensures { result ≡ representable_attestation self.now }
+    {
+        let candidate_held = self.candidate_spiffe_id.is_representable();
+        let controller_held = self.controller_spiffe_id.is_representable();
+        (1 <= self.slot)
+            & (is_incarnation(self.expected_incarnation)
+                & (candidate_held
+                    & (controller_held
+                        & ((STORAGE_LOST <= self.reason) & (self.reason <= TIME_BOUND_LOSS)))))
     }
-    let successor = replacement.successor;
-    if !is_representable_configuration(successor) {
-        return false;
-    }
-    if UNIFORM < replacement.phase {
-        return false;
-    }
-    let evidence = replacement.evidence;
-    is_representable_evidence(evidence)
 }
 
 // Whether the Rust types can hold the attestation.
 pub fn is_representable_attestation(attestation: LostVoterAttestationV1) -> bool
     ensures { result ≡ representable_attestation attestation }
 {
-    let candidate = attestation.candidate_spiffe_id;
-    let candidate_held = is_representable_spiffe_id(candidate);
-    let controller = attestation.controller_spiffe_id;
-    let controller_held = is_representable_spiffe_id(controller);
-    let reason = attestation.reason;
-    (1 <= attestation.slot)
-        & (is_incarnation(attestation.expected_incarnation)
-            & (candidate_held
-                & (controller_held & ((STORAGE_LOST <= reason) & (reason <= TIME_BOUND_LOSS)))))
+    attestation.is_representable()
 }
 
-// Whether the name is UTF-8 with zeros after it.
-fn is_representable_spiffe_id(id: SpiffeId) -> bool
-    ensures { result ≡ representable_spiffe_id id }
-{
-    let len = id.len;
-    if MAX_VOTER_SPIFFE_ID_BYTES < len {
-        return false;
+impl SpiffeId {
+    // Whether the name is UTF-8 with zeros after it.
+    #[tactic(auto, unfolding(crate::specs::Representable::is_text))]
+    fn is_representable(&self) -> bool
+        ensures { result ≡ representable_spiffe_id self.now }
+    {
+        if MAX_VOTER_SPIFFE_ID_BYTES < self.len {
+            return false;
+        }
+        is_text(&self.bytes, self.len)
     }
-    is_text(&id.bytes, len)
 }
 
-// Whether the snapshot id is UTF-8 with zeros after it.
-fn is_representable_snapshot_id(id: SnapshotId) -> bool
-    ensures { result ≡ representable_snapshot_id id }
-{
-    let len = id.len;
-    if MAX_VOTER_SNAPSHOT_ID_BYTES < len {
-        return false;
+impl SnapshotId {
+    // Whether the snapshot id is UTF-8 with zeros after it.
+    #[tactic(auto, unfolding(crate::specs::Representable::is_text))]
+    fn is_representable(&self) -> bool
+        ensures { result ≡ representable_snapshot_id self.now }
+    {
+        if MAX_VOTER_SNAPSHOT_ID_BYTES < self.len {
+            return false;
+        }
+        is_text(&self.bytes, self.len)
     }
-    is_text(&id.bytes, len)
 }
 
 // So many bytes of UTF-8, and zeros after them.
@@ -164,31 +186,32 @@ fn is_text(bytes: &[u8], len: usize) -> bool
     utf8 & filler
 }
 
-// Whether the Rust types can hold the configuration.
-fn is_representable_configuration(configuration: VoterConfiguration) -> bool
-    ensures { result ≡ representable_configuration configuration }
-{
-    if configuration.epoch < 1 {
-        return false;
+impl VoterConfiguration {
+    // Whether the Rust types can hold the configuration.
+    #[tactic(auto, unfolding(crate::specs::Representable::representable_configuration))]
+    fn is_representable(&self) -> bool
+        ensures { result ≡ representable_configuration self.now }
+    {
+        if self.epoch < 1 {
+            return false;
+        }
+        if MAX_FIXED_VOTER_SLOTS < self.count {
+            return false;
+        }
+        self.member_places()
     }
-    if MAX_FIXED_VOTER_SLOTS < configuration.count {
-        return false;
-    }
-    member_places(configuration)
-}
 
-// The nine places: a member in each below the count, and a blank in each after it.
-fn member_places(configuration: VoterConfiguration) -> bool
-    ensures { result ≡ all_below (λ i. member_place (leb configuration.count i) (member_at configuration i)) 9 }
-{
-    let mut all = true;
-    let mut i = 0;
-    while i < MAX_FIXED_VOTER_SLOTS {
-        let member = configuration.members[i];
-        all = all & is_member_place(configuration.count <= i, member);
-        i += 1;
+    // The nine places: a member in each below the count, and a blank in each after it.
+    #[tactic(auto, unfolding(crate::specs::Records::all_below))]
+    fn member_places(&self) -> bool
+        ensures { result ≡ all_below (λ i. member_place (leb self.now.count i) (member_at self.now i)) 9 }
+    {
+        let mut all = true;
+        for (i, member) in self.members.iter().enumerate() {
+            all = all & is_member_place(self.count <= i, *member);
+        }
+        all
     }
-    all
 }
 
 // A place past the count is blank.
@@ -201,54 +224,52 @@ fn is_member_place(past: bool, member: VoterSlotMember) -> bool
     is_representable_member(member)
 }
 
-// Whether the Rust types can hold the evidence.
-fn is_representable_evidence(evidence: VoterReplacementEvidence) -> bool
-    ensures { result ≡ representable_evidence evidence }
-{
-    let snapshot = is_representable_optional_snapshot(evidence);
-    let learner = evidence.learner;
-    let learner_held = is_representable_optional_log_id(learner);
-    let caught_up = evidence.caught_up;
-    let caught_up_held = is_representable_optional_log_id(caught_up);
-    let continuation = evidence.continuation;
-    let continuation_held = is_representable_optional_log_id(continuation);
-    let fence = evidence.fence;
-    let fence_held = is_representable_optional_log_id(fence);
-    let joint = evidence.joint;
-    let joint_held = is_representable_optional_log_id(joint);
-    let uniform = evidence.uniform;
-    let uniform_held = is_representable_optional_log_id(uniform);
-    snapshot
-        & (learner_held
-            & (caught_up_held & (continuation_held & (fence_held & (joint_held & uniform_held)))))
-}
-
-// A snapshot that is absent is blank.
-fn is_representable_optional_snapshot(evidence: VoterReplacementEvidence) -> bool
-    ensures { result ≡ representable_optional_snapshot evidence }
-{
-    let snapshot = evidence.snapshot;
-    if evidence.has_snapshot {
-        return is_representable_snapshot(snapshot);
+impl VoterReplacementEvidence {
+    // Whether the Rust types can hold the evidence.
+    #[tactic(auto, unfolding(crate::specs::Representable::representable_evidence))]
+    fn is_representable(&self) -> bool
+        ensures { result ≡ representable_evidence self.now }
+    {
+        let snapshot_held = self.has_representable_snapshot();
+        let learner_held = self.learner.is_representable();
+        let caught_up_held = self.caught_up.is_representable();
+        let continuation_held = self.continuation.is_representable();
+        let fence_held = self.fence.is_representable();
+        let joint_held = self.joint.is_representable();
+        let uniform_held = self.uniform.is_representable();
+        snapshot_held
+            & (learner_held
+                & (caught_up_held
+                    & (continuation_held & (fence_held & (joint_held & uniform_held)))))
     }
-    is_blank_voter_snapshot_evidence(snapshot)
+
+    // A snapshot that is absent is blank.
+    fn has_representable_snapshot(&self) -> bool
+        ensures { result ≡ representable_optional_snapshot self.now }
+    {
+        if self.has_snapshot {
+            return self.snapshot.snapshot_id.is_representable();
+        }
+        is_blank_voter_snapshot_evidence(self.snapshot)
+    }
 }
 
 // Whether the Rust types can hold the snapshot's evidence.
 pub fn is_representable_snapshot(snapshot: VoterSnapshotEvidence) -> bool
     ensures { result ≡ representable_snapshot snapshot }
 {
-    let snapshot_id = snapshot.snapshot_id;
-    is_representable_snapshot_id(snapshot_id)
+    snapshot.snapshot_id.is_representable()
 }
 
-// Whether the cut is there, or blank.
-fn is_representable_optional_log_id(optional: OptionalLogId) -> bool
-    ensures { result ≡ representable_optional_log_id optional }
-{
-    if optional.is_some {
-        return true;
+impl OptionalLogId {
+    // Whether the cut is there, or blank.
+    #[tactic(auto, unfolding(crate::specs::Representable::representable_optional_log_id))]
+    fn is_representable(&self) -> bool
+        ensures { result ≡ representable_optional_log_id self.now }
+    {
+        if self.is_some {
+            return true;
+        }
+        is_blank_voter_slot_log_id(self.cut)
     }
-    let cut = optional.cut;
-    is_blank_voter_slot_log_id(cut)
 }

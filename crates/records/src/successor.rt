@@ -4,39 +4,33 @@
 // openpacketcore-sdk, commit 717de332e7, Apache-2.0 (see NOTICE). Changed: a check that can only
 // give `Regression` answers yes or no; the representability check comes first. `retains` and
 // `latest`, which it calls, are in evidence.rt.
-ghost use Rattle.std.specs.Prelude.{◌≡◌, ◌+◌, ◌≤◌};
-ghost use Rattle.identity.specs.declared.answer.Answer.TheVariants.{Accepted};
-ghost use Rattle.records.specs.Records.{all_below, slot_at};
+ghost use Rattle.std.specs.Prelude.{◌≡◌, ◌+◌, ◌≤◌, eqb, length};
+ghost use Rattle.identity.specs.Answer.{Accepted};
+ghost use Rattle.std.specs.List.{position};
+ghost use Rattle.records.specs.Equality.{same_voter_slot_table};
+ghost use Rattle.records.specs.Records.{all_below, slot_in};
 ghost use Rattle.records.specs.Successor.{own_receipt, or_regression, result_succeeds, slot_succeeds, request_succeeds, request_ended, slot_index, ended_succeeds, replacement_succeeds, head_succeeds, succession, validate_successor_of};
 
-use crate::equality::*;
-use crate::evidence::{evidence_retains, latest_cut, log_id_follows};
+use crate::evidence::log_id_follows;
 use crate::number::is_next;
 use crate::records::*;
-use crate::representable::is_representable;
-use crate::validation::validate_representable;
-use identity::answer::{Answer, accepted};
+use identity::answer::{Answer, Refusal};
 use identity::identity::{ConsensusConfigurationEpoch, MAX_VOTER_INCARNATION, SlotId};
 
 // `VoterSlotTable::validate_successor_of`: 30, the new table's number, the old one's, 7.
+#[tactic(auto, unfolding(crate::specs::Successor::validate_successor_of, crate::specs::Representable::representable))]
 pub fn validate_successor_of(new: VoterSlotTable, old: VoterSlotTable) -> Answer
     ensures { result ≡ validate_successor_of new old }
 {
-    if !is_representable(new) {
-        return Answer::Unrepresentable;
+    if !new.is_representable() {
+        return Err(Refusal::Unrepresentable);
     }
-    if !is_representable(old) {
-        return Answer::Unrepresentable;
+    if !old.is_representable() {
+        return Err(Refusal::Unrepresentable);
     }
-    let answer = validate_representable(new);
-    if !accepted(answer) {
-        return answer;
-    }
-    let answer = validate_representable(old);
-    if !accepted(answer) {
-        return answer;
-    }
-    validate_succession(new, old)
+    new.validate()?;
+    old.validate()?;
+    new.validate_succession(&old)
 }
 
 // The check of two tables that are valid.
@@ -44,16 +38,7 @@ pub fn validate_succession(new: VoterSlotTable, old: VoterSlotTable) -> Answer
     requires { new.count ≤ 9 }
     ensures { result ≡ succession new old }
 {
-    if !head_succeeds(new, old) {
-        return Answer::Regression;
-    }
-    if new.revision == old.revision {
-        return kept(same_voter_slot_table(new, old));
-    }
-    if !slots_succeed(new, old) {
-        return Answer::Regression;
-    }
-    replacement_succeeds(new, old)
+    new.validate_succession(&old)
 }
 
 // A no is a regression.
@@ -61,57 +46,103 @@ fn kept(yes: bool) -> Answer
     ensures { result ≡ or_regression yes Accepted }
 {
     if yes {
-        return Answer::Accepted;
+        Ok(())
+    } else {
+        Err(Refusal::Regression)
     }
-    Answer::Regression
 }
 
-// Cluster, manifest and count are the same, and neither the revision nor the epoch falls.
-fn head_succeeds(new: VoterSlotTable, old: VoterSlotTable) -> bool
-    ensures { result ≡ head_succeeds new old }
-{
-    let cluster = new.cluster_instance;
-    let old_cluster = old.cluster_instance;
-    let same_cluster = same32(cluster, old_cluster);
-    let manifest = new.manifest_digest;
-    let old_manifest = old.manifest_digest;
-    let same_manifest = same32(manifest, old_manifest);
-    same_cluster
-        & (same_manifest
-            & ((old.revision <= new.revision)
-                & ((old.configuration_epoch <= new.configuration_epoch)
-                    & (new.count == old.count))))
+impl VoterSlotTable {
+    // Whether the two tables are equal.
+    #[tactic(auto, unfolding(crate::specs::Equality::all_true, crate::specs::Equality::same_voter_slot_table, crate::specs::Equality::same_voter_slot_record, crate::specs::Equality::same_voter_slot_member, crate::specs::Equality::same_voter_slot_identity, crate::specs::Equality::same_voter_replacement_result, crate::specs::Equality::same_voter_slot_log_id, crate::specs::Equality::same_voter_replacement_record, crate::specs::Equality::same_lost_voter_attestation_v1, crate::specs::Equality::same_spiffe_id, crate::specs::Equality::same_voter_configuration, crate::specs::Equality::same_voter_replacement_evidence, crate::specs::Equality::same_voter_snapshot_evidence, crate::specs::Equality::same_snapshot_id, crate::specs::Equality::same_optional_log_id))]
+    fn equals(&self, other: &VoterSlotTable) -> bool
+        ensures { result ≡ same_voter_slot_table self.now other.now }
+    {
+        *self == *other
+    }
+
+    // The check of two tables that are valid.
+    #[tactic(auto, using(crate::proofs::InUse::succession_in_use), unfolding(crate::specs::Successor::succession))]
+    fn validate_succession(&self, old: &VoterSlotTable) -> Answer
+        requires { self.now.count ≤ 9 }
+        ensures { result ≡ succession self.now old.now }
+    {
+        kept(self.head_succeeds(old))?;
+        if self.revision == old.revision {
+            return kept(self.equals(old));
+        }
+        kept(slots_succeed(self.slots_in_use(), &old.slots))?;
+        self.replacement_succeeds(old)
+    }
+
+    // Cluster, manifest and count are the same, and neither the revision nor the epoch falls.
+    #[tactic(auto, unfolding(crate::specs::Successor::head_succeeds))]
+    fn head_succeeds(&self, old: &VoterSlotTable) -> bool
+        ensures { result ≡ head_succeeds self.now old.now }
+    {
+        let same_cluster = self.cluster_instance == old.cluster_instance;
+        let same_manifest = self.manifest_digest == old.manifest_digest;
+        same_cluster
+            & (same_manifest
+                & ((old.revision <= self.revision)
+                    & ((old.configuration_epoch <= self.configuration_epoch)
+                        & (self.count == old.count))))
+    }
+
+    // The request that was open stays open, or has ended.
+    #[tactic(auto, unfolding(crate::specs::Successor::replacement_succeeds))]
+    fn replacement_succeeds(&self, old: &VoterSlotTable) -> Answer
+        requires { self.now.count ≤ 9 }
+        ensures { result ≡ replacement_succeeds self.now old.now }
+    {
+        if !old.has_replacement {
+            return Ok(());
+        }
+        let request = self.replacement.attestation.request_id;
+        if self.has_replacement & (request == old.replacement.attestation.request_id) {
+            return kept(request_succeeds(&self.replacement, &old.replacement));
+        }
+        self.ended_succeeds(&old.replacement)
+    }
+
+    // The request that was open has ended.
+    #[tactic(auto, using(crate::proofs::InUse::slot_index_in_use), unfolding(crate::specs::Successor::ended_succeeds))]
+    fn ended_succeeds(&self, old: &VoterReplacementRecord) -> Answer
+        requires { self.now.count ≤ 9 }
+        ensures { result ≡ ended_succeeds self.now old.now }
+    {
+        let slots = self.slots_in_use();
+        let i = place_of(slots, old.attestation.slot).ok_or(Refusal::Regression)?;
+        if old.attestation.expected_incarnation == MAX_VOTER_INCARNATION {
+            return Err(Refusal::IncarnationExhausted);
+        }
+        let slot = &slots[i];
+        let told = request_ended(self.configuration_epoch, old, &slot.last_result);
+        kept(slot.has_last_result & told)
+    }
 }
 
 // Each slot, against the old one at its place.
-fn slots_succeed(new: VoterSlotTable, old: VoterSlotTable) -> bool
-    requires { new.count ≤ 9 }
-    ensures { result ≡ all_below (λ i. slot_succeeds (slot_at new i) (slot_at old i)) new.count }
+#[tactic(auto, unfolding(crate::specs::Records::all_below))]
+fn slots_succeed(new: &[VoterSlotRecord], old: &[VoterSlotRecord; MAX_FIXED_VOTER_SLOTS]) -> bool
+    requires { length new.now ≤ 9 }
+    ensures { result ≡ all_below (λ i. slot_succeeds (slot_in new.now i) (slot_in old.now i)) (length new.now) }
 {
-    let slots = new.slots;
-    let old_slots = old.slots;
     let mut all = true;
-    let mut i = 0;
-    while i < new.count {
-        let slot = slots[i];
-        let old_slot = old_slots[i];
-        all = all & slot_succeeds(slot, old_slot);
-        i += 1;
+    for (i, slot) in new.iter().enumerate() {
+        all = all & slot_succeeds(slot, &old[i]);
     }
     all
 }
 
 // Floor and incarnation do not fall. Of the same incarnation the member stays and the phase does
 // not fall; a later one has a greater generation. A receipt stays, or a later one takes its place.
-fn slot_succeeds(new: VoterSlotRecord, old: VoterSlotRecord) -> bool
-    ensures { result ≡ slot_succeeds new old }
+#[tactic(auto, unfolding(crate::specs::Equality::all_true, crate::specs::Equality::same_voter_slot_member, crate::specs::Equality::same_voter_slot_identity, crate::specs::Successor::slot_succeeds))]
+fn slot_succeeds(new: &VoterSlotRecord, old: &VoterSlotRecord) -> bool
+    ensures { result ≡ slot_succeeds new.now old.now }
 {
-    let member = new.member;
-    let old_member = old.member;
-    let same = same_voter_slot_member(member, old_member);
-    let result = new.last_result;
-    let old_result = old.last_result;
-    let later = result_succeeds(result, old_result);
+    let same = new.member == old.member;
+    let later = result_succeeds(&new.last_result, &old.last_result);
     let mine = new.member.identity.incarnation;
     let theirs = old.member.identity.incarnation;
     (new.member.identity.slot == old.member.identity.slot)
@@ -124,10 +155,11 @@ fn slot_succeeds(new: VoterSlotRecord, old: VoterSlotRecord) -> bool
 }
 
 // The receipt is the old one, or has a greater revision and incarnation, and no lower epoch.
-fn result_succeeds(new: VoterReplacementResult, old: VoterReplacementResult) -> bool
-    ensures { result ≡ result_succeeds new old }
+#[tactic(auto, unfolding(crate::specs::Equality::all_true, crate::specs::Equality::same_voter_replacement_result, crate::specs::Equality::same_voter_slot_log_id, crate::specs::Successor::result_succeeds))]
+fn result_succeeds(new: &VoterReplacementResult, old: &VoterReplacementResult) -> bool
+    ensures { result ≡ result_succeeds new.now old.now }
 {
-    let same = same_voter_replacement_result(new, old);
+    let same = *new == *old;
     (old.revision <= new.revision)
         & ((old.incarnation <= new.incarnation)
             & ((old.configuration_epoch <= new.configuration_epoch)
@@ -135,63 +167,25 @@ fn result_succeeds(new: VoterReplacementResult, old: VoterReplacementResult) -> 
                     | same)))
 }
 
-// The request that was open stays open, or has ended.
-fn replacement_succeeds(new: VoterSlotTable, old: VoterSlotTable) -> Answer
-    requires { new.count ≤ 9 }
-    ensures { result ≡ replacement_succeeds new old }
-{
-    if !old.has_replacement {
-        return Answer::Accepted;
-    }
-    let request = new.replacement.attestation.request_id;
-    let old_request = old.replacement.attestation.request_id;
-    if new.has_replacement & same16(request, old_request) {
-        let successor = new.replacement;
-        let operation = old.replacement;
-        return kept(request_succeeds(successor, operation));
-    }
-    let operation = old.replacement;
-    ended_succeeds(new, operation)
-}
-
 // The same request stays open.
-fn request_succeeds(new: VoterReplacementRecord, old: VoterReplacementRecord) -> bool
-    ensures { result ≡ request_succeeds new old }
+#[tactic(auto, unfolding(crate::specs::Equality::all_true, crate::specs::Equality::same_lost_voter_attestation_v1, crate::specs::Equality::same_spiffe_id, crate::specs::Equality::same_voter_configuration, crate::specs::Equality::same_voter_slot_member, crate::specs::Equality::same_voter_slot_identity, crate::specs::Successor::request_succeeds))]
+fn request_succeeds(new: &VoterReplacementRecord, old: &VoterReplacementRecord) -> bool
+    ensures { result ≡ request_succeeds new.now old.now }
 {
-    let attestation = new.attestation;
-    let old_attestation = old.attestation;
-    let same_attestation = same_lost_voter_attestation_v1(attestation, old_attestation);
-    let predecessor = new.predecessor;
-    let old_predecessor = old.predecessor;
-    let same_predecessor = same_voter_configuration(predecessor, old_predecessor);
-    let successor = new.successor;
-    let old_successor = old.successor;
-    let same_successor = same_voter_configuration(successor, old_successor);
-    let evidence = new.evidence;
-    let old_evidence = old.evidence;
-    let evidence_kept = evidence_retains(evidence, old_evidence, old.phase);
+    let same_attestation = new.attestation == old.attestation;
+    let same_predecessor = new.predecessor == old.predecessor;
+    let same_successor = new.successor == old.successor;
+    let evidence_kept = new.evidence.retains(&old.evidence, old.phase);
     (new.expected_revision == old.expected_revision)
         & (same_attestation
             & (same_predecessor & (same_successor & ((old.phase <= new.phase) & evidence_kept))))
 }
 
-// The request that was open has ended.
-fn ended_succeeds(new: VoterSlotTable, old: VoterReplacementRecord) -> Answer
-    requires { new.count ≤ 9 }
-    ensures { result ≡ ended_succeeds new old }
+// The place of the first slot of that number.
+fn place_of(slots: &[VoterSlotRecord], slot: SlotId) -> Option<usize>
+    ensures { result ≡ position (λ s. eqb s.member.identity.slot slot) slots.now }
 {
-    let i = slot_index(new, old.attestation.slot);
-    if new.count <= i {
-        return Answer::Regression;
-    }
-    let expected = old.attestation.expected_incarnation;
-    if expected == MAX_VOTER_INCARNATION {
-        return Answer::IncarnationExhausted;
-    }
-    let slots = new.slots;
-    let slot = slots[i];
-    let receipt = slot.last_result;
-    kept(slot.has_last_result & request_ended(new.configuration_epoch, old, receipt))
+    slots.iter().position(|s| s.member.identity.slot == slot)
 }
 
 // The first slot of that number, or the count.
@@ -199,29 +193,19 @@ pub fn slot_index(table: VoterSlotTable, slot: SlotId) -> usize
     requires { table.count ≤ 9 }
     ensures { result ≡ slot_index table slot }
 {
-    let slots = table.slots;
-    let count = table.count;
-    let mut i = 0;
-    while i < count {
-        if slots[i].member.identity.slot == slot {
-            return i;
-        }
-        i += 1;
-    }
-    i
+    place_of(table.slots_in_use(), slot).unwrap_or(table.count)
 }
 
 // The receipt of the slot whose request was open tells how the request ended.
+#[tactic(auto, unfolding(crate::specs::Successor::request_ended))]
 fn request_ended(
     epoch: ConsensusConfigurationEpoch,
-    old: VoterReplacementRecord,
-    receipt: VoterReplacementResult,
+    old: &VoterReplacementRecord,
+    receipt: &VoterReplacementResult,
 ) -> bool
-    ensures { result ≡ request_ended epoch old receipt }
+    ensures { result ≡ request_ended epoch old.now receipt.now }
 {
-    let evidence = old.evidence;
-    let terminal = receipt.terminal;
-    let after = log_id_follows(terminal, latest_cut(evidence), false);
+    let after = log_id_follows(receipt.terminal, old.evidence.latest(), false);
     let own = is_next(old.attestation.expected_incarnation, receipt.incarnation);
     let told = is_own_receipt(epoch, old, receipt);
     (old.attestation.expected_incarnation < receipt.incarnation)
@@ -229,19 +213,16 @@ fn request_ended(
 }
 
 // The receipt is the one of the request itself.
+#[tactic(auto, unfolding(crate::specs::Successor::own_receipt))]
 fn is_own_receipt(
     epoch: ConsensusConfigurationEpoch,
-    old: VoterReplacementRecord,
-    receipt: VoterReplacementResult,
+    old: &VoterReplacementRecord,
+    receipt: &VoterReplacementResult,
 ) -> bool
-    ensures { result ≡ own_receipt epoch old receipt }
+    ensures { result ≡ own_receipt epoch old.now receipt.now }
 {
-    let request_id = receipt.request_id;
-    let old_request_id = old.attestation.request_id;
-    let same_id = same16(request_id, old_request_id);
-    let request_digest = receipt.request_digest;
-    let old_request_digest = old.attestation.request_digest;
-    let same_digest = same32(request_digest, old_request_digest);
+    let same_id = receipt.request_id == old.attestation.request_id;
+    let same_digest = receipt.request_digest == old.attestation.request_digest;
     let completed = receipt.kind == COMPLETED;
     same_id
         & (same_digest

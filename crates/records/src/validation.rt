@@ -5,26 +5,20 @@
 // yes or no; the representability check comes first, and has refused each text for which the
 // original gives `TooLarge`; `follows`, `retains` and `latest` are in evidence.rt,
 // `validate_successor_of` in successor.rt.
-ghost use Rattle.std.specs.Prelude.{◌&&◌, ◌≡◌, ◌+◌, ◌-◌, ◌<◌, ◌≤◌, eqb, leb, ltb, get_or};
-ghost use Rattle.identity.specs.declared.answer.Answer.TheVariants.{Accepted};
-ghost use Rattle.records.specs.Equality.{same_voter_slot_member};
-ghost use Rattle.records.specs.Records.{all_below, slot_at, member_at, no_slot_record, voting};
-ghost use Rattle.records.specs.Validation.{require_of, valid_count, valid_configuration, valid_spiffe_id, NamesHold, valid_attestation, is_active, valid_result, valid_slot, distinct_results, valid_slots, target_phase, valid_operation_head, is_current_epoch, valid_operation, claims_of, superseded_receipt, retired_member, valid_target, other_request, validate_member, validate_members, has_target, validate_operation, validity, validate};
+ghost use Rattle.std.specs.Prelude.{◌&&◌, ◌≡◌, ◌+◌, ◌-◌, ◌<◌, ◌≤◌, eqb, leb, ltb, not, length};
+ghost use Rattle.identity.specs.Answer.{Accepted};
+ghost use Rattle.records.specs.Records.{all_below, slot_in, member_in, voting};
+ghost use Rattle.records.specs.Validation.{require_of, valid_count, valid_configuration, valid_spiffe_id, valid_attestation, is_active, valid_result, valid_slot, distinct_results, valid_slots, target_phase, valid_operation_head, is_current_epoch, valid_operation, claims_of, superseded_receipt, retired_member, valid_target, other_request, validate_member, validate_members, validate_operation, validity, validate};
 
-use crate::equality::*;
-use crate::evidence::{is_valid_evidence, is_valid_log_id};
+use crate::evidence::is_valid_log_id;
 use crate::number::is_next;
 use crate::records::*;
-use crate::representable::is_representable;
-use identity::answer::{Answer, accepted};
+use identity::answer::{Answer, Refusal};
 use identity::identity::*;
 use identity::text::{MAX_VOTER_SPIFFE_ID_BYTES, is_name};
 
-// Pairs of neighbouring places.
-const NEIGHBOURS: usize = MAX_FIXED_VOTER_SLOTS - 1;
-
-// What the open request claims of the slots. The record has 6.3 KB, so the tests of a slot get
-// these alone: six fields of its attestation, its phase, and the cut of its prepare.
+// What the open request claims of the slots: six fields of its attestation, its phase, and the cut
+// of its prepare. The laws of a slot speak of these alone.
 #[derive(Clone, Copy)]
 pub struct Claims {
     // Caller-stable idempotency identity.
@@ -45,6 +39,17 @@ pub struct Claims {
     pub prepare: VoterSlotLogId,
 }
 
+// `require`: a no is `InvalidRecord`.
+fn require(valid: bool) -> Answer
+    ensures { result ≡ require_of valid Accepted }
+{
+    if valid {
+        Ok(())
+    } else {
+        Err(Refusal::InvalidRecord)
+    }
+}
+
 // `validate_count`.
 pub fn is_valid_count(count: usize) -> bool
     ensures { result ≡ valid_count count }
@@ -52,79 +57,97 @@ pub fn is_valid_count(count: usize) -> bool
     (0 < count) & ((count <= MAX_FIXED_VOTER_SLOTS) & (count % 2 == 1))
 }
 
-// `VoterConfiguration::validate`.
-fn is_valid_configuration(configuration: VoterConfiguration) -> bool
-    ensures { result ≡ valid_configuration configuration }
-{
-    if !is_valid_count(configuration.count) {
-        return false;
+impl VoterConfiguration {
+    // `validate`.
+    #[tactic(auto, unfolding(crate::specs::Validation::valid_configuration))]
+    fn is_valid(&self) -> bool
+        ensures { result ≡ valid_configuration self.now }
+    {
+        if !is_valid_count(self.count) {
+            return false;
+        }
+        let members = self.members_in_use();
+        have_generations(members) & members_rise(members)
     }
-    members_have_generations(configuration) & members_rise(configuration)
 }
 
 // Each admission generation is above 0.
-fn members_have_generations(configuration: VoterConfiguration) -> bool
-    requires { configuration.count ≤ 9 }
-    ensures { result ≡ all_below (λ i. ltb 0 (member_at configuration i).admission_generation) configuration.count }
+//
+// This loop and those below have no early exit: in place of `all`, which leaves at the first no,
+// they let the compiler look at several places at a time.
+#[tactic(auto, unfolding(crate::specs::Records::all_below))]
+fn have_generations(members: &[VoterSlotMember]) -> bool
+    ensures { result ≡ all_below (λ i. ltb 0 (member_in members.now i).admission_generation) (length members.now) }
 {
     let mut all = true;
-    let mut i = 0;
-    while i < MAX_FIXED_VOTER_SLOTS {
-        all = all
-            & ((configuration.count <= i) | (0 < configuration.members[i].admission_generation));
-        i += 1;
+    for member in members {
+        all = all & (0 < member.admission_generation);
     }
     all
 }
 
 // The slot numbers rise strictly.
-fn members_rise(configuration: VoterConfiguration) -> bool
-    requires { configuration.count ≤ 9 }
-    ensures { result ≡ all_below (λ i. ltb (member_at configuration i).identity.slot (member_at configuration (i + 1)).identity.slot) (configuration.count - 1) }
+#[tactic(auto, unfolding(crate::specs::Records::all_below))]
+fn members_rise(members: &[VoterSlotMember]) -> bool
+    ensures { result ≡ all_below (λ i. ltb (member_in members.now i).identity.slot (member_in members.now (i + 1)).identity.slot) (length members.now - 1) }
 {
     let mut all = true;
-    let mut i = 0;
-    while i < NEIGHBOURS {
-        all = all
-            & ((configuration.count <= i + 1)
-                | (configuration.members[i].identity.slot
-                    < configuration.members[i + 1].identity.slot));
-        i += 1;
+    for i in 1..members.len() {
+        all = all & (members[i - 1].identity.slot < members[i].identity.slot);
     }
     all
+}
+
+impl LostVoterAttestationV1 {
+    // `validate`.
+    #[tactic(auto, unfolding(crate::specs::Validation::valid_attestation))]
+    fn is_valid(&self) -> bool
+        ensures { result ≡ valid_attestation self.now }
+    {
+        if !is_valid_name(
+            self.candidate_spiffe_id.len,
+            &self.candidate_spiffe_id.bytes,
+        ) {
+            return false;
+        }
+        if !is_valid_name(
+            self.controller_spiffe_id.len,
+            &self.controller_spiffe_id.bytes,
+        ) {
+            return false;
+        }
+        are_valid_times(
+            self.admission_generation,
+            self.observation_start_ms,
+            self.decision_ms,
+            self.issued_ms,
+            self.expires_ms,
+        )
+    }
 }
 
 // `LostVoterAttestationV1::validate`.
 pub fn is_valid_attestation(attestation: LostVoterAttestationV1) -> bool
     ensures { result ≡ valid_attestation attestation }
 {
-    let candidate = attestation.candidate_spiffe_id.bytes;
-    if !is_valid_spiffe_id(attestation.candidate_spiffe_id.len, candidate) {
-        return false;
-    }
-    let controller = attestation.controller_spiffe_id.bytes;
-    if !is_valid_spiffe_id(attestation.controller_spiffe_id.len, controller) {
-        return false;
-    }
-    are_valid_times(
-        attestation.admission_generation,
-        attestation.observation_start_ms,
-        attestation.decision_ms,
-        attestation.issued_ms,
-        attestation.expires_ms,
-    )
+    attestation.is_valid()
 }
 
-// A length above the field is a no. The bytes come by themselves: of a record the caller would make
-// a copy first.
+// A name of that length. A length above the field is a no.
 pub fn is_valid_spiffe_id(len: usize, bytes: [u8; MAX_VOTER_SPIFFE_ID_BYTES]) -> bool
     ensures { result ≡ valid_spiffe_id (record { len = len; bytes = bytes }) }
+{
+    is_valid_name(len, &bytes)
+}
+
+// The same where the bytes lie.
+fn is_valid_name(len: usize, bytes: &[u8; MAX_VOTER_SPIFFE_ID_BYTES]) -> bool
+    ensures { result ≡ valid_spiffe_id (record { len = len; bytes = bytes.now }) }
 {
     if MAX_VOTER_SPIFFE_ID_BYTES < len {
         return false;
     }
-    let text = &bytes[..];
-    is_name(&text[..len])
+    is_name(&bytes[..len])
 }
 
 // The numbers of an attestation: what was observed, decided and issued came in that order.
@@ -143,13 +166,14 @@ pub fn are_valid_times(
 }
 
 // `VoterSlotTable::validate`, after 30.
+#[tactic(auto, unfolding(crate::specs::Validation::validate, crate::specs::Representable::representable))]
 pub fn validate_table(table: VoterSlotTable) -> Answer
     ensures { result ≡ validate table }
 {
-    if !is_representable(table) {
-        return Answer::Unrepresentable;
+    if !table.is_representable() {
+        return Err(Refusal::Unrepresentable);
     }
-    validate_representable(table)
+    table.validate()
 }
 
 // Validity of a table that has passed the representability check.
@@ -157,103 +181,210 @@ pub fn validate_representable(table: VoterSlotTable) -> Answer
     requires { table.count ≤ 9 }
     ensures { result ≡ validity table }
 {
-    if !are_valid_slots(table) {
-        return Answer::InvalidRecord;
-    }
-    if !table.has_replacement {
-        return require(all_voting(table));
-    }
-    // The names are looked at here, where the table lies: a function below would copy it for them.
-    let candidate = table.replacement.attestation.candidate_spiffe_id.bytes;
-    if !is_valid_spiffe_id(
-        table.replacement.attestation.candidate_spiffe_id.len,
-        candidate,
-    ) {
-        return Answer::InvalidRecord;
-    }
-    let controller = table.replacement.attestation.controller_spiffe_id.bytes;
-    if !is_valid_spiffe_id(
-        table.replacement.attestation.controller_spiffe_id.len,
-        controller,
-    ) {
-        return Answer::InvalidRecord;
-    }
-    validate_operation(table)
+    table.validate()
 }
 
 // With no request open every slot is voting.
-//
-// Here and in each loop below the slots are taken out first: what an index that is no constant
-// points into is copied whole, and the table has 8.4 KB.
-fn all_voting(table: VoterSlotTable) -> bool
-    requires { table.count ≤ 9 }
-    ensures { result ≡ all_below (λ i. eqb (slot_at table i).phase voting) table.count }
+#[tactic(auto, unfolding(crate::specs::Records::all_below))]
+fn all_voting(slots: &[VoterSlotRecord]) -> bool
+    ensures { result ≡ all_below (λ i. eqb (slot_in slots.now i).phase voting) (length slots.now) }
 {
-    let slots = table.slots;
     let mut all = true;
-    let mut i = 0;
-    while i < table.count {
-        all = all & (slots[i].phase == VOTING);
-        i += 1;
+    for slot in slots {
+        all = all & (slot.phase == VOTING);
     }
     all
-}
-
-// `VoterSlotTable::validate` up to the open request.
-fn are_valid_slots(table: VoterSlotTable) -> bool
-    requires { table.count ≤ 9 }
-    ensures { result ≡ valid_slots table }
-{
-    if !is_valid_count(table.count) {
-        return false;
-    }
-    if table.revision == 0 {
-        return false;
-    }
-    slots_rise(table) & (each_slot_valid(table) & results_distinct(table))
 }
 
 // The slot numbers rise strictly.
-fn slots_rise(table: VoterSlotTable) -> bool
-    requires { (0 < table.count) × (table.count ≤ 9) }
-    ensures { result ≡ all_below (λ i. ltb (slot_at table i).member.identity.slot (slot_at table (i + 1)).member.identity.slot) (table.count - 1) }
+#[tactic(auto, unfolding(crate::specs::Records::all_below))]
+fn slots_rise(slots: &[VoterSlotRecord]) -> bool
+    ensures { result ≡ all_below (λ i. ltb (slot_in slots.now i).member.identity.slot (slot_in slots.now (i + 1)).member.identity.slot) (length slots.now - 1) }
 {
-    let slots = table.slots;
     let mut all = true;
-    let mut i = 0;
-    while i + 1 < table.count {
-        all = all & (slots[i].member.identity.slot < slots[i + 1].member.identity.slot);
-        i += 1;
+    for i in 1..slots.len() {
+        all = all & (slots[i - 1].member.identity.slot < slots[i].member.identity.slot);
     }
     all
 }
 
-// Each slot by itself.
-fn each_slot_valid(table: VoterSlotTable) -> bool
-    requires { table.count ≤ 9 }
-    ensures { result ≡ all_below (λ i. valid_slot table.revision table.configuration_epoch (is_active table (slot_at table i)) (slot_at table i)) table.count }
+// No request has a receipt in two slots; a slot without one is not compared.
+#[tactic(auto, unfolding(crate::specs::Records::all_below))]
+fn results_distinct(slots: &[VoterSlotRecord]) -> bool
+    ensures { result ≡ all_below (λ i. all_below (λ j. distinct_results (slot_in slots.now j) (slot_in slots.now i)) i) (length slots.now) }
 {
-    let slots = table.slots;
     let mut all = true;
-    let mut i = 0;
-    while i < table.count {
-        let slot = slots[i];
-        let active = table.has_replacement
-            & (table.replacement.attestation.slot == slot.member.identity.slot);
-        all = all & is_valid_slot(table.revision, table.configuration_epoch, active, slot);
-        i += 1;
+    for (i, slot) in slots.iter().enumerate() {
+        if slot.has_last_result {
+            all = all & is_distinct_from(slot, &slots[..i]);
+        }
     }
     all
+}
+
+// The receipt of the slot, against those of the slots before it.
+#[tactic(auto, unfolding(crate::specs::Records::all_below))]
+fn is_distinct_from(slot: &VoterSlotRecord, earlier: &[VoterSlotRecord]) -> bool
+    ensures { result ≡ all_below (λ j. distinct_results (slot_in earlier.now j) slot.now) (length earlier.now) }
+{
+    let mut all = true;
+    for other in earlier {
+        all = all & are_distinct_results(other, slot);
+    }
+    all
+}
+
+// The two have no receipt of one request.
+fn are_distinct_results(a: &VoterSlotRecord, b: &VoterSlotRecord) -> bool
+    ensures { result ≡ distinct_results a.now b.now }
+{
+    let same = a.last_result.request_id == b.last_result.request_id;
+    !(a.has_last_result & (b.has_last_result & same))
+}
+
+// One of the slots has that number.
+#[tactic(auto, unfolding(crate::specs::Records::all_below))]
+fn has_target(slots: &[VoterSlotRecord], target: SlotId) -> bool
+    ensures { result ≡ not (all_below (λ i. not (eqb (slot_in slots.now i).member.identity.slot target)) (length slots.now)) }
+{
+    let mut none = true;
+    for slot in slots {
+        none = none & !(slot.member.identity.slot == target);
+    }
+    !none
+}
+
+impl VoterSlotTable {
+    // `validate`, of a table that has passed the representability check.
+    #[tactic(auto, unfolding(crate::specs::Validation::validity))]
+    pub fn validate(&self) -> Answer
+        requires { self.now.count ≤ 9 }
+        ensures { result ≡ validity self.now }
+    {
+        require(self.are_valid_slots())?;
+        if !self.has_replacement {
+            return require(all_voting(self.slots_in_use()));
+        }
+        self.validate_operation()
+    }
+
+    // `validate` up to the open request.
+    #[tactic(auto, unfolding(crate::specs::Validation::valid_slots))]
+    fn are_valid_slots(&self) -> bool
+        ensures { result ≡ valid_slots self.now }
+    {
+        if !is_valid_count(self.count) {
+            return false;
+        }
+        if self.revision == 0 {
+            return false;
+        }
+        let slots = self.slots_in_use();
+        slots_rise(slots) & (self.is_each_slot_valid(slots) & results_distinct(slots))
+    }
+
+    // Each of the slots by itself; the one that is being replaced is active.
+    #[tactic(auto, unfolding(crate::specs::Records::all_below))]
+    fn is_each_slot_valid(&self, slots: &[VoterSlotRecord]) -> bool
+        ensures { result ≡ all_below (λ i. valid_slot self.now.revision self.now.configuration_epoch (is_active self.now (slot_in slots.now i)) (slot_in slots.now i)) (length slots.now) }
+    {
+        let mut all = true;
+        for slot in slots {
+            let active = self.has_replacement
+                & (self.replacement.attestation.slot == slot.member.identity.slot);
+            all = all & is_valid_slot(self.revision, self.configuration_epoch, active, slot);
+        }
+        all
+    }
+
+    // `validate_operation`.
+    #[tactic(auto, unfolding(crate::specs::Validation::validate_operation))]
+    fn validate_operation(&self) -> Answer
+        requires { self.now.count ≤ 9 }
+        ensures { result ≡ validate_operation self.now }
+    {
+        require(self.is_valid_operation())?;
+        self.validate_members()?;
+        require(has_target(self.slots_in_use(), self.replacement.attestation.slot))
+    }
+
+    // The open request itself, and against the table's head.
+    #[tactic(auto, unfolding(crate::specs::Validation::valid_operation))]
+    fn is_valid_operation(&self) -> bool
+        ensures { result ≡ valid_operation self.now self.now.replacement }
+    {
+        let operation = &self.replacement;
+        if !operation.attestation.is_valid() {
+            return false;
+        }
+        if !operation.predecessor.is_valid() {
+            return false;
+        }
+        if !operation.successor.is_valid() {
+            return false;
+        }
+        if !operation.evidence.is_valid(operation.phase) {
+            return false;
+        }
+        self.is_valid_operation_head() & self.is_current_epoch()
+    }
+
+    // The open request against the revision, the cluster and the count of the table, and its two
+    // epochs.
+    #[tactic(auto, unfolding(crate::specs::Validation::valid_operation_head))]
+    fn is_valid_operation_head(&self) -> bool
+        ensures { result ≡ valid_operation_head self.now self.now.replacement }
+    {
+        let operation = &self.replacement;
+        let same_cluster = operation.attestation.cluster_instance == self.cluster_instance;
+        let next_epoch = is_next(operation.predecessor.epoch, operation.successor.epoch);
+        (0 < operation.expected_revision)
+            & ((operation.expected_revision < self.revision)
+                & (same_cluster
+                    & ((MIN_REPLACEMENT_SLOTS <= self.count)
+                        & ((operation.predecessor.count == self.count)
+                            & ((operation.successor.count == self.count) & next_epoch)))))
+    }
+
+    // The table's epoch is the successor's in Uniform, and the predecessor's in each phase before
+    // it.
+    #[tactic(auto, unfolding(crate::specs::Validation::is_current_epoch))]
+    fn is_current_epoch(&self) -> bool
+        ensures { result ≡ is_current_epoch self.now self.now.replacement }
+    {
+        let current_epoch = if self.replacement.phase == UNIFORM {
+            self.replacement.successor.epoch
+        } else {
+            self.replacement.predecessor.epoch
+        };
+        self.configuration_epoch == current_epoch
+    }
+
+    // The first refusal, slot by slot: 3 in an earlier slot comes before 6 in a later one.
+    #[tactic(auto, unfolding(crate::specs::Validation::validate_members))]
+    fn validate_members(&self) -> Answer
+        requires { self.now.count ≤ 9 }
+        ensures { result ≡ validate_members self.now self.now.count }
+    {
+        let claims = Claims::of(&self.replacement);
+        let predecessor = &self.replacement.predecessor.members;
+        let successor = &self.replacement.successor.members;
+        for (i, slot) in self.slots_in_use().iter().enumerate() {
+            claims.validate_member(slot, &predecessor[i], &successor[i])?;
+        }
+        Ok(())
+    }
 }
 
 // One slot, in a table of that revision and epoch; active where it is being replaced.
+#[tactic(auto, unfolding(crate::specs::Validation::valid_slot))]
 fn is_valid_slot(
     revision: u64,
     epoch: ConsensusConfigurationEpoch,
     active: bool,
-    slot: VoterSlotRecord,
+    slot: &VoterSlotRecord,
 ) -> bool
-    ensures { result ≡ valid_slot revision epoch active slot }
+    ensures { result ≡ valid_slot revision epoch active slot.now }
 {
     let own = slot.member.identity.incarnation;
     let floor = is_next(slot.retired_through, own);
@@ -265,19 +396,18 @@ fn is_valid_slot(
 }
 
 // The receipt of one slot.
+#[tactic(auto, unfolding(crate::specs::Validation::valid_result))]
 fn is_valid_result(
     revision: u64,
     epoch: ConsensusConfigurationEpoch,
     active: bool,
-    slot: VoterSlotRecord,
+    slot: &VoterSlotRecord,
 ) -> bool
-    ensures { result ≡ valid_result revision epoch active slot }
+    ensures { result ≡ valid_result revision epoch active slot.now }
 {
-    let result = slot.last_result;
+    let result = &slot.last_result;
     let own = slot.member.identity.incarnation;
-    let terminal = result.terminal;
-    let valid = is_valid_log_id(terminal);
-    valid
+    is_valid_log_id(result.terminal)
         & (((0 < result.revision)
             & ((result.revision <= revision)
                 & ((result.configuration_epoch <= epoch)
@@ -287,285 +417,97 @@ fn is_valid_result(
                     | ((slot.phase == VOTING) & (result.kind == COMPLETED)))))
 }
 
-// No request has a receipt in two slots; a slot without one is not compared.
-fn results_distinct(table: VoterSlotTable) -> bool
-    requires { table.count ≤ 9 }
-    ensures { result ≡ all_below (λ i. all_below (λ j. distinct_results (slot_at table j) (slot_at table i)) i) table.count }
-{
-    let slots = table.slots;
-    let mut all = true;
-    let mut i = 0;
-    while i < table.count {
-        if slots[i].has_last_result {
-            all = all & distinct_below(slots, i);
+impl Claims {
+    // What the open request claims.
+    fn of(operation: &VoterReplacementRecord) -> Claims
+        ensures { result ≡ claims_of operation.now }
+    {
+        Claims {
+            request_id: operation.attestation.request_id,
+            slot: operation.attestation.slot,
+            expected_incarnation: operation.attestation.expected_incarnation,
+            old_descriptor_digest: operation.attestation.old_descriptor_digest,
+            candidate_key_digest: operation.attestation.candidate_key_digest,
+            admission_generation: operation.attestation.admission_generation,
+            phase: operation.phase,
+            prepare: operation.evidence.prepare,
         }
-        i += 1;
     }
-    all
-}
 
-// The receipt of the slot at i, against those of the slots before it.
-fn distinct_below(slots: [VoterSlotRecord; MAX_FIXED_VOTER_SLOTS], i: usize) -> bool
-    requires { i < 9 }
-    ensures { result ≡ all_below (λ j. distinct_results (get_or slots j no_slot_record) (get_or slots i no_slot_record)) i }
-{
-    let slot = slots[i];
-    let mut all = true;
-    let mut j = 0;
-    while j < i {
-        let other = slots[j];
-        all = all & are_distinct_results(other, slot);
-        j += 1;
-    }
-    all
-}
-
-// The two have no receipt of one request.
-fn are_distinct_results(a: VoterSlotRecord, b: VoterSlotRecord) -> bool
-    ensures { result ≡ distinct_results a b }
-{
-    let first = a.last_result.request_id;
-    let second = b.last_result.request_id;
-    let same = same16(first, second);
-    !(a.has_last_result & (b.has_last_result & same))
-}
-
-// `VoterSlotTable::validate_operation`, after the names.
-fn validate_operation(table: VoterSlotTable) -> Answer
-    requires count_bound { table.count ≤ 9 }
-    requires names_hold { NamesHold table.replacement.attestation }
-    ensures { result ≡ validate_operation table }
-{
-    if !is_valid_operation(table) {
-        return Answer::InvalidRecord;
-    }
-    let answer = validate_members(table);
-    if !accepted(answer) {
-        return answer;
-    }
-    require(has_target(table))
-}
-
-// The open request itself, after the names, and against the table's head.
-fn is_valid_operation(table: VoterSlotTable) -> bool
-    requires { NamesHold table.replacement.attestation }
-    ensures { result ≡ valid_operation table table.replacement }
-{
-    if !are_valid_times(
-        table.replacement.attestation.admission_generation,
-        table.replacement.attestation.observation_start_ms,
-        table.replacement.attestation.decision_ms,
-        table.replacement.attestation.issued_ms,
-        table.replacement.attestation.expires_ms,
-    ) {
-        return false;
-    }
-    let predecessor = table.replacement.predecessor;
-    if !is_valid_configuration(predecessor) {
-        return false;
-    }
-    let successor = table.replacement.successor;
-    if !is_valid_configuration(successor) {
-        return false;
-    }
-    let evidence = table.replacement.evidence;
-    if !is_valid_evidence(evidence, table.replacement.phase) {
-        return false;
-    }
-    is_valid_operation_head(table) & is_current_epoch(table)
-}
-
-// The open request against the revision, the cluster and the count of the table, and its two
-// epochs.
-fn is_valid_operation_head(table: VoterSlotTable) -> bool
-    ensures { result ≡ valid_operation_head table table.replacement }
-{
-    let cluster = table.cluster_instance;
-    let attested = table.replacement.attestation.cluster_instance;
-    let same_cluster = same32(attested, cluster);
-    let next_epoch = is_next(
-        table.replacement.predecessor.epoch,
-        table.replacement.successor.epoch,
-    );
-    (0 < table.replacement.expected_revision)
-        & ((table.replacement.expected_revision < table.revision)
-            & (same_cluster
-                & ((MIN_REPLACEMENT_SLOTS <= table.count)
-                    & ((table.replacement.predecessor.count == table.count)
-                        & ((table.replacement.successor.count == table.count) & next_epoch)))))
-}
-
-// The table's epoch is the successor's in Uniform, and the predecessor's in each phase before it.
-fn is_current_epoch(table: VoterSlotTable) -> bool
-    ensures { result ≡ is_current_epoch table table.replacement }
-{
-    if table.replacement.phase == UNIFORM {
-        return table.configuration_epoch == table.replacement.successor.epoch;
-    }
-    table.configuration_epoch == table.replacement.predecessor.epoch
-}
-
-// What the open request of the table claims.
-fn claims_of(table: VoterSlotTable) -> Claims
-    ensures { result ≡ claims_of table.replacement }
-{
-    let request_id = table.replacement.attestation.request_id;
-    let old_descriptor_digest = table.replacement.attestation.old_descriptor_digest;
-    let candidate_key_digest = table.replacement.attestation.candidate_key_digest;
-    let prepare = table.replacement.evidence.prepare;
-    Claims {
-        request_id,
-        slot: table.replacement.attestation.slot,
-        expected_incarnation: table.replacement.attestation.expected_incarnation,
-        old_descriptor_digest,
-        candidate_key_digest,
-        admission_generation: table.replacement.attestation.admission_generation,
-        phase: table.replacement.phase,
-        prepare,
-    }
-}
-
-// The first refusal, slot by slot: 3 in an earlier slot comes before 6 in a later one.
-fn validate_members(table: VoterSlotTable) -> Answer
-    requires { table.count ≤ 9 }
-    ensures { result ≡ validate_members table table.count }
-{
-    let claims = claims_of(table);
-    let predecessor = table.replacement.predecessor.members;
-    let successor = table.replacement.successor.members;
-    let slots = table.slots;
-    let mut i = 0;
-    while i < table.count {
-        // What is compared whole is a copy of its own: a record that is read field by field too is
-        // copied in pieces, which a comparison right after it has to wait for.
-        let slot = slots[i];
-        let member = slot.member;
-        let old = predecessor[i];
-        let new = successor[i];
-        let current = same_voter_slot_member(member, new)
-            & (predecessor[i].identity.slot == successor[i].identity.slot);
-        let unchanged = same_voter_slot_member(old, new);
-        let place = slots[i];
-        let other = is_other_request(claims, place);
-        let mut answer = require(current & ((unchanged & (slots[i].phase == VOTING)) & other));
-        if slots[i].member.identity.slot == claims.slot {
-            let target = slots[i];
-            let retired = predecessor[i];
-            let candidate = successor[i];
-            answer = validate_target(claims, current, other, target, retired, candidate);
+    // One slot and its two members.
+    #[tactic(auto, unfolding(crate::specs::Equality::all_true, crate::specs::Equality::same_voter_slot_member, crate::specs::Equality::same_voter_slot_identity, crate::specs::Validation::validate_member))]
+    fn validate_member(
+        &self,
+        slot: &VoterSlotRecord,
+        predecessor: &VoterSlotMember,
+        successor: &VoterSlotMember,
+    ) -> Answer
+        ensures { result ≡ validate_member self.now slot.now predecessor.now successor.now }
+    {
+        let current = slot.member == *successor;
+        require(current & (predecessor.identity.slot == successor.identity.slot))?;
+        let other = self.is_other_request(slot);
+        if slot.member.identity.slot == self.slot {
+            if self.expected_incarnation == MAX_VOTER_INCARNATION {
+                return Err(Refusal::IncarnationExhausted);
+            }
+            return require(self.is_valid_target(slot, predecessor, successor) & other);
         }
-        if !accepted(answer) {
-            return answer;
+        let unchanged = *predecessor == *successor;
+        require((unchanged & (slot.phase == VOTING)) & other)
+    }
+
+    // The receipt of the slot, if it has one, is not that of the open request.
+    fn is_other_request(&self, slot: &VoterSlotRecord) -> bool
+        ensures { result ≡ other_request self.now slot.now }
+    {
+        let same = slot.last_result.request_id == self.request_id;
+        !slot.has_last_result | !same
+    }
+
+    // The slot that is being replaced, of which the next incarnation is in range.
+    #[tactic(auto, unfolding(crate::specs::Validation::valid_target))]
+    fn is_valid_target(
+        &self,
+        slot: &VoterSlotRecord,
+        predecessor: &VoterSlotMember,
+        successor: &VoterSlotMember,
+    ) -> bool
+        ensures { result ≡ valid_target self.now slot.now predecessor.now successor.now }
+    {
+        let expected = self.expected_incarnation;
+        let next = is_next(expected, successor.identity.incarnation);
+        let same_key = successor.key_digest == self.candidate_key_digest;
+        let phase = target_phase(self.phase);
+        let retired = self.is_retired_member(slot, predecessor);
+        (next
+            & ((predecessor.identity.incarnation <= expected)
+                & ((predecessor.admission_generation < successor.admission_generation)
+                    & ((successor.admission_generation == self.admission_generation) & same_key))))
+            & ((slot.phase == phase) & retired)
+    }
+
+    // The member that is being replaced: the attested one, or one whose candidate was superseded.
+    #[tactic(auto, unfolding(crate::specs::Validation::retired_member))]
+    fn is_retired_member(&self, slot: &VoterSlotRecord, predecessor: &VoterSlotMember) -> bool
+        ensures { result ≡ retired_member self.now slot.now predecessor.now }
+    {
+        if predecessor.identity.incarnation == self.expected_incarnation {
+            return predecessor.descriptor_digest == self.old_descriptor_digest;
         }
-        i += 1;
+        self.is_superseded_receipt(slot)
     }
-    Answer::Accepted
-}
 
-// One of the slots is the one that is being replaced.
-fn has_target(table: VoterSlotTable) -> bool
-    requires { table.count ≤ 9 }
-    ensures { result ≡ has_target table }
-{
-    let slots = table.slots;
-    let mut none = true;
-    let mut i = 0;
-    while i < table.count {
-        none = none & !(slots[i].member.identity.slot == table.replacement.attestation.slot);
-        i += 1;
+    // The receipt that the superseded candidate's request has left.
+    #[tactic(auto, unfolding(crate::specs::Equality::all_true, crate::specs::Equality::same_voter_slot_log_id))]
+    fn is_superseded_receipt(&self, slot: &VoterSlotRecord) -> bool
+        ensures { result ≡ superseded_receipt slot.now self.now }
+    {
+        let same = slot.last_result.terminal == self.prepare;
+        slot.has_last_result
+            & ((slot.last_result.incarnation == self.expected_incarnation)
+                & ((slot.last_result.kind == SUPERSEDED) & same))
     }
-    !none
-}
-
-// The slot that is being replaced, and its two members; the caller has compared it with both, and
-// its receipt with the request.
-fn validate_target(
-    claims: Claims,
-    current: bool,
-    other: bool,
-    slot: VoterSlotRecord,
-    predecessor: VoterSlotMember,
-    successor: VoterSlotMember,
-) -> Answer
-    requires current_value { current ≡ (same_voter_slot_member slot.member successor && eqb predecessor.identity.slot successor.identity.slot) }
-    requires other_value { other ≡ other_request claims slot }
-    requires slot_value { slot.member.identity.slot ≡ claims.slot }
-    ensures { result ≡ validate_member claims slot predecessor successor }
-{
-    if !current {
-        return Answer::InvalidRecord;
-    }
-    if claims.expected_incarnation == MAX_VOTER_INCARNATION {
-        return Answer::IncarnationExhausted;
-    }
-    require(is_valid_target(claims, slot, predecessor, successor) & other)
-}
-
-// `require`: a no is `InvalidRecord`.
-fn require(valid: bool) -> Answer
-    ensures { result ≡ require_of valid Accepted }
-{
-    if valid {
-        return Answer::Accepted;
-    }
-    Answer::InvalidRecord
-}
-
-// The receipt of the slot, if it has one, is not that of the open request.
-fn is_other_request(claims: Claims, slot: VoterSlotRecord) -> bool
-    ensures { result ≡ other_request claims slot }
-{
-    let receipt = slot.last_result.request_id;
-    let request = claims.request_id;
-    let same = same16(receipt, request);
-    !slot.has_last_result | !same
-}
-
-// The slot that is being replaced, after the tests of `validate_target`.
-fn is_valid_target(
-    claims: Claims,
-    slot: VoterSlotRecord,
-    predecessor: VoterSlotMember,
-    successor: VoterSlotMember,
-) -> bool
-    ensures { result ≡ valid_target claims slot predecessor successor }
-{
-    let expected = claims.expected_incarnation;
-    let next = is_next(expected, successor.identity.incarnation);
-    let key = successor.key_digest;
-    let candidate_key = claims.candidate_key_digest;
-    let same_key = same32(key, candidate_key);
-    let phase = target_phase(claims.phase);
-    let retired = is_retired_member(claims, slot, predecessor);
-    (next
-        & ((predecessor.identity.incarnation <= expected)
-            & ((predecessor.admission_generation < successor.admission_generation)
-                & ((successor.admission_generation == claims.admission_generation) & same_key))))
-        & ((slot.phase == phase) & retired)
-}
-
-// The member that is being replaced: the attested one, or one whose candidate was superseded.
-fn is_retired_member(claims: Claims, slot: VoterSlotRecord, predecessor: VoterSlotMember) -> bool
-    ensures { result ≡ retired_member claims slot predecessor }
-{
-    if predecessor.identity.incarnation == claims.expected_incarnation {
-        let descriptor = predecessor.descriptor_digest;
-        let attested = claims.old_descriptor_digest;
-        return same32(descriptor, attested);
-    }
-    is_superseded_receipt(claims, slot)
-}
-
-// The receipt that the superseded candidate's request has left.
-fn is_superseded_receipt(claims: Claims, slot: VoterSlotRecord) -> bool
-    ensures { result ≡ superseded_receipt slot claims }
-{
-    let terminal = slot.last_result.terminal;
-    let prepare = claims.prepare;
-    let same = same_voter_slot_log_id(terminal, prepare);
-    slot.has_last_result
-        & ((slot.last_result.incarnation == claims.expected_incarnation)
-            & ((slot.last_result.kind == SUPERSEDED) & same))
 }
 
 // The phase of the slot that is being replaced, by that of the replacement.

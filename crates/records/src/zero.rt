@@ -1,27 +1,34 @@
-// Whether a record is blank, field by field, with no blank made. Written by scripts/records.py.
+// Whether a record is blank, field by field. Written by scripts/records.py.
 //
-// The forms are those of equality.rt: no loop is left early, and the first of three arrays in front
-// is tested by itself.
+// `x == X::default()` makes a blank first: the representability check took 1.8 to 2.8 times as long.
+// No loop is left early, so that many bytes are tested at once. Where three arrays stand in front,
+// the first is tested by itself: LLVM would make one test of them and take it apart byte by byte.
 ghost use Rattle.std.specs.Prelude.{◌≡◌, replicate};
 ghost use Rattle.identity.specs.Text.{every};
 ghost use Rattle.records.specs.Blank.{blank_voter_slot_identity, blank_spiffe_id, blank_snapshot_id, blank_voter_slot_log_id, blank_optional_log_id, blank_voter_slot_member, blank_voter_replacement_result, blank_voter_slot_record, blank_voter_snapshot_evidence, blank_voter_configuration, blank_lost_voter_attestation_v1, blank_voter_replacement_evidence, blank_voter_replacement_record};
-ghost use Rattle.records.specs.Equality.{eq_list, same_voter_slot_identity, same_spiffe_id, same_snapshot_id, same_voter_slot_log_id, same_optional_log_id, same_voter_slot_member, same_voter_replacement_result, same_voter_slot_record, same_voter_snapshot_evidence, same_voter_configuration, same_lost_voter_attestation_v1, same_voter_replacement_evidence, same_voter_replacement_record};
+ghost use Rattle.records.specs.Equality.{eq_bytes, eq_list, same_voter_slot_identity, same_spiffe_id, same_snapshot_id, same_voter_slot_log_id, same_optional_log_id, same_voter_slot_member, same_voter_replacement_result, same_voter_slot_record, same_voter_snapshot_evidence, same_voter_configuration, same_lost_voter_attestation_v1, same_voter_replacement_evidence, same_voter_replacement_record};
 ghost use Rattle.records.specs.Representable.{is_zero};
 
 use crate::records::*;
 use identity::identity::VoterSlotIdentity;
 
 // Whether every byte is zero.
+#[tactic(auto, unfolding(identity::specs::Text::every), using(identity::specs::TextLaws::all_more))]
 pub fn zeros(bytes: &[u8]) -> bool
     ensures { result ≡ every is_zero bytes.now }
 {
     let mut all = true;
-    let mut i = 0;
-    while i < bytes.len() {
-        all = all & (bytes[i] == 0);
-        i += 1;
+    for byte in bytes {
+        all = all & (*byte == 0);
     }
     all
+}
+
+// The same of an array: it is the blank of its length.
+fn are_zeros<const N: usize>(bytes: &[u8; N]) -> bool
+    ensures { result ≡ eq_bytes bytes.now (replicate N 0) }
+{
+    zeros(bytes)
 }
 
 #[tactic(auto, unfolding(crate::specs::Equality::all_true, crate::specs::Equality::same_voter_slot_identity, crate::specs::Blank::blank_voter_slot_identity))]
@@ -31,18 +38,18 @@ pub fn is_blank_voter_slot_identity(x: VoterSlotIdentity) -> bool
     (x.slot == 0) & (x.incarnation == 0)
 }
 
+#[tactic(auto, unfolding(crate::specs::Equality::all_true, crate::specs::Equality::same_spiffe_id, crate::specs::Blank::blank_spiffe_id))]
 pub fn is_blank_spiffe_id(x: SpiffeId) -> bool
     ensures { result ≡ same_spiffe_id x blank_spiffe_id }
 {
-    let bytes = zeros(&x.bytes);
-    (x.len == 0) & bytes
+    (x.len == 0) & are_zeros(&x.bytes)
 }
 
+#[tactic(auto, unfolding(crate::specs::Equality::all_true, crate::specs::Equality::same_snapshot_id, crate::specs::Blank::blank_snapshot_id))]
 pub fn is_blank_snapshot_id(x: SnapshotId) -> bool
     ensures { result ≡ same_snapshot_id x blank_snapshot_id }
 {
-    let bytes = zeros(&x.bytes);
-    (x.len == 0) & bytes
+    (x.len == 0) & are_zeros(&x.bytes)
 }
 
 #[tactic(auto, unfolding(crate::specs::Equality::all_true, crate::specs::Equality::same_voter_slot_log_id, crate::specs::Blank::blank_voter_slot_log_id))]
@@ -56,19 +63,16 @@ pub fn is_blank_voter_slot_log_id(x: VoterSlotLogId) -> bool
 pub fn is_blank_optional_log_id(x: OptionalLogId) -> bool
     ensures { result ≡ same_optional_log_id x blank_optional_log_id }
 {
-    let x_cut = x.cut;
-    let cut = is_blank_voter_slot_log_id(x_cut);
-    !x.is_some & cut
+    !x.is_some & is_blank_voter_slot_log_id(x.cut)
 }
 
+#[tactic(auto, unfolding(crate::specs::Equality::all_true, crate::specs::Equality::same_voter_slot_member, crate::specs::Blank::blank_voter_slot_member))]
 pub fn is_blank_voter_slot_member(x: VoterSlotMember) -> bool
     ensures { result ≡ same_voter_slot_member x blank_voter_slot_member }
 {
-    let x_identity = x.identity;
-    let identity = is_blank_voter_slot_identity(x_identity);
-    let key_digest = zeros(&x.key_digest);
-    let descriptor_digest = zeros(&x.descriptor_digest);
-    identity & (key_digest & (descriptor_digest & (x.admission_generation == 0)))
+    is_blank_voter_slot_identity(x.identity)
+        & (are_zeros(&x.key_digest)
+            & (are_zeros(&x.descriptor_digest) & (x.admission_generation == 0)))
 }
 
 // The nine places of a configuration, whatever its count.
@@ -76,133 +80,98 @@ pub fn is_blank_voter_slot_members(x: [VoterSlotMember; MAX_FIXED_VOTER_SLOTS]) 
     ensures { result ≡ eq_list same_voter_slot_member x (replicate 9 blank_voter_slot_member) }
 {
     let mut all = true;
-    let mut i: usize = 0;
-    while i < MAX_FIXED_VOTER_SLOTS {
-        let place = x[i];
-        all = all & is_blank_voter_slot_member(place);
-        i += 1;
+    for place in &x {
+        all = all & is_blank_voter_slot_member(*place);
     }
     all
 }
 
+#[tactic(auto, unfolding(crate::specs::Equality::all_true, crate::specs::Equality::same_voter_replacement_result, crate::specs::Blank::blank_voter_replacement_result))]
 pub fn is_blank_voter_replacement_result(x: VoterReplacementResult) -> bool
     ensures { result ≡ same_voter_replacement_result x blank_voter_replacement_result }
 {
-    let request_id = zeros(&x.request_id);
-    let request_digest = zeros(&x.request_digest);
-    let x_terminal = x.terminal;
-    let terminal = is_blank_voter_slot_log_id(x_terminal);
-    request_id
-        & (request_digest
+    are_zeros(&x.request_id)
+        & (are_zeros(&x.request_digest)
             & ((x.incarnation == 0)
                 & ((x.revision == 0)
-                    & ((x.configuration_epoch == 0) & ((x.kind == 0) & terminal)))))
+                    & ((x.configuration_epoch == 0)
+                        & ((x.kind == 0) & is_blank_voter_slot_log_id(x.terminal))))))
 }
 
 #[tactic(auto, unfolding(crate::specs::Equality::all_true, crate::specs::Equality::same_voter_slot_record, crate::specs::Blank::blank_voter_slot_record))]
 pub fn is_blank_voter_slot_record(x: VoterSlotRecord) -> bool
     ensures { result ≡ same_voter_slot_record x blank_voter_slot_record }
 {
-    let x_member = x.member;
-    let member = is_blank_voter_slot_member(x_member);
-    let x_last_result = x.last_result;
-    let last_result = is_blank_voter_replacement_result(x_last_result);
-    member & ((x.retired_through == 0) & ((x.phase == 0) & (!x.has_last_result & last_result)))
+    is_blank_voter_slot_member(x.member)
+        & ((x.retired_through == 0)
+            & ((x.phase == 0)
+                & (!x.has_last_result & is_blank_voter_replacement_result(x.last_result))))
 }
 
+#[tactic(auto, unfolding(crate::specs::Equality::all_true, crate::specs::Equality::same_voter_snapshot_evidence, crate::specs::Blank::blank_voter_snapshot_evidence))]
 pub fn is_blank_voter_snapshot_evidence(x: VoterSnapshotEvidence) -> bool
     ensures { result ≡ same_voter_snapshot_evidence x blank_voter_snapshot_evidence }
 {
-    let x_cut = x.cut;
-    let cut = is_blank_voter_slot_log_id(x_cut);
-    let x_snapshot_id = x.snapshot_id;
-    let snapshot_id = is_blank_snapshot_id(x_snapshot_id);
-    let digest = zeros(&x.digest);
-    cut & (snapshot_id & digest)
+    is_blank_voter_slot_log_id(x.cut) & (is_blank_snapshot_id(x.snapshot_id) & are_zeros(&x.digest))
 }
 
 #[tactic(auto, unfolding(crate::specs::Equality::all_true, crate::specs::Equality::same_voter_configuration, crate::specs::Blank::blank_voter_configuration))]
 pub fn is_blank_voter_configuration(x: VoterConfiguration) -> bool
     ensures { result ≡ same_voter_configuration x blank_voter_configuration }
 {
-    let x_members = x.members;
-    let members = is_blank_voter_slot_members(x_members);
-    (x.epoch == 0) & (members & (x.count == 0))
+    (x.epoch == 0) & (is_blank_voter_slot_members(x.members) & (x.count == 0))
 }
 
+#[tactic(auto, unfolding(crate::specs::Equality::all_true, crate::specs::Equality::same_lost_voter_attestation_v1, crate::specs::Blank::blank_lost_voter_attestation_v1))]
 pub fn is_blank_lost_voter_attestation_v1(x: LostVoterAttestationV1) -> bool
     ensures { result ≡ same_lost_voter_attestation_v1 x blank_lost_voter_attestation_v1 }
 {
-    if !zeros(&x.request_id) {
+    if !are_zeros(&x.request_id) {
         return false;
     }
-    let request_digest = zeros(&x.request_digest);
-    let cluster_instance = zeros(&x.cluster_instance);
-    let old_descriptor_digest = zeros(&x.old_descriptor_digest);
-    let candidate_key_digest = zeros(&x.candidate_key_digest);
-    let x_candidate_spiffe_id = x.candidate_spiffe_id;
-    let candidate_spiffe_id = is_blank_spiffe_id(x_candidate_spiffe_id);
-    let x_controller_spiffe_id = x.controller_spiffe_id;
-    let controller_spiffe_id = is_blank_spiffe_id(x_controller_spiffe_id);
-    let signing_key_digest = zeros(&x.signing_key_digest);
-    let policy_digest = zeros(&x.policy_digest);
-    let signature = zeros(&x.signature);
-    request_digest
-        & (cluster_instance
+    are_zeros(&x.request_digest)
+        & (are_zeros(&x.cluster_instance)
             & ((x.slot == 0)
                 & ((x.expected_incarnation == 0)
-                    & (old_descriptor_digest
-                        & (candidate_key_digest
+                    & (are_zeros(&x.old_descriptor_digest)
+                        & (are_zeros(&x.candidate_key_digest)
                             & ((x.admission_generation == 0)
-                                & (candidate_spiffe_id
-                                    & (controller_spiffe_id
-                                        & (signing_key_digest
+                                & (is_blank_spiffe_id(x.candidate_spiffe_id)
+                                    & (is_blank_spiffe_id(x.controller_spiffe_id)
+                                        & (are_zeros(&x.signing_key_digest)
                                             & ((x.reason == 0)
-                                                & (policy_digest
+                                                & (are_zeros(&x.policy_digest)
                                                     & ((x.observation_start_ms == 0)
                                                         & ((x.decision_ms == 0)
                                                             & ((x.issued_ms == 0)
                                                                 & ((x.expires_ms == 0)
-                                                                    & signature)))))))))))))))
+                                                                    & are_zeros(
+                                                                        &x.signature,
+                                                                    ))))))))))))))))
 }
 
 #[tactic(auto, unfolding(crate::specs::Equality::all_true, crate::specs::Equality::same_voter_replacement_evidence, crate::specs::Blank::blank_voter_replacement_evidence))]
 pub fn is_blank_voter_replacement_evidence(x: VoterReplacementEvidence) -> bool
     ensures { result ≡ same_voter_replacement_evidence x blank_voter_replacement_evidence }
 {
-    let x_prepare = x.prepare;
-    let prepare = is_blank_voter_slot_log_id(x_prepare);
-    let x_snapshot = x.snapshot;
-    let snapshot = is_blank_voter_snapshot_evidence(x_snapshot);
-    let x_learner = x.learner;
-    let learner = is_blank_optional_log_id(x_learner);
-    let x_caught_up = x.caught_up;
-    let caught_up = is_blank_optional_log_id(x_caught_up);
-    let x_continuation = x.continuation;
-    let continuation = is_blank_optional_log_id(x_continuation);
-    let x_fence = x.fence;
-    let fence = is_blank_optional_log_id(x_fence);
-    let x_joint = x.joint;
-    let joint = is_blank_optional_log_id(x_joint);
-    let x_uniform = x.uniform;
-    let uniform = is_blank_optional_log_id(x_uniform);
-    prepare
+    is_blank_voter_slot_log_id(x.prepare)
         & (!x.has_snapshot
-            & (snapshot & (learner & (caught_up & (continuation & (fence & (joint & uniform)))))))
+            & (is_blank_voter_snapshot_evidence(x.snapshot)
+                & (is_blank_optional_log_id(x.learner)
+                    & (is_blank_optional_log_id(x.caught_up)
+                        & (is_blank_optional_log_id(x.continuation)
+                            & (is_blank_optional_log_id(x.fence)
+                                & (is_blank_optional_log_id(x.joint)
+                                    & is_blank_optional_log_id(x.uniform))))))))
 }
 
 #[tactic(auto, unfolding(crate::specs::Equality::all_true, crate::specs::Equality::same_voter_replacement_record, crate::specs::Blank::blank_voter_replacement_record))]
 pub fn is_blank_voter_replacement_record(x: VoterReplacementRecord) -> bool
     ensures { result ≡ same_voter_replacement_record x blank_voter_replacement_record }
 {
-    let x_attestation = x.attestation;
-    let attestation = is_blank_lost_voter_attestation_v1(x_attestation);
-    let x_predecessor = x.predecessor;
-    let predecessor = is_blank_voter_configuration(x_predecessor);
-    let x_successor = x.successor;
-    let successor = is_blank_voter_configuration(x_successor);
-    let x_evidence = x.evidence;
-    let evidence = is_blank_voter_replacement_evidence(x_evidence);
     (x.expected_revision == 0)
-        & (attestation & (predecessor & (successor & ((x.phase == 0) & evidence))))
+        & (is_blank_lost_voter_attestation_v1(x.attestation)
+            & (is_blank_voter_configuration(x.predecessor)
+                & (is_blank_voter_configuration(x.successor)
+                    & ((x.phase == 0) & is_blank_voter_replacement_evidence(x.evidence)))))
 }

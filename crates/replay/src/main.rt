@@ -47,8 +47,7 @@ fn main(rt: HostRuntime) {
     }
 }
 
-// Plays to the end of the input. The turns are counted down, since nothing says that the input
-// ends.
+// Plays to the end of the input. The turns are counted, since nothing says that the input ends.
 fn run(
     input: &mut [u8; INPUT_SIZE],
     output: &mut [u8; OUTPUT_SIZE],
@@ -62,14 +61,13 @@ fn run(
         last: false,
         failed: false,
     };
-    let mut turns = u64::MAX;
-    while 0 < turns {
+    for _ in 0..u64::MAX {
         let played = play_part(journal, input, at, output);
         if !write_part(output, played.written, rt) {
             break;
         }
         journal = played.journal;
-        at.start = at.start + played.read;
+        at.start += played.read;
         if journal.ended | (at.last & (played.read == 0)) {
             break;
         }
@@ -79,7 +77,6 @@ fn run(
         if at.failed {
             break;
         }
-        turns -= 1;
     }
 }
 
@@ -88,9 +85,7 @@ fn play_part(journal: Journal, input: &[u8], at: Input, output: &mut [u8]) -> Pl
     requires { (at.start ≤ at.held) × (at.held ≤ length input.now) }
     ensures { (((result.answer, (result.read, (result.written, result.journal))), output.new) ≡ play_of journal (take (at.held - at.start) (drop at.start input.now)) at.last output.old) × ((at.start + result.read ≤ at.held) × (result.written ≤ length output.new)) }
 {
-    let start = at.start;
-    let held = at.held;
-    play(journal, &input[start..held], at.last, output)
+    play(journal, &input[at.start..at.held], at.last, output)
 }
 
 fn write_part(output: &[u8], written: usize, rt: &(impl Print + Eprint)) -> bool
@@ -163,12 +158,6 @@ fn shift(input: &mut [u8], start: usize, end: usize) -> usize
     requires { (start ≤ end) × (end ≤ length input.old) }
     ensures { (result ≡ end - start) × (take result input.new ≡ take result (drop start input.old)) }
 {
-    let mut from = start;
-    let mut to = 0;
-    while from < end {
-        input[to] = input[from];
-        from += 1;
-        to += 1;
-    }
-    to
+    input.copy_within(start..end, 0);
+    end - start
 }

@@ -1,13 +1,11 @@
 -- What is asked of a table, from the answers of its judges to what the exported functions give and leave.
 -- Assumes nothing.
-use Rattle.std.specs.Prelude.{ℕ, ◌≤◌, ◌<◌, ◌≡◌, refl, Bool, true, false, cond, List, length, take, drop, eqb, leb}
+use Rattle.std.specs.Prelude.{ℕ, ◌≤◌, ◌<◌, ◌≡◌, refl, Bool, true, false, cond, List, length, eqb, leb}
 use Rattle.std.proofs.Common.{sym, ◌∙◌, arith, le-leb, ne_eqb}
 use Rattle.std.proofs.Math.Path.{ap}
 use Rattle.std.proofs.lemmas.Bool.{false≢true, lt-leb}
-use Rattle.identity.specs.Answer.{is_accepted, number_of}
-use Rattle.identity.specs.AnswerLaws.{number-injective}
-use Rattle.identity.specs.declared.answer.Answer.{Answer}
-use Rattle.identity.specs.declared.answer.Answer.TheVariants.{BadRecord}
+use Rattle.identity.specs.Answer.{is_accepted, number_of, Answer, BadRecord}
+use Rattle.identity.specs.AnswerLaws.{accepted-is-0, number-injective}
 use Rattle.format.specs.Combinators.{Bytes}
 use Rattle.format.specs.Res.{Res}
 use Rattle.format.specs.Res.Res.{ok, no}
@@ -21,16 +19,13 @@ use Rattle.control.specs.Judgement.Verdict.{kept, moves}
 use Rattle.control.specs.Judgement.Verdict.{refused as refuses}
 use Rattle.control.specs.ObserveSight.{answer_of_observed, verdict_of_observed}
 use Rattle.control.specs.Verdicts.{answer_of, verdict_of}
-use Rattle.journal.specs.declared.observation.ObservationRead.{ObservationRead}
 use Rattle.journal.specs.declared.replay.Mark.{Mark}
 use Rattle.journal.specs.declared.replay.Mark.TheVariants.{Tb, Mk, Ad, Bg, Ob, Unknown}
 use Rattle.journal.specs.declared.step.Called.{Called}
 use Rattle.journal.specs.declared.step.Called.TheVariants.{Command, Observation}
-use Rattle.journal.specs.Bodies.{observation_asking}
 use Rattle.journal.specs.Records.{begin_body, marker_body, advance_body, observation_body}
 use Rattle.journal.specs.RefusalLaws.{attestation-refused}
 use Rattle.journal.specs.Replay.{Asked, Asking, Standing, advance_asked, answered, asking, attested, bad_record, begin_asked, called, formed, marker_asked, observation_asked, step}
-use Rattle.journal.specs.Replay.Asked.{observation}
 use Rattle.journal.specs.Replay.Asking.{bad, refused, asks}
 use Rattle.journal.specs.Replay.Standing.{absent, stands}
 use Rattle.journal.specs.Step.{Judges, answer_of_called, is_changing, is_made, made_by}
@@ -108,7 +103,8 @@ same-table t u e = ap (table_of t) e
 -- a refusal of a call
 settled-no : (a : Answer) (u : VoterSlotTable) (out : List ℕ) (k : ℕ) → k ≡ number_of a → (k ≡ 0 → ⊥) → settled (a, u) out ≡ leaves k out
 settled-no a u out k e h =
-    ap (λ (n : ℕ). cond (eqb n 0) (written u out) (leaves n out)) (sym e) ∙ cond-false (eqb k 0) (written u out) (leaves k out) (ne_eqb k 0 h)
+    ap (λ b. cond b (written u out) (leaves (number_of a) out)) (accepted-is-0 a)
+    ∙ ap (λ (n : ℕ). cond (eqb n 0) (written u out) (leaves n out)) (sym e) ∙ cond-false (eqb k 0) (written u out) (leaves k out) (ne_eqb k 0 h)
 
 given_is : (x : Asking) (a : Answer) (u t : VoterSlotTable) (bs out : List ℕ) {n : ℕ} → decode_voter_slot_table bs ≡ ok t n → (x ≡ refused 0 → ⊥)
     → ◌≡◌ {A = ℕ × Standing} (called t x) (number_of a, stands u) → settled (a, u) out ≡ asked_of x bs out
@@ -188,28 +184,7 @@ pub too_long : (bs body out : List ℕ) → most_body < length body → leaves b
 unfolding asking asked_of
 too_long bs body out h = ap (λ (m : Mark). asked_of (asking m body) bs out) (sym (observation-long (length body) h))
 
--- ---- whether a body is of its form, from its reader's answer
-
-pub formed-is : (b : Bool) (a : Asked) {x : Asking} → cond b (asks a) bad ≡ x → b ≡ is_formed x
-formed-is true a e = ap is_formed e
-formed-is false a e = ap is_formed e
-
--- ---- an observation, from its reader's answer
-
-module _ (r : ObservationRead) (ids counts body : List ℕ) (e : observation_asking r ids counts ≡ asking Ob body) where
-  pub asks_nothing : r.formed ≡ false → bad ≡ asking Ob body
-  asks_nothing h =
-      sym (cond-false r.formed (asks (observation (take r.ids ids) (take r.sets counts) (take r.nodes (drop r.ids ids)) r.cut)) bad h) ∙ e
-
-  module _ (bs out : List ℕ) where
-    -- 33
-    pub unformed-is : r.formed ≡ false → leaves bad_record out ≡ asked_of (asking Ob body) bs out
-    unfolding asked_of
-    unformed-is h = ap (λ (x : Asking). asked_of x bs out) (asks_nothing h)
-
-    -- of the form, at a table that is refused
-    pub formed-refused : r.formed ≡ true → (answer : Answer) → decode_voter_slot_table bs ≡ no (number_of answer)
-        → leaves (number_of answer) out ≡ asked_of (asking Ob body) bs out
-    formed-refused h answer d =
-        ap (λ (b : Bool). leaves (number_of (cond b answer BadRecord)) out) (sym h ∙ formed-is r.formed _ e)
-        ∙ refused-is (asking Ob body) bs out answer d
+-- of the form, at a table that is refused
+pub formed-refused : (x : Asking) (bs out : List ℕ) (answer : Answer) → is_formed x ≡ true → decode_voter_slot_table bs ≡ no (number_of answer)
+    → leaves (number_of answer) out ≡ asked_of x bs out
+formed-refused x bs out answer h d = ap (λ (b : Bool). leaves (number_of (cond b answer BadRecord)) out) (sym h) ∙ refused-is x bs out answer d

@@ -4,8 +4,7 @@
 -- Document 01: "The Rust service calls through functions over numbers and bytes."
 -- Assumes nothing.
 use Rattle.std.specs.Prelude.{ℕ, Bool, cond, false, true, List, eqb, leb, length}
-use Rattle.identity.specs.Answer.{is_accepted, number_of}
-use Rattle.identity.specs.declared.answer.Answer.{Answer}
+use Rattle.identity.specs.Answer.{is_accepted, number_of, Answer}
 use Rattle.records.specs.declared.records.VoterSlotTable.{VoterSlotTable}
 use Rattle.codec.specs.Codec.{decode_voter_slot_table}
 use Rattle.journal.specs.declared.replay.Mark.{Mark}

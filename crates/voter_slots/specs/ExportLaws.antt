@@ -1,14 +1,13 @@
 -- What the exported functions know of a table that was read, and each way that a reading and a writing can go.
 -- Assumes nothing.
-use Rattle.std.specs.Prelude.{ℕ, ◌≤◌, ◌<◌, ◌≡◌, refl, true, false, List, length}
+use Rattle.std.specs.Prelude.{Ok, ℕ, Bool, ◌≤◌, ◌<◌, ◌≡◌, refl, true, false, List, length}
 use Rattle.std.proofs.Math.Path.{sym, ap}
 use Rattle.std.proofs.Common.{◌∙◌, arith, eqb-true}
 use Rattle.std.proofs.lemmas.Bool.{false≢true}
 use Rattle.std.proofs.Math.Nat.{zero-add}
 use Rattle.std.proofs.Math.Dec.{eqb}
-use Rattle.identity.specs.Answer.{is_accepted, number_of}
-use Rattle.identity.specs.declared.answer.Answer.{Answer}
-use Rattle.identity.specs.declared.answer.Answer.TheVariants.{Accepted}
+use Rattle.identity.specs.Answer.{is_accepted, number_of, Answer, Accepted}
+use Rattle.identity.specs.AnswerLaws.{accepted-is-0}
 use Rattle.format.specs.Combinators.{Bytes}
 use Rattle.format.specs.Put.{Put}
 use Rattle.format.specs.Res.{Res}
@@ -26,7 +25,6 @@ use Rattle.codec.specs.EntryLaws.{encode-short, put-start}
 use Rattle.codec.specs.FitsLaws.{table_fits}
 use Rattle.control.specs.Retired.{is_retired, retired_number, retired_test}
 use Rattle.control.specs.RetiredLaws.{test-says}
-use Rattle.control.specs.declared.retired.Retirement.TheVariants.{NotRetired, Retired}
 use Rattle.journal.specs.RefusalLaws.{table-refused}
 use Rattle.voter_slots.specs.declared.result.VoterSlotsResult.{VoterSlotsResult}
 use Rattle.voter_slots.specs.Export.{ReadAs, leaves, read_by, read_of, refused_result, numbers_of, retired_by, retired_of, with_table, write_of, written_by, written}
@@ -45,12 +43,12 @@ read_as bs t e = read-by bs t (decode_voter_slot_table bs) refl e
 module _ (bs : List ℕ) (answer : Answer) (t : VoterSlotTable) (met : ◌≡◌ {A = ℕ × VoterSlotTable} (number_of answer, t) (decoded blank_voter_slot_table (decode_voter_slot_table bs))) where
   -- the reader accepted
   pub is_read : is_accepted answer ≡ true → ReadAs bs t
-  is_read h = sym met ∙ ap (λ k. (k, t)) (eqb-true (number_of answer) 0 h)
+  is_read h = sym met ∙ ap (λ k. (k, t)) (eqb-true (number_of answer) 0 (sym (accepted-is-0 answer) ∙ h))
 
   no-by : (r : Res VoterSlotTable) → decode_voter_slot_table bs ≡ r → ◌≡◌ {A = ℕ × VoterSlotTable} (number_of answer, t) (decoded blank_voter_slot_table r) → is_accepted answer ≡ false
       → decode_voter_slot_table bs ≡ no (number_of answer)
   unfolding decoded
-  no-by (ok u n) p q h = let zero : number_of answer ≡ 0 = λ i. (q i).0 in absurd (false≢true (sym h ∙ ap (λ k. eqb k 0) zero))
+  no-by (ok u n) p q h = let zero : number_of answer ≡ 0 = λ i. (q i).0 in absurd (false≢true (sym h ∙ accepted-is-0 answer ∙ ap (λ k. eqb k 0) zero))
   no-by (no k) p q h = let same : number_of answer ≡ k = λ i. (q i).0 in p ∙ ap (λ (x : ℕ). no x) (sym same)
 
   -- the reader refused
@@ -121,8 +119,8 @@ module _ (bs : List ℕ) (t : VoterSlotTable) (node : ℕ) (z : Bytes bs) (e : R
 
   pub says-yes : is_retired t node ≡ true → 101 ≡ retired_of bs node
   says-yes h =
-      retired-as (ap retired_number (test-says t node (valid-parts t (read-accepted bs t z e)).0 ∙ cond-true (is_retired t node) Retired NotRetired h))
+      retired-as (ap retired_number (test-says t node (valid-parts t (read-accepted bs t z e)).0 ∙ ap (λ (b : Bool). Ok b) h))
 
   pub says-no : is_retired t node ≡ false → 100 ≡ retired_of bs node
   says-no h =
-      retired-as (ap retired_number (test-says t node (valid-parts t (read-accepted bs t z e)).0 ∙ cond-false (is_retired t node) Retired NotRetired h))
+      retired-as (ap retired_number (test-says t node (valid-parts t (read-accepted bs t z e)).0 ∙ ap (λ (b : Bool). Ok b) h))

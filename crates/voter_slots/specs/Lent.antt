@@ -6,9 +6,7 @@
 -- returns is not stored.
 -- Assumes nothing.
 use Rattle.std.specs.Prelude.{ℕ, Bool, cond, ◌&&◌, List, length}
-use Rattle.identity.specs.Answer.{is_accepted, number_of}
-use Rattle.identity.specs.declared.answer.Answer.{Answer}
-use Rattle.identity.specs.declared.answer.Answer.TheVariants.{InvalidTransition, Unrepresentable}
+use Rattle.identity.specs.Answer.{is_accepted, number_of, Answer, InvalidTransition, Unrepresentable}
 use Rattle.format.specs.Res.{Res}
 use Rattle.format.specs.Res.Res.{ok, no}
 use Rattle.records.specs.declared.records.VoterSlotTable.{VoterSlotTable}

@@ -1,14 +1,12 @@
 -- Each way that a call on a lent table can go, from what its parts answer.
 -- Assumes nothing.
-use Rattle.std.specs.Prelude.{ℕ, ◌<◌, ◌≤◌, ◌≡◌, Bool, cond, ◌&&◌, List, length, take, drop, eqb}
+use Rattle.std.specs.Prelude.{ℕ, ◌<◌, ◌≤◌, ◌≡◌, Bool, cond, ◌&&◌, List, length, eqb}
 use Rattle.std.proofs.Math.Path.{refl, ap}
 use Rattle.std.proofs.Common.{sym, ◌∙◌, arith, ne_eqb}
 use Rattle.std.proofs.Math.Bool.{true, false}
 use Rattle.std.proofs.lemmas.Bool.{false≢true}
-use Rattle.identity.specs.Answer.{is_accepted, number_of}
-use Rattle.identity.specs.AnswerLaws.{number-injective}
-use Rattle.identity.specs.declared.answer.Answer.{Answer}
-use Rattle.identity.specs.declared.answer.Answer.TheVariants.{Accepted, BadRecord, InvalidTransition, Unrepresentable}
+use Rattle.identity.specs.Answer.{is_accepted, number_of, Answer, Accepted, InvalidTransition, Unrepresentable}
+use Rattle.identity.specs.AnswerLaws.{accepted-is-0, number-injective}
 use Rattle.format.specs.Res.Res.{no}
 use Rattle.records.specs.Representable.{representable}
 use Rattle.records.specs.Successor.{validate_successor_of}
@@ -23,29 +21,22 @@ use Rattle.records.specs.declared.records.VoterSlotTable.{VoterSlotTable}
 use Rattle.codec.specs.Codec.{decode_voter_slot_table}
 use Rattle.codec.specs.EntryLaws.{encode-refused}
 use Rattle.codec.specs.FitsLaws.{table_fits}
-use Rattle.control.specs.declared.control.VoterSlotControl.{VoterSlotControl}
-use Rattle.control.specs.Control.{Decision, apply_control, decide, representable_control, representable_request, representable_step, settle}
+use Rattle.control.specs.Control.{Decision, apply_control, decide, representable_control, settle}
 use Rattle.control.specs.Control.Decision.{refuse, keep, change}
 use Rattle.control.specs.Observation.{all_rising, is_rising, observe, observe_membership, representable_sets, split_sets}
-use Rattle.journal.specs.declared.bodies.Asks.{Asks}
-use Rattle.journal.specs.declared.bodies.Asks.TheVariants.{Bad, Refused, Begin}
-use Rattle.journal.specs.declared.bodies.AdvanceRead.{AdvanceRead}
-use Rattle.journal.specs.declared.bodies.BeginRead.{BeginRead}
-use Rattle.journal.specs.declared.bodies.MarkerRead.{MarkerRead}
-use Rattle.journal.specs.declared.observation.ObservationRead.{ObservationRead}
+use Rattle.journal.specs.declared.bodies.MarkerBody.{MarkerBody}
 use Rattle.journal.specs.declared.replay.Mark.{Mark}
-use Rattle.journal.specs.declared.replay.Mark.TheVariants.{Ad, Bg, Mk, Ob}
+use Rattle.journal.specs.declared.replay.Mark.TheVariants.{Ob}
 use Rattle.journal.specs.declared.step.Called.{Called}
-use Rattle.journal.specs.Bodies.{advance_asking, begin_asking, begin_asking_by, marker_asking, observation_asking}
-use Rattle.journal.specs.Replay.{Asking, Standing, advance_control, answered, asking, bad_record, called, marker_asked, marker_control, step}
+use Rattle.journal.specs.Replay.{Asking, Standing, answered, asking, bad_record, called, marker_control, step}
 use Rattle.journal.specs.Replay.Asked.{command, observation}
 use Rattle.journal.specs.Replay.Asking.{bad, refused, asks}
 use Rattle.journal.specs.Replay.Standing.{stands}
 use Rattle.journal.specs.Step.{Judges, answer_of_called, made_by}
-use Rattle.journal.proofs.StepLaws.{fits-advance, fits-begin, fits-marker, no-observation, observes, step-called}
+use Rattle.journal.proofs.StepLaws.{fits_marker, no-observation, observes, step-called}
 use Rattle.voter_slots.specs.declared.result.VoterSlotsResult.{VoterSlotsResult}
 use Rattle.voter_slots.specs.Calls.{most_body}
-use Rattle.voter_slots.specs.CallLaws.{asks_nothing, never-zero, observation-long, same-table}
+use Rattle.voter_slots.specs.CallLaws.{never-zero, observation-long, same-table}
 use Rattle.voter_slots.specs.Export.{ReadAs, leaves, refused_result, numbers_of, written_by}
 use Rattle.voter_slots.specs.ExportLaws.{read_as}
 use Rattle.voter_slots.specs.Lent.{asked_at, read_over, refusal_at, stays, table_observe_of, table_read_of, table_write_of, told}
@@ -66,7 +57,7 @@ over_no t bs e = ap (read_over t (length bs)) (sym e)
 
 pub unwritten : (t : VoterSlotTable) (out : List ℕ) → is_accepted (validate t) ≡ false → leaves (number_of (validate t)) out ≡ table_write_of t out
 unfolding written_by
-unwritten t out h = ap (written_by t out) (sym (encode-refused t out h))
+unwritten t out h = ap (written_by t out) (sym (encode-refused t out (sym (accepted-is-0 (validate t)) ∙ h)))
 
 -- ---- what a caller is told
 
@@ -79,8 +70,9 @@ tells-not a u h = ap (λ (r : VoterSlotsResult). (r, u)) (sym (cond-false (is_ac
 -- a refusal by its number
 told-no : (a : Answer) (t u : VoterSlotTable) (k : ℕ) → k ≡ number_of a → (k ≡ 0 → ⊥) → t ≡ u → told (a, u) ≡ stays k t
 told-no a t u k e h s =
-    ap (λ (n : ℕ). (cond (eqb n 0) (numbers_of u 0) (refused_result n), u)) (sym e)
-    ∙ (ap (λ (r : VoterSlotsResult). (r, u)) (cond-false (eqb k 0) (numbers_of u 0) (refused_result k) (ne_eqb k 0 h)) ∙ ap (stays k) (sym s))
+    ap (λ (b : Bool). (cond b (numbers_of u 0) (refused_result (number_of a)), u)) (accepted-is-0 a)
+    ∙ (ap (λ (n : ℕ). (cond (eqb n 0) (numbers_of u 0) (refused_result n), u)) (sym e)
+    ∙ (ap (λ (r : VoterSlotsResult). (r, u)) (cond-false (eqb k 0) (numbers_of u 0) (refused_result k) (ne_eqb k 0 h)) ∙ ap (stays k) (sym s)))
 
 -- ---- a valid table
 
@@ -135,41 +127,9 @@ module _ (t : VoterSlotTable) (invalid : is_accepted (validate t) ≡ false) whe
   pub refusal_is : (mark : Mark) (body : List ℕ) → (mark ≡ Ob → ⊥) → stays (refusal_at (representable t) (asking mark body)) t ≡ asked_at (asking mark body) t
   refusal_is mark body n = refusal-by (asking mark body) (no-observation mark body n)
 
--- the same from the readers of the bodies
-module _ (fits : Bool) (body : List ℕ) where
-  -- 33 first
-  abbrev later_than : Bool → Bool → ℕ
-  later_than formed b = number_of (cond formed (cond b InvalidTransition Unrepresentable) BadRecord)
-
-  command-refusal : (formed b : Bool) (c : VoterSlotControl) (cut : VoterSlotLogId) → b ≡ (fits && representable_control c)
-      → later_than formed b ≡ refusal_at fits (cond formed (asks (command c cut)) bad)
-  unfolding refusal_at
-  command-refusal true b c cut e = ap (λ (x : Bool). number_of (cond x InvalidTransition Unrepresentable)) e
-  command-refusal false b c cut e = refl
-
-  pub marker-refusal : (r : MarkerRead) → marker_asking r ≡ asking Mk body → later_than r.formed fits ≡ refusal_at fits (asking Mk body)
-  unfolding marker_asked
-  marker-refusal r e =
-      command-refusal r.formed fits (marker_control r.value) r.value.cut (sym (and-true fits) ∙ ap (λ (b : Bool). fits && b) (sym (fits-marker r.value))) ∙ ap (refusal_at fits) e
-
-  pub advance-refusal : (r : AdvanceRead) → advance_asking r ≡ asking Ad body → later_than r.formed (fits && representable_step r.value.step) ≡ refusal_at fits (asking Ad body)
-  advance-refusal r e =
-      command-refusal r.formed (fits && representable_step r.value.step) (advance_control r.value) r.value.cut (ap (λ (b : Bool). fits && b) (sym (fits-advance r.value))) ∙ ap (refusal_at fits) e
-
-  pub begin-bad : (r : BeginRead) → begin_asking r ≡ asking Bg body → r.asks ≡ Bad → number_of BadRecord ≡ refusal_at fits (asking Bg body)
-  unfolding refusal_at begin_asking_by
-  begin-bad r e q = ap (λ (a : Asks). refusal_at fits (begin_asking_by a r.value)) (sym q) ∙ ap (refusal_at fits) e
-
-  pub begin-refused : (r : BeginRead) (answer : Answer) → begin_asking r ≡ asking Bg body → r.asks ≡ Refused answer → number_of answer ≡ refusal_at fits (asking Bg body)
-  unfolding refusal_at begin_asking_by
-  begin-refused r answer e q = ap (λ (a : Asks). refusal_at fits (begin_asking_by a r.value)) (sym q) ∙ ap (refusal_at fits) e
-
-  pub begin-refusal : (r : BeginRead) → begin_asking r ≡ asking Bg body → r.asks ≡ Begin
-      → number_of (cond (fits && representable_request r.value.request) InvalidTransition Unrepresentable) ≡ refusal_at fits (asking Bg body)
-  unfolding refusal_at begin_asking_by
-  begin-refusal r e q =
-      ap (λ (b : Bool). number_of (cond (fits && b) InvalidTransition Unrepresentable)) (sym (fits-begin r.value.request))
-      ∙ (ap (λ (a : Asks). refusal_at fits (begin_asking_by a r.value)) (sym q) ∙ ap (refusal_at fits) e)
+-- a marker has no part that does not fit
+pub marker_fits : (fits : Bool) (b : MarkerBody) → (fits && representable_control (marker_control b)) ≡ fits
+marker_fits fits b = ap (λ (x : Bool). fits && x) (fits_marker b) ∙ and-true fits
 
 -- ---- an observation
 
@@ -195,18 +155,6 @@ module _ (t : VoterSlotTable) (ids counts nodes : List ℕ) (cut : VoterSlotLogI
       (λ _ _. settle-fits t (observe t (split_sets ids counts) nodes cut) (and_left (representable t) (representable_sets ids counts nodes) h))
       (λ _ k. absurd (false≢true k)))
       (λ _ k. absurd (false≢true k))
-
-module _ (t : VoterSlotTable) (r : ObservationRead) (ids counts body : List ℕ) (e : observation_asking r ids counts ≡ asking Ob body) where
-  pub observed-ok : r.formed ≡ true
-      → told (observe_membership t (take r.ids ids) (take r.sets counts) (take r.nodes (drop r.ids ids)) r.cut) ≡ asked_at (asking Ob body) t
-  unfolding asked_at answered
-  observed-ok h =
-      ap (λ (x : Asking). asked_at x t)
-      (sym (cond-true r.formed (asks (observation (take r.ids ids) (take r.sets counts) (take r.nodes (drop r.ids ids)) r.cut)) bad h) ∙ e)
-
-  pub observed-bad : r.formed ≡ false → stays bad_record t ≡ asked_at (asking Ob body) t
-  unfolding asked_at
-  observed-bad h = ap (λ (x : Asking). asked_at x t) (asks_nothing r ids counts body e h)
 
 -- one that no record has room for
 pub long-observation : (t : VoterSlotTable) (body : List ℕ) → most_body < length body → stays bad_record t ≡ table_observe_of t body

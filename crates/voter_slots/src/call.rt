@@ -1,8 +1,8 @@
 // A command by its mark, or an observation, judged at a table; and what was judged, made and written.
 ghost use Rattle.std.specs.Prelude.{◌*◌, ◌≤◌, cond, ◌≡◌, length};
-ghost use Rattle.identity.specs.declared.answer.Answer.TheVariants.{Accepted, BadRecord};
+ghost use Rattle.identity.specs.Answer.{Accepted, BadRecord};
 ghost use Rattle.records.specs.Validation.{validate};
-ghost use Rattle.journal.specs.declared.replay.Mark.TheVariants.{Bg, Ob};
+ghost use Rattle.journal.specs.declared.replay.Mark.TheVariants.{Ob};
 ghost use Rattle.journal.specs.Replay.{asking};
 ghost use Rattle.journal.specs.Step.{Judges, Makes, answer_of_called, made_by};
 ghost use Rattle.voter_slots.specs.Calls.{asked_of, command_of, is_formed, settled};
@@ -10,8 +10,7 @@ ghost use Rattle.voter_slots.specs.Export.{ReadAs};
 
 use crate::result::*;
 use codec::codec::decode_voter_slot_table;
-use control::judge::Judged;
-use identity::answer::{Answer, accepted};
+use identity::answer::{Answer, Refusal, accepted};
 use journal::bodies::*;
 use journal::observation::*;
 use journal::record::MOST_BODY;
@@ -33,20 +32,6 @@ pub const USUAL_IDS: usize = 128;
 // A body of so many bytes has no more ids: each takes eight.
 pub const USUAL_BODY: usize = 8 * USUAL_IDS;
 
-// Places for the ids of a usual body and of any, and for the counts. Nobody reads what they hold at
-// first.
-pub fn usual_ids() -> [u64; USUAL_IDS] {
-    [0; USUAL_IDS]
-}
-
-pub fn most_ids() -> [u64; MOST_IDS] {
-    [0; MOST_IDS]
-}
-
-pub fn no_counts() -> [usize; MOST_SETS] {
-    [0; MOST_SETS]
-}
-
 // A body that is not of its form comes before any other refusal.
 pub fn later(formed: bool, answer: Answer) -> Answer
     ensures { result ≡ cond formed answer BadRecord }
@@ -54,7 +39,7 @@ pub fn later(formed: bool, answer: Answer) -> Answer
     if formed {
         return answer;
     }
-    Answer::BadRecord
+    Err(Refusal::BadRecord)
 }
 
 // The command that a mark asks for; none where the body is too long for a record.
@@ -72,28 +57,17 @@ pub fn command_of(mark: u32, len: usize) -> Mark
     }
 }
 
+// Whether the body is of its form; one whose attestation is refused is.
+#[tactic(auto, using(crate::proofs::Marks::other))]
 pub fn is_formed(asks: Mark, body: &[u8]) -> bool
     requires { asks ≡ Ob → ⊥ }
     ensures { result ≡ is_formed (asking asks body.now) }
 {
     match asks {
-        Mark::Mk => read_marker(body).formed,
-        Mark::Ad => read_advance(body).formed,
-        Mark::Bg => is_begin(body),
+        Mark::Mk => read_marker(body).is_some(),
+        Mark::Ad => read_advance(body).is_some(),
+        Mark::Bg => read_begin(body).is_some(),
         _ => false,
-    }
-}
-
-// One whose attestation is refused is of the form.
-fn is_begin(body: &[u8]) -> bool
-    ensures { result ≡ is_formed (asking Bg body.now) }
-{
-    let read = read_begin(body);
-    let asks = read.asks;
-    match asks {
-        Asks::Bad => false,
-        Asks::Refused(_) => true,
-        Asks::Begin => true,
     }
 }
 
@@ -105,7 +79,7 @@ pub fn judge_body(table: VoterSlotTable, asks: Mark, body: &[u8]) -> Called
         Mark::Mk => Called::Command(judge_marker_body(table, body)),
         Mark::Ad => Called::Command(judge_advance_body(table, body)),
         Mark::Bg => Called::Command(judge_begin_body(table, body)),
-        _ => Called::Command(Judged::Refuse(Answer::BadRecord)),
+        _ => Called::Command(Err(Refusal::BadRecord)),
     }
 }
 
@@ -120,10 +94,9 @@ pub fn observe_bytes(
     requires { (length body.now ≤ 65535) × ((length body.now ≤ 8 * length ids.old) × (255 ≤ length counts.old)) }
     ensures { (result, out.new) ≡ asked_of (asking Ob body.now) table.now out.old }
 {
-    let read = read_observation(body, ids, counts);
-    if !read.formed {
-        return refused(Answer::BadRecord);
-    }
+    let Some(read) = read_observation(body, ids, counts) else {
+        return refused(Err(Refusal::BadRecord));
+    };
     let decoded = decode_voter_slot_table(table);
     let answer = decoded.answer;
     if !accepted(answer) {

@@ -5,10 +5,10 @@
 // find. An observation and the retired test are document 01's entry points.
 ghost use Rattle.std.specs.Prelude.{◌+◌, ◌*◌, ◌≤◌, cond, true, ◌≡◌, length, take, drop};
 ghost use Rattle.identity.specs.Answer.{is_accepted, number_of};
-ghost use Rattle.identity.specs.declared.answer.Answer.TheVariants.{Accepted, InvalidTransition, Unrepresentable};
+ghost use Rattle.identity.specs.Answer.{Accepted, InvalidTransition, Unrepresentable};
 ghost use Rattle.records.specs.Validation.{validate};
 ghost use Rattle.control.specs.Observation.{observe_membership};
-ghost use Rattle.journal.specs.declared.replay.Mark.TheVariants.{Ad, Bg, Ob};
+ghost use Rattle.journal.specs.declared.replay.Mark.TheVariants.{Ad, Bg, Mk, Ob};
 ghost use Rattle.journal.specs.Replay.{asking};
 ghost use Rattle.journal.specs.Step.{Makes, answer_of_called, made_by};
 ghost use Rattle.voter_slots.specs.Lent.{asked_at, refusal_at, stays, table_apply_of, table_observe_of, table_read_of, table_retired_of, table_write_of, told};
@@ -20,8 +20,8 @@ use codec::codec::decode_voter_slot_table;
 use control::apply::Controlled;
 use control::observe::observe_membership;
 use control::representable::{is_representable_request, is_representable_step};
-use control::retired::{Retirement, is_retired};
-use identity::answer::{Answer, accepted, number};
+use control::retired::is_retired;
+use identity::answer::{Answer, Refusal, accepted, number};
 use journal::bodies::*;
 use journal::observation::*;
 use journal::record::MOST_BODY;
@@ -31,7 +31,8 @@ use records::records::VoterSlotTable;
 use records::representable::is_representable;
 use records::validation::validate_table;
 
-// The law of a call on a lent table goes by the order of these fields.
+// The law of a call on a lent table goes by the order of these fields. A refused call has a table
+// too: the one that was lent.
 #[derive(Clone, Copy)]
 pub struct Afterwards {
     pub result: VoterSlotsResult,
@@ -128,42 +129,48 @@ fn tell(controlled: Controlled) -> Afterwards
 }
 
 // The refusal of a command at a table that is not valid. `fits`: it passes the representability check.
+#[tactic(auto, using(crate::proofs::Marks::other), unfolding(crate::specs::Lent::refusal_at))]
 fn refuse_command(fits: bool, asks: Mark, body: &[u8]) -> Answer
     requires { asks ≡ Ob → ⊥ }
     ensures { number_of result ≡ refusal_at fits (asking asks body.now) }
 {
     match asks {
-        Mark::Mk => later(read_marker(body).formed, invalid(fits)),
+        Mark::Mk => refuse_marker(fits, body),
         Mark::Ad => refuse_advance(fits, body),
         Mark::Bg => refuse_begin(fits, body),
-        _ => Answer::BadRecord,
+        _ => Err(Refusal::BadRecord),
     }
 }
 
+#[tactic(auto, using(crate::specs::LentLaws::marker_fits), unfolding(crate::specs::Lent::refusal_at, journal::specs::Replay::marker_asked))]
+fn refuse_marker(fits: bool, body: &[u8]) -> Answer
+    ensures { number_of result ≡ refusal_at fits (asking Mk body.now) }
+{
+    if read_marker(body).is_none() {
+        return Err(Refusal::BadRecord);
+    }
+    invalid(fits)
+}
+
+#[tactic(auto, using(journal::proofs::StepLaws::fits_advance), unfolding(crate::specs::Lent::refusal_at))]
 fn refuse_advance(fits: bool, body: &[u8]) -> Answer
     ensures { number_of result ≡ refusal_at fits (asking Ad body.now) }
 {
-    let read = read_advance(body);
-    let step = read.value.step;
-    let all_fit = fits & is_representable_step(step);
-    later(read.formed, invalid(all_fit))
+    let Some(advance) = read_advance(body) else {
+        return Err(Refusal::BadRecord);
+    };
+    invalid(fits & is_representable_step(advance.step))
 }
 
+#[tactic(auto, using(journal::proofs::StepLaws::fits_begin), unfolding(crate::specs::Lent::refusal_at))]
 fn refuse_begin(fits: bool, body: &[u8]) -> Answer
     ensures { number_of result ≡ refusal_at fits (asking Bg body.now) }
 {
-    let read = read_begin(body);
-    let asks = read.asks;
-    let begin = read.value;
-    match asks {
-        Asks::Bad => Answer::BadRecord,
-        Asks::Refused(answer) => answer,
-        Asks::Begin => {
-            let request = begin.request;
-            let all_fit = fits & is_representable_request(request);
-            invalid(all_fit)
-        }
-    }
+    let Some(begin) = read_begin(body) else {
+        return Err(Refusal::BadRecord);
+    };
+    let begin = begin?;
+    invalid(fits & is_representable_request(begin.request))
 }
 
 // A table that is not valid: 25, unless something is not representable.
@@ -171,9 +178,9 @@ fn invalid(fits: bool) -> Answer
     ensures { result ≡ cond fits InvalidTransition Unrepresentable }
 {
     if fits {
-        return Answer::InvalidTransition;
+        return Err(Refusal::InvalidTransition);
     }
-    Answer::Unrepresentable
+    Err(Refusal::Unrepresentable)
 }
 
 // ---- observations
@@ -182,18 +189,19 @@ pub fn observe_at(table: VoterSlotTable, body: &[u8]) -> Afterwards
     ensures { (result.result, result.table) ≡ table_observe_of table body.now }
 {
     if MOST_BODY < body.len() {
-        return stay(table, Answer::BadRecord);
+        return stay(table, Err(Refusal::BadRecord));
     }
     let mut counts = no_counts();
     if body.len() <= USUAL_BODY {
-        let mut ids = usual_ids();
+        let mut ids = no_ids::<USUAL_IDS>();
         return observe_body(table, body, &mut ids, &mut counts);
     }
-    let mut ids = most_ids();
+    let mut ids = no_ids::<MOST_IDS>();
     observe_body(table, body, &mut ids, &mut counts)
 }
 
 // With room for the ids and the counts of the body.
+#[tactic(auto, unfolding(crate::specs::Lent::asked_at, journal::specs::Replay::answered))]
 fn observe_body(
     table: VoterSlotTable,
     body: &[u8],
@@ -203,10 +211,9 @@ fn observe_body(
     requires { (length body.now ≤ 65535) × ((length body.now ≤ 8 * length ids.old) × (255 ≤ length counts.old)) }
     ensures { (result.result, result.table) ≡ asked_at (asking Ob body.now) table }
 {
-    let read = read_observation(body, ids, counts);
-    if !read.formed {
-        return stay(table, Answer::BadRecord);
-    }
+    let Some(read) = read_observation(body, ids, counts) else {
+        return stay(table, Err(Refusal::BadRecord));
+    };
     observe_read(table, read, ids, counts)
 }
 
@@ -220,16 +227,12 @@ fn observe_read(
     requires { (read.ids + read.nodes ≤ length ids.now) × (read.sets ≤ length counts.now) }
     ensures { (result.result, result.table) ≡ told (observe_membership table (take read.ids ids.now) (take read.sets counts.now) (take read.nodes (drop read.ids ids.now)) read.cut) }
 {
-    let set_ids = read.ids;
-    let sets = read.sets;
-    let end = set_ids + read.nodes;
-    let cut = read.cut;
     tell(observe_membership(
         table,
-        &ids[..set_ids],
-        &counts[..sets],
-        &ids[set_ids..end],
-        cut,
+        &ids[..read.ids],
+        &counts[..read.sets],
+        &ids[read.ids..read.ids + read.nodes],
+        read.cut,
     ))
 }
 
@@ -239,8 +242,8 @@ pub fn retired_in(table: VoterSlotTable, node: u64) -> u32
     ensures { result ≡ table_retired_of table node }
 {
     match is_retired(table, node) {
-        Retirement::NotRetired => NOT_RETIRED,
-        Retirement::Retired => RETIRED,
-        Retirement::Refused(answer) => number(answer) as u32,
+        Ok(false) => NOT_RETIRED,
+        Ok(true) => RETIRED,
+        Err(refusal) => refusal as u32,
     }
 }

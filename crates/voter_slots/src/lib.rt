@@ -14,7 +14,8 @@ use crate::call::*;
 use crate::result::*;
 use codec::codec::decode_voter_slot_table;
 use control::retired::is_retired_in;
-use identity::answer::{Answer, accepted, number};
+use identity::answer::{Answer, Refusal, accepted, number};
+use journal::observation::{MOST_IDS, no_counts, no_ids};
 use journal::record::MOST_BODY;
 
 pub mod call;
@@ -27,7 +28,8 @@ pub const NOT_RETIRED: u32 = 100;
 
 pub const RETIRED: u32 = 101;
 
-// Reads a table and says what a service asks of it.
+// Reads a table and says what a service asks of it. Here and below the table stands beside its
+// answer: taken out of a `Result`, its 8 KB would be copied once more.
 #[unsafe(no_mangle)]
 pub extern "C" fn voter_slots_read(table: &[u8]) -> VoterSlotsResult
     ensures { result ≡ read_of table.now }
@@ -83,14 +85,14 @@ pub extern "C" fn voter_slots_observe(table: &[u8], body: &[u8], out: &mut [u8])
     ensures { (result, out.new) ≡ observe_of table.now body.now out.old }
 {
     if MOST_BODY < body.len() {
-        return refused(Answer::BadRecord);
+        return refused(Err(Refusal::BadRecord));
     }
     let mut counts = no_counts();
     if body.len() <= USUAL_BODY {
-        let mut ids = usual_ids();
+        let mut ids = no_ids::<USUAL_IDS>();
         return observe_bytes(table, body, &mut ids, &mut counts, out);
     }
-    let mut ids = most_ids();
+    let mut ids = no_ids::<MOST_IDS>();
     observe_bytes(table, body, &mut ids, &mut counts, out)
 }
 

@@ -1,13 +1,13 @@
 // What the exported functions give, and the writing of a table that is known to be valid.
 ghost use Rattle.std.specs.Prelude.{◌≤◌, ◌≡◌};
 ghost use Rattle.identity.specs.Answer.{number_of};
-ghost use Rattle.identity.specs.declared.answer.Answer.TheVariants.{Accepted};
+ghost use Rattle.identity.specs.Answer.{Accepted};
 ghost use Rattle.records.specs.Blank.{blank_voter_slot_table};
 ghost use Rattle.records.specs.Validation.{validate};
 ghost use Rattle.codec.specs.Codec.{decoded, decode_voter_slot_table};
 ghost use Rattle.voter_slots.specs.Export.{refused_result, numbers_of, written};
 
-use identity::answer::{Answer, number};
+use identity::answer::{Answer, Refusal, number};
 use layout::put::put_bytes;
 use records::records::VoterSlotTable;
 use writer::encode::{put_table, table_size};
@@ -73,7 +73,7 @@ pub fn write_table(table: VoterSlotTable, out: &mut [u8]) -> VoterSlotsResult
     ensures { (result, out.new) ≡ written table out.old }
 {
     if out.len() < table_size(table) {
-        return refused(Answer::BufferTooShort);
+        return refused(Err(Refusal::BufferTooShort));
     }
     let count = put_table(out, 0, table);
     numbers_of(table, count)
@@ -85,7 +85,7 @@ pub fn write_again(bytes: &[u8], table: VoterSlotTable, out: &mut [u8]) -> Voter
     ensures { (result, out.new) ≡ written table out.old }
 {
     if out.len() < bytes.len() {
-        return refused(Answer::BufferTooShort);
+        return refused(Err(Refusal::BufferTooShort));
     }
     let count = put_bytes(out, 0, bytes);
     numbers_of(table, count)

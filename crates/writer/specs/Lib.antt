@@ -1,3 +1,4 @@
 pub mod Size
 pub mod SizeLaws
 pub mod PutLaws
+pub mod Writes

@@ -149,7 +149,7 @@ slot-long s h =
     by false = refl
 
 -- the slots of a list that are in use, and of its front
-slots-front : (l : List VoterSlotRecord) (n k : ℕ) → n ≤ k → slots_size (take k l) n ≡ slots_size l n
+pub slots-front : (l : List VoterSlotRecord) (n k : ℕ) → n ≤ k → slots_size (take k l) n ≡ slots_size l n
 unfolding slots_size
 slots-front l zero k h = refl
 slots-front l (suc n) k h = ap₂ (λ x s. x + slot_size s) (slots-front l n k (omega arith)) (get_or-take k l n no_slot_record h)
@@ -345,3 +345,6 @@ table-bounds t f k =
     by : (b : Bool) → cond b (replacement_size t.replacement) 0 ≤ 6355
     by true = replacement-most t.replacement f.replacement
     by false = omega arith
+
+-- what the code that adds the sizes up uses: no part is too large
+pub ruleset sizes = (cut_most, cuts-most, evidence-most, replacement-most, slots-more, slots-bounds)

@@ -1,19 +1,23 @@
 // The writers of the records, in the order of codec.rs, and their sizes.
 //
 // Ported from crates/opc-consensus/src/voter_slots/codec.rs of openpacketcore-sdk, commit
-// 717de332e7, Apache-2.0 (see NOTICE). Changed: a buffer is lent and has room; each writer is given
-// the place to write at and gives the place after it. The size of what varies is computed first.
+// 717de332e7, Apache-2.0 (see NOTICE). Changed: groups of fields that stand together have a writer
+// of their own (layout's parts.rt); the size of what varies is computed first.
 ghost use Rattle.std.specs.Prelude.{◌≡◌, ◌+◌, ◌≤◌, length};
-ghost use Rattle.format.specs.List.{flag, opt};
+ghost use Rattle.format.specs.List.{opt};
 ghost use Rattle.format.specs.Put.{Put};
 ghost use Rattle.format.specs.Through.{boxed};
 ghost use Rattle.records.specs.Blank.{blank_voter_replacement_result, blank_voter_snapshot_evidence, blank_voter_replacement_record};
-ghost use Rattle.layout.specs.Parts.{ReplacementFits, TableFits, binding_of, result_head_of, slot_member_of, times_of, claims_request_of, claims_slot_of, claims_names_of, claims_end_of, change_of, table_head_of};
+ghost use Rattle.records.specs.Records.{no_member, no_slot_record};
+ghost use Rattle.layout.specs.Parts.{NamesFit, ReplacementFits, TableFits, binding_of, result_head_of, slot_member_of, claims_request_of, claims_slot_of, claims_names_of, claims_end_of, change_of, table_head_of};
 ghost use Rattle.layout.specs.Layout as layout;
+ghost use Rattle.writer.specs.PutLaws.{firsts};
+ghost use Rattle.writer.specs.Size.{attestation_size, slots_size, cut_size, three_cuts_size, configuration_size, evidence_size, replacement_size};
+ghost use Rattle.writer.specs.Writes.{HasRoom, IsSized, Wrote};
 
+use crate::writer::Writer;
 use identity::identity::VoterSlotIdentity;
 use layout::parts::*;
-use layout::put::{put_be, put_bytes};
 use records::records::*;
 
 // The sizes of fields and records, without what varies: names, ids and optional parts.
@@ -85,406 +89,281 @@ const TABLE_SIZE: usize = FORMAT_SIZE
     + U8_SIZE
     + FLAG_SIZE;
 
-// `identity`
-fn put_identity(buffer: &mut [u8], at: usize, identity: VoterSlotIdentity) -> usize
-    requires { at + length ((layout.identity).enc identity) ≤ length buffer.old }
-    ensures { Put ((layout.identity).enc identity) at buffer.old buffer.new result }
-{
-    let at = put_be(buffer, at, U16_SIZE, identity.slot as u64);
-    put_be(buffer, at, U64_SIZE, identity.incarnation)
-}
-
-// `log_id`
-fn put_log_id(buffer: &mut [u8], at: usize, id: VoterSlotLogId) -> usize
-    requires { at + length ((layout.log_id).enc id) ≤ length buffer.old }
-    ensures { Put ((layout.log_id).enc id) at buffer.old buffer.new result }
-{
-    let at = put_be(buffer, at, U64_SIZE, id.term);
-    put_be(buffer, at, U64_SIZE, id.index)
-}
-
-// The flag of an optional part.
-fn put_flag(buffer: &mut [u8], at: usize, yes: bool) -> usize
-    requires { at + length (flag.enc yes) ≤ length buffer.old }
-    ensures { Put (flag.enc yes) at buffer.old buffer.new result }
-{
-    if yes {
-        return put_be(buffer, at, FLAG_SIZE, 1);
+impl<'a> Writer<'a> {
+    // `binding`: what follows an identity.
+    #[tactic(auto, using(crate::specs::PutLaws::writing), unfolding(layout::specs::Layout::binding))]
+    fn binding(&mut self, member: &VoterSlotMember)
+        requires { HasRoom ((layout.binding).enc (binding_of member.now)) self.old }
+        ensures { Wrote ((layout.binding).enc (binding_of member.now)) self.old self.new }
+    {
+        self.bytes(&member.key_digest);
+        self.bytes(&member.descriptor_digest);
+        self.u64(member.admission_generation);
     }
-    put_be(buffer, at, FLAG_SIZE, 0)
-}
 
-// A cut, or none.
-fn put_optional_log_id(buffer: &mut [u8], at: usize, optional: OptionalLogId) -> usize
-    requires { at + length ((layout.optional_log_id).enc optional) ≤ length buffer.old }
-    ensures { Put ((layout.optional_log_id).enc optional) at buffer.old buffer.new result }
-{
-    let at = put_flag(buffer, at, optional.is_some);
-    if optional.is_some {
-        let cut = optional.cut;
-        return put_log_id(buffer, at, cut);
+    // A member of a configuration.
+    #[tactic(auto, using(crate::specs::PutLaws::writing), unfolding(layout::specs::Layout::member))]
+    fn member(&mut self, member: &VoterSlotMember)
+        requires { HasRoom ((layout.member).enc member.now) self.old }
+        ensures { Wrote ((layout.member).enc member.now) self.old self.new }
+    {
+        self.identity(member.identity);
+        self.binding(member);
     }
-    at
-}
 
-// `binding`
-fn put_binding(buffer: &mut [u8], at: usize, member: VoterSlotMember) -> usize
-    requires { at + length ((layout.binding).enc (binding_of member)) ≤ length buffer.old }
-    ensures { Put ((layout.binding).enc (binding_of member)) at buffer.old buffer.new result }
-{
-    let at = put_bytes(buffer, at, &member.key_digest);
-    let at = put_bytes(buffer, at, &member.descriptor_digest);
-    put_be(buffer, at, U64_SIZE, member.admission_generation)
-}
-
-// A member of a configuration.
-fn put_member(buffer: &mut [u8], at: usize, member: VoterSlotMember) -> usize
-    requires { at + length ((layout.member).enc member) ≤ length buffer.old }
-    ensures { Put ((layout.member).enc member) at buffer.old buffer.new result }
-{
-    let identity = member.identity;
-    let at = put_identity(buffer, at, identity);
-    put_binding(buffer, at, member)
-}
-
-// The first so many of the nine places.
-fn put_members(
-    buffer: &mut [u8],
-    at: usize,
-    places: [VoterSlotMember; MAX_FIXED_VOTER_SLOTS],
-    count: usize,
-) -> usize
-    requires { (at + length ((layout.members count).enc places) ≤ length buffer.old) × (count ≤ 9) }
-    ensures { Put ((layout.members count).enc places) at buffer.old buffer.new result }
-{
-    let mut to = at;
-    let mut i = 0;
-    while i < count {
-        let place = places[i];
-        to = put_member(buffer, to, place);
-        i += 1;
+    // The first so many of the nine places. It takes the array itself, whose length is known then, and
+    // of an array within a record behind a `&` is not. (`slots` is no twin that one generic function
+    // would spare: a trait for both would say both contracts again.)
+    #[tactic(auto, using(crate::specs::PutLaws::listed))]
+    fn members(&mut self, members: &[VoterSlotMember; MAX_FIXED_VOTER_SLOTS], count: usize)
+        requires room { HasRoom ((layout.members count).enc members.now) self.old }
+        requires small { count ≤ 9 }
+        ensures { Wrote ((layout.members count).enc members.now) self.old self.new }
+    {
+        for member in &members[..count] {
+            self.member(member);
+        }
     }
-    to
-}
 
-// `configuration`
-fn put_configuration(buffer: &mut [u8], at: usize, configuration: VoterConfiguration) -> usize
-    requires { (at + length ((layout.configuration).enc configuration) ≤ length buffer.old) × (configuration.count ≤ 9) }
-    ensures { Put ((layout.configuration).enc configuration) at buffer.old buffer.new result }
-{
-    let at = put_be(buffer, at, U64_SIZE, configuration.epoch);
-    let at = put_be(buffer, at, U8_SIZE, configuration.count as u64);
-    let places = configuration.members;
-    put_members(buffer, at, places, configuration.count)
-}
-
-// The front of a receipt.
-fn put_result_head(buffer: &mut [u8], at: usize, res: VoterReplacementResult) -> usize
-    requires { at + length ((layout.result_head).enc (result_head_of res)) ≤ length buffer.old }
-    ensures { Put ((layout.result_head).enc (result_head_of res)) at buffer.old buffer.new result }
-{
-    let at = put_bytes(buffer, at, &res.request_id);
-    let at = put_bytes(buffer, at, &res.request_digest);
-    let at = put_be(buffer, at, U64_SIZE, res.incarnation);
-    put_be(buffer, at, U64_SIZE, res.revision)
-}
-
-// A receipt.
-fn put_result(buffer: &mut [u8], at: usize, res: VoterReplacementResult) -> usize
-    requires { at + length ((layout.replacement_result).enc res) ≤ length buffer.old }
-    ensures { Put ((layout.replacement_result).enc res) at buffer.old buffer.new result }
-{
-    let at = put_result_head(buffer, at, res);
-    let at = put_be(buffer, at, U64_SIZE, res.configuration_epoch);
-    let at = put_be(buffer, at, U8_SIZE, res.kind as u64);
-    let terminal = res.terminal;
-    put_log_id(buffer, at, terminal)
-}
-
-// A receipt, or none.
-fn put_optional_result(
-    buffer: &mut [u8],
-    at: usize,
-    is_some: bool,
-    res: VoterReplacementResult,
-) -> usize
-    requires { at + length ((opt layout.replacement_result blank_voter_replacement_result).enc (is_some, res)) ≤ length buffer.old }
-    ensures { Put ((opt layout.replacement_result blank_voter_replacement_result).enc (is_some, res)) at buffer.old buffer.new result }
-{
-    let at = put_flag(buffer, at, is_some);
-    if is_some {
-        return put_result(buffer, at, res);
+    // `configuration`
+    #[tactic(auto, using(crate::specs::PutLaws::writing), unfolding(layout::specs::Layout::configuration))]
+    fn configuration(&mut self, configuration: &VoterConfiguration)
+        requires room { HasRoom ((layout.configuration).enc configuration.now) self.old }
+        requires small { configuration.now.count ≤ 9 }
+        ensures { Wrote ((layout.configuration).enc configuration.now) self.old self.new }
+    {
+        self.u64(configuration.epoch);
+        self.u8(configuration.count as u8);
+        self.members(&configuration.members, configuration.count);
     }
-    at
-}
 
-// The front of a slot.
-fn put_slot_member(buffer: &mut [u8], at: usize, slot: VoterSlotRecord) -> usize
-    requires { at + length ((layout.slot_member).enc (slot_member_of slot)) ≤ length buffer.old }
-    ensures { Put ((layout.slot_member).enc (slot_member_of slot)) at buffer.old buffer.new result }
-{
-    let member = slot.member;
-    let identity = member.identity;
-    let at = put_identity(buffer, at, identity);
-    let at = put_be(buffer, at, U64_SIZE, slot.retired_through);
-    put_binding(buffer, at, member)
-}
-
-// A slot.
-fn put_slot(buffer: &mut [u8], at: usize, slot: VoterSlotRecord) -> usize
-    requires { at + length ((layout.slot).enc slot) ≤ length buffer.old }
-    ensures { Put ((layout.slot).enc slot) at buffer.old buffer.new result }
-{
-    let at = put_slot_member(buffer, at, slot);
-    let at = put_be(buffer, at, U8_SIZE, slot.phase as u64);
-    let last_result = slot.last_result;
-    put_optional_result(buffer, at, slot.has_last_result, last_result)
-}
-
-// The first so many of the nine places.
-fn put_slots(
-    buffer: &mut [u8],
-    at: usize,
-    places: [VoterSlotRecord; MAX_FIXED_VOTER_SLOTS],
-    count: usize,
-) -> usize
-    requires { (at + length ((layout.slots count).enc places) ≤ length buffer.old) × (count ≤ 9) }
-    ensures { Put ((layout.slots count).enc places) at buffer.old buffer.new result }
-{
-    let mut to = at;
-    let mut i = 0;
-    while i < count {
-        let place = places[i];
-        to = put_slot(buffer, to, place);
-        i += 1;
+    // The front of a receipt.
+    #[tactic(auto, using(crate::specs::PutLaws::writing), unfolding(layout::specs::Layout::result_head))]
+    fn result_head(&mut self, res: &VoterReplacementResult)
+        requires { HasRoom ((layout.result_head).enc (result_head_of res.now)) self.old }
+        ensures { Wrote ((layout.result_head).enc (result_head_of res.now)) self.old self.new }
+    {
+        self.bytes(&res.request_id);
+        self.bytes(&res.request_digest);
+        self.u64(res.incarnation);
+        self.u64(res.revision);
     }
-    to
-}
 
-// `sized_bytes`, of a name
-fn put_spiffe_id(buffer: &mut [u8], at: usize, id: SpiffeId) -> usize
-    requires { (at + length ((layout.spiffe_id).enc id) ≤ length buffer.old) × (id.len ≤ 2048) }
-    ensures { Put ((layout.spiffe_id).enc id) at buffer.old buffer.new result }
-{
-    let len = id.len;
-    let at = put_be(buffer, at, U16_SIZE, len as u64);
-    let bytes = &id.bytes[..];
-    put_bytes(buffer, at, &bytes[..len])
-}
-
-// `sized_bytes`, of a snapshot id
-fn put_snapshot_id(buffer: &mut [u8], at: usize, id: SnapshotId) -> usize
-    requires { (at + length ((layout.snapshot_id).enc id) ≤ length buffer.old) × (id.len ≤ 256) }
-    ensures { Put ((layout.snapshot_id).enc id) at buffer.old buffer.new result }
-{
-    let len = id.len;
-    let at = put_be(buffer, at, U16_SIZE, len as u64);
-    let bytes = &id.bytes[..];
-    put_bytes(buffer, at, &bytes[..len])
-}
-
-// `unsigned_claims` and the signature, in four groups.
-fn put_claims_request(buffer: &mut [u8], at: usize, claims: LostVoterAttestationV1) -> usize
-    requires { at + length ((layout.claims_request).enc (claims_request_of claims)) ≤ length buffer.old }
-    ensures { Put ((layout.claims_request).enc (claims_request_of claims)) at buffer.old buffer.new result }
-{
-    let at = put_be(buffer, at, U16_SIZE, VERSION);
-    let at = put_bytes(buffer, at, &claims.request_id);
-    put_bytes(buffer, at, &claims.request_digest)
-}
-
-fn put_claims_slot(buffer: &mut [u8], at: usize, claims: LostVoterAttestationV1) -> usize
-    requires { at + length ((layout.claims_slot).enc (claims_slot_of claims)) ≤ length buffer.old }
-    ensures { Put ((layout.claims_slot).enc (claims_slot_of claims)) at buffer.old buffer.new result }
-{
-    let at = put_bytes(buffer, at, &claims.cluster_instance);
-    let identity = VoterSlotIdentity {
-        slot: claims.slot,
-        incarnation: claims.expected_incarnation,
-    };
-    let at = put_identity(buffer, at, identity);
-    let at = put_bytes(buffer, at, &claims.old_descriptor_digest);
-    put_bytes(buffer, at, &claims.candidate_key_digest)
-}
-
-fn put_claims_names(buffer: &mut [u8], at: usize, claims: LostVoterAttestationV1) -> usize
-    requires { (at + length ((layout.claims_names).enc (claims_names_of claims)) ≤ length buffer.old) × ((claims.candidate_spiffe_id.len ≤ 2048) × (claims.controller_spiffe_id.len ≤ 2048)) }
-    ensures { Put ((layout.claims_names).enc (claims_names_of claims)) at buffer.old buffer.new result }
-{
-    let at = put_be(buffer, at, U64_SIZE, claims.admission_generation);
-    let candidate = claims.candidate_spiffe_id;
-    let at = put_spiffe_id(buffer, at, candidate);
-    let controller = claims.controller_spiffe_id;
-    let at = put_spiffe_id(buffer, at, controller);
-    put_bytes(buffer, at, &claims.signing_key_digest)
-}
-
-// The times of an attestation.
-fn put_times(buffer: &mut [u8], at: usize, claims: LostVoterAttestationV1) -> usize
-    requires { at + length ((layout.times).enc (times_of claims)) ≤ length buffer.old }
-    ensures { Put ((layout.times).enc (times_of claims)) at buffer.old buffer.new result }
-{
-    let at = put_be(buffer, at, U64_SIZE, claims.observation_start_ms);
-    let at = put_be(buffer, at, U64_SIZE, claims.decision_ms);
-    let at = put_be(buffer, at, U64_SIZE, claims.issued_ms);
-    put_be(buffer, at, U64_SIZE, claims.expires_ms)
-}
-
-fn put_claims_end(buffer: &mut [u8], at: usize, claims: LostVoterAttestationV1) -> usize
-    requires { at + length ((layout.claims_end).enc (claims_end_of claims)) ≤ length buffer.old }
-    ensures { Put ((layout.claims_end).enc (claims_end_of claims)) at buffer.old buffer.new result }
-{
-    let at = put_be(buffer, at, U8_SIZE, claims.reason as u64);
-    let at = put_bytes(buffer, at, &claims.policy_digest);
-    let at = put_times(buffer, at, claims);
-    put_bytes(buffer, at, &claims.signature)
-}
-
-// `encode_lost_voter_attestation`, of one that is valid.
-fn put_attestation(buffer: &mut [u8], at: usize, claims: LostVoterAttestationV1) -> usize
-    requires { (at + length ((layout.claims).enc claims) ≤ length buffer.old) × ((claims.candidate_spiffe_id.len ≤ 2048) × (claims.controller_spiffe_id.len ≤ 2048)) }
-    ensures { Put ((layout.claims).enc claims) at buffer.old buffer.new result }
-{
-    let at = put_claims_request(buffer, at, claims);
-    let at = put_claims_slot(buffer, at, claims);
-    let at = put_claims_names(buffer, at, claims);
-    put_claims_end(buffer, at, claims)
-}
-
-// How many bytes an attestation takes.
-fn attestation_size(claims: LostVoterAttestationV1) -> usize
-    requires { (claims.candidate_spiffe_id.len ≤ 2048) × (claims.controller_spiffe_id.len ≤ 2048) }
-    ensures { result ≡ length ((layout.claims).enc claims) }
-{
-    ATTESTATION_SIZE + claims.candidate_spiffe_id.len + claims.controller_spiffe_id.len
-}
-
-// `sized_bytes`, of an attestation
-fn put_boxed_attestation(buffer: &mut [u8], at: usize, claims: LostVoterAttestationV1) -> usize
-    requires { (at + length ((boxed layout.attestation 8192).enc claims) ≤ length buffer.old) × ((claims.candidate_spiffe_id.len ≤ 2048) × (claims.controller_spiffe_id.len ≤ 2048)) }
-    ensures { Put ((boxed layout.attestation 8192).enc claims) at buffer.old buffer.new result }
-{
-    let at = put_be(buffer, at, U16_SIZE, attestation_size(claims) as u64);
-    put_attestation(buffer, at, claims)
-}
-
-// The evidence of a snapshot.
-fn put_snapshot(buffer: &mut [u8], at: usize, snapshot: VoterSnapshotEvidence) -> usize
-    requires { (at + length ((layout.snapshot).enc snapshot) ≤ length buffer.old) × (snapshot.snapshot_id.len ≤ 256) }
-    ensures { Put ((layout.snapshot).enc snapshot) at buffer.old buffer.new result }
-{
-    let cut = snapshot.cut;
-    let at = put_log_id(buffer, at, cut);
-    let id = snapshot.snapshot_id;
-    let at = put_snapshot_id(buffer, at, id);
-    put_bytes(buffer, at, &snapshot.digest)
-}
-
-// A snapshot, or none.
-fn put_optional_snapshot(
-    buffer: &mut [u8],
-    at: usize,
-    is_some: bool,
-    snapshot: VoterSnapshotEvidence,
-) -> usize
-    requires { (at + length ((opt layout.snapshot blank_voter_snapshot_evidence).enc (is_some, snapshot)) ≤ length buffer.old) × (snapshot.snapshot_id.len ≤ 256) }
-    ensures { Put ((opt layout.snapshot blank_voter_snapshot_evidence).enc (is_some, snapshot)) at buffer.old buffer.new result }
-{
-    let at = put_flag(buffer, at, is_some);
-    if is_some {
-        return put_snapshot(buffer, at, snapshot);
+    // A receipt.
+    #[tactic(auto, using(crate::specs::PutLaws::writing), unfolding(layout::specs::Layout::replacement_result))]
+    fn replacement_result(&mut self, res: &VoterReplacementResult)
+        requires { HasRoom ((layout.replacement_result).enc res.now) self.old }
+        ensures { Wrote ((layout.replacement_result).enc res.now) self.old self.new }
+    {
+        self.result_head(res);
+        self.u64(res.configuration_epoch);
+        self.u8(res.kind);
+        self.log_id(res.terminal);
     }
-    at
-}
 
-// Three of the cuts that end the evidence.
-fn put_three_cuts(buffer: &mut [u8], at: usize, cuts: ThreeCuts) -> usize
-    requires { at + length ((layout.three_cuts).enc cuts) ≤ length buffer.old }
-    ensures { Put ((layout.three_cuts).enc cuts) at buffer.old buffer.new result }
-{
-    let first = cuts.first;
-    let at = put_optional_log_id(buffer, at, first);
-    let second = cuts.second;
-    let at = put_optional_log_id(buffer, at, second);
-    let third = cuts.third;
-    put_optional_log_id(buffer, at, third)
-}
-
-// The evidence of a replacement.
-fn put_evidence(buffer: &mut [u8], at: usize, evidence: VoterReplacementEvidence) -> usize
-    requires { (at + length ((layout.evidence).enc evidence) ≤ length buffer.old) × (evidence.snapshot.snapshot_id.len ≤ 256) }
-    ensures { Put ((layout.evidence).enc evidence) at buffer.old buffer.new result }
-{
-    let prepare = evidence.prepare;
-    let at = put_log_id(buffer, at, prepare);
-    let snapshot = evidence.snapshot;
-    let at = put_optional_snapshot(buffer, at, evidence.has_snapshot, snapshot);
-    let early = early_cuts(evidence);
-    let at = put_three_cuts(buffer, at, early);
-    let late = late_cuts(evidence);
-    put_three_cuts(buffer, at, late)
-}
-
-// What an open request changes, and how far it is.
-fn put_change(buffer: &mut [u8], at: usize, operation: VoterReplacementRecord) -> usize
-    requires { (at + length ((layout.change).enc (change_of operation)) ≤ length buffer.old) × ((operation.predecessor.count ≤ 9) × (operation.successor.count ≤ 9)) }
-    ensures { Put ((layout.change).enc (change_of operation)) at buffer.old buffer.new result }
-{
-    let predecessor = operation.predecessor;
-    let at = put_configuration(buffer, at, predecessor);
-    let successor = operation.successor;
-    let at = put_configuration(buffer, at, successor);
-    put_be(buffer, at, U8_SIZE, operation.phase as u64)
-}
-
-// An open request.
-fn put_replacement(buffer: &mut [u8], at: usize, operation: VoterReplacementRecord) -> usize
-    requires { (at + length ((layout.replacement).enc operation) ≤ length buffer.old) × ReplacementFits operation }
-    ensures { Put ((layout.replacement).enc operation) at buffer.old buffer.new result }
-{
-    let at = put_be(buffer, at, U64_SIZE, operation.expected_revision);
-    let attestation = operation.attestation;
-    let at = put_boxed_attestation(buffer, at, attestation);
-    let at = put_change(buffer, at, operation);
-    let evidence = operation.evidence;
-    put_evidence(buffer, at, evidence)
-}
-
-// An open request, or none.
-fn put_optional_replacement(
-    buffer: &mut [u8],
-    at: usize,
-    is_some: bool,
-    operation: VoterReplacementRecord,
-) -> usize
-    requires { (at + length ((opt layout.replacement blank_voter_replacement_record).enc (is_some, operation)) ≤ length buffer.old) × ReplacementFits operation }
-    ensures { Put ((opt layout.replacement blank_voter_replacement_record).enc (is_some, operation)) at buffer.old buffer.new result }
-{
-    let at = put_flag(buffer, at, is_some);
-    if is_some {
-        return put_replacement(buffer, at, operation);
+    // The front of a slot.
+    #[tactic(auto, using(crate::specs::PutLaws::writing), unfolding(layout::specs::Layout::slot_member))]
+    fn slot_member(&mut self, slot: &VoterSlotRecord)
+        requires { HasRoom ((layout.slot_member).enc (slot_member_of slot.now)) self.old }
+        ensures { Wrote ((layout.slot_member).enc (slot_member_of slot.now)) self.old self.new }
+    {
+        self.identity(slot.member.identity);
+        self.u64(slot.retired_through);
+        self.binding(&slot.member);
     }
-    at
-}
 
-// The magic and the version.
-fn put_head(buffer: &mut [u8], at: usize) -> usize
-    requires { at + length ((layout.magic_and_version).enc tt) ≤ length buffer.old }
-    ensures { Put ((layout.magic_and_version).enc tt) at buffer.old buffer.new result }
-{
-    let at = put_bytes(buffer, at, b"OPVI");
-    put_be(buffer, at, U16_SIZE, VERSION)
-}
+    // A slot.
+    #[tactic(auto, using(crate::specs::PutLaws::optional), unfolding(layout::specs::Layout::slot))]
+    fn slot(&mut self, slot: &VoterSlotRecord)
+        requires { HasRoom ((layout.slot).enc slot.now) self.old }
+        ensures { Wrote ((layout.slot).enc slot.now) self.old self.new }
+    {
+        self.slot_member(slot);
+        self.u8(slot.phase);
+        self.flag(slot.has_last_result);
+        if slot.has_last_result {
+            self.replacement_result(&slot.last_result);
+        }
+    }
 
-// The front of a table, after the magic and the version.
-fn put_table_head(buffer: &mut [u8], at: usize, table: VoterSlotTable) -> usize
-    requires { at + length ((layout.table_head).enc (table_head_of table)) ≤ length buffer.old }
-    ensures { Put ((layout.table_head).enc (table_head_of table)) at buffer.old buffer.new result }
-{
-    let at = put_bytes(buffer, at, &table.cluster_instance);
-    let at = put_bytes(buffer, at, &table.manifest_digest);
-    let at = put_be(buffer, at, U64_SIZE, table.revision);
-    put_be(buffer, at, U64_SIZE, table.configuration_epoch)
+    // The first so many of the nine places.
+    #[tactic(auto, using(crate::specs::PutLaws::listed))]
+    fn slots(&mut self, slots: &[VoterSlotRecord; MAX_FIXED_VOTER_SLOTS], count: usize)
+        requires room { HasRoom ((layout.slots count).enc slots.now) self.old }
+        requires small { count ≤ 9 }
+        ensures { Wrote ((layout.slots count).enc slots.now) self.old self.new }
+    {
+        for slot in &slots[..count] {
+            self.slot(slot);
+        }
+    }
+
+    // `unsigned_claims` and the signature, in four groups.
+    #[tactic(auto, using(crate::specs::PutLaws::writing), unfolding(layout::specs::Layout::claims_request))]
+    fn claims_request(&mut self, claims: &LostVoterAttestationV1)
+        requires { HasRoom ((layout.claims_request).enc (claims_request_of claims.now)) self.old }
+        ensures { Wrote ((layout.claims_request).enc (claims_request_of claims.now)) self.old self.new }
+    {
+        self.version();
+        self.bytes(&claims.request_id);
+        self.bytes(&claims.request_digest);
+    }
+
+    #[tactic(auto, using(crate::specs::PutLaws::writing), unfolding(layout::specs::Layout::claims_slot))]
+    fn claims_slot(&mut self, claims: &LostVoterAttestationV1)
+        requires { HasRoom ((layout.claims_slot).enc (claims_slot_of claims.now)) self.old }
+        ensures { Wrote ((layout.claims_slot).enc (claims_slot_of claims.now)) self.old self.new }
+    {
+        self.bytes(&claims.cluster_instance);
+        self.identity(VoterSlotIdentity {
+            slot: claims.slot,
+            incarnation: claims.expected_incarnation,
+        });
+        self.bytes(&claims.old_descriptor_digest);
+        self.bytes(&claims.candidate_key_digest);
+    }
+
+    #[tactic(auto, using(crate::specs::PutLaws::writing), unfolding(layout::specs::Layout::claims_names))]
+    fn claims_names(&mut self, claims: &LostVoterAttestationV1)
+        requires room { HasRoom ((layout.claims_names).enc (claims_names_of claims.now)) self.old }
+        requires small { NamesFit claims.now }
+        ensures { Wrote ((layout.claims_names).enc (claims_names_of claims.now)) self.old self.new }
+    {
+        self.u64(claims.admission_generation);
+        self.spiffe_id(&claims.candidate_spiffe_id);
+        self.spiffe_id(&claims.controller_spiffe_id);
+        self.bytes(&claims.signing_key_digest);
+    }
+
+    #[tactic(auto, using(crate::specs::PutLaws::writing), unfolding(layout::specs::Layout::claims_end))]
+    fn claims_end(&mut self, claims: &LostVoterAttestationV1)
+        requires { HasRoom ((layout.claims_end).enc (claims_end_of claims.now)) self.old }
+        ensures { Wrote ((layout.claims_end).enc (claims_end_of claims.now)) self.old self.new }
+    {
+        self.u8(claims.reason);
+        self.bytes(&claims.policy_digest);
+        self.times(claims);
+        self.bytes(&claims.signature);
+    }
+
+    // `encode_lost_voter_attestation`, of one that is valid.
+    #[tactic(auto, using(crate::specs::PutLaws::writing), unfolding(layout::specs::Layout::claims))]
+    fn attestation(&mut self, claims: &LostVoterAttestationV1)
+        requires room { HasRoom ((layout.claims).enc claims.now) self.old }
+        requires small { NamesFit claims.now }
+        ensures { Wrote ((layout.claims).enc claims.now) self.old self.new }
+    {
+        self.claims_request(claims);
+        self.claims_slot(claims);
+        self.claims_names(claims);
+        self.claims_end(claims);
+    }
+
+    // `sized_bytes`, of an attestation
+    #[tactic(auto, using(crate::specs::PutLaws::writing, crate::specs::PutLaws::of_boxed))]
+    fn boxed_attestation(&mut self, claims: &LostVoterAttestationV1)
+        requires room { HasRoom ((boxed layout.attestation 8192).enc claims.now) self.old }
+        requires small { NamesFit claims.now }
+        requires sized { IsSized claims.now }
+        ensures { Wrote ((boxed layout.attestation 8192).enc claims.now) self.old self.new }
+    {
+        self.u16(attestation_size(claims) as u16);
+        self.attestation(claims);
+    }
+
+    // The evidence of a snapshot.
+    #[tactic(auto, using(crate::specs::PutLaws::writing), unfolding(layout::specs::Layout::snapshot))]
+    fn snapshot(&mut self, snapshot: &VoterSnapshotEvidence)
+        requires room { HasRoom ((layout.snapshot).enc snapshot.now) self.old }
+        requires small { snapshot.now.snapshot_id.len ≤ 256 }
+        ensures { Wrote ((layout.snapshot).enc snapshot.now) self.old self.new }
+    {
+        self.log_id(snapshot.cut);
+        self.snapshot_id(&snapshot.snapshot_id);
+        self.bytes(&snapshot.digest);
+    }
+
+    // A snapshot, or none: a function of its own, since more is written after it.
+    #[tactic(auto, using(crate::specs::PutLaws::optional))]
+    fn optional_snapshot(&mut self, is_some: bool, snapshot: &VoterSnapshotEvidence)
+        requires room { HasRoom ((opt layout.snapshot blank_voter_snapshot_evidence).enc (is_some, snapshot.now)) self.old }
+        requires small { snapshot.now.snapshot_id.len ≤ 256 }
+        ensures { Wrote ((opt layout.snapshot blank_voter_snapshot_evidence).enc (is_some, snapshot.now)) self.old self.new }
+    {
+        self.flag(is_some);
+        if is_some {
+            self.snapshot(snapshot);
+        }
+    }
+
+    // The evidence of a replacement.
+    #[tactic(auto, using(crate::specs::PutLaws::writing), unfolding(layout::specs::Layout::evidence))]
+    fn evidence(&mut self, evidence: &VoterReplacementEvidence)
+        requires room { HasRoom ((layout.evidence).enc evidence.now) self.old }
+        requires small { evidence.now.snapshot.snapshot_id.len ≤ 256 }
+        ensures { Wrote ((layout.evidence).enc evidence.now) self.old self.new }
+    {
+        self.log_id(evidence.prepare);
+        self.optional_snapshot(evidence.has_snapshot, &evidence.snapshot);
+        self.three_cuts(early_cuts(evidence));
+        self.three_cuts(late_cuts(evidence));
+    }
+
+    // What an open request changes, and how far it is.
+    #[tactic(auto, using(crate::specs::PutLaws::writing), unfolding(layout::specs::Layout::change))]
+    fn change(&mut self, operation: &VoterReplacementRecord)
+        requires room { HasRoom ((layout.change).enc (change_of operation.now)) self.old }
+        requires small { ReplacementFits operation.now }
+        ensures { Wrote ((layout.change).enc (change_of operation.now)) self.old self.new }
+    {
+        self.configuration(&operation.predecessor);
+        self.configuration(&operation.successor);
+        self.u8(operation.phase);
+    }
+
+    // An open request.
+    #[tactic(auto, using(crate::specs::PutLaws::writing), unfolding(layout::specs::Layout::replacement))]
+    fn replacement(&mut self, operation: &VoterReplacementRecord)
+        requires room { HasRoom ((layout.replacement).enc operation.now) self.old }
+        requires small { ReplacementFits operation.now }
+        requires sized { IsSized operation.now.attestation }
+        ensures { Wrote ((layout.replacement).enc operation.now) self.old self.new }
+    {
+        self.u64(operation.expected_revision);
+        self.boxed_attestation(&operation.attestation);
+        self.change(operation);
+        self.evidence(&operation.evidence);
+    }
+
+    // The front of a table, after the magic and the version.
+    #[tactic(auto, using(crate::specs::PutLaws::writing), unfolding(layout::specs::Layout::table_head))]
+    fn table_head(&mut self, table: &VoterSlotTable)
+        requires { HasRoom ((layout.table_head).enc (table_head_of table.now)) self.old }
+        ensures { Wrote ((layout.table_head).enc (table_head_of table.now)) self.old self.new }
+    {
+        self.bytes(&table.cluster_instance);
+        self.bytes(&table.manifest_digest);
+        self.u64(table.revision);
+        self.u64(table.configuration_epoch);
+    }
+
+    // `encode_voter_slot_table`, of a table that is valid.
+    #[tactic(auto, using(crate::specs::PutLaws::tabled))]
+    fn table(&mut self, table: &VoterSlotTable)
+        requires room { HasRoom ((layout.table).enc table.now) self.old }
+        requires small { TableFits table.now }
+        requires sized { IsSized table.now.replacement.attestation }
+        ensures { Wrote ((layout.table).enc table.now) self.old self.new }
+    {
+        self.magic_and_version();
+        self.table_head(table);
+        self.u8(table.count as u8);
+        self.slots(&table.slots, table.count);
+        self.flag(table.has_replacement);
+        if table.has_replacement {
+            self.replacement(&table.replacement);
+        }
+    }
 }
 
 // `encode_voter_slot_table`, of a table that is valid.
@@ -492,71 +371,70 @@ pub fn put_table(buffer: &mut [u8], at: usize, table: VoterSlotTable) -> usize
     requires { (at + length ((layout.table).enc table) ≤ length buffer.old) × TableFits table }
     ensures { Put ((layout.table).enc table) at buffer.old buffer.new result }
 {
-    let at = put_head(buffer, at);
-    let at = put_table_head(buffer, at, table);
-    let at = put_be(buffer, at, U8_SIZE, table.count as u64);
-    let places = table.slots;
-    let at = put_slots(buffer, at, places, table.count);
-    let operation = table.replacement;
-    put_optional_replacement(buffer, at, table.has_replacement, operation)
+    let mut output = Writer::new(buffer, at);
+    output.table(&table);
+    output.at
 }
 
-// How many bytes each takes: the slots in use,
-fn slots_size(places: [VoterSlotRecord; MAX_FIXED_VOTER_SLOTS], count: usize) -> usize
+// How many bytes each takes (Size.antt): an attestation,
+fn attestation_size(claims: &LostVoterAttestationV1) -> usize
+    requires { NamesFit claims.now }
+    ensures { result ≡ attestation_size claims.now }
+{
+    ATTESTATION_SIZE + claims.candidate_spiffe_id.len + claims.controller_spiffe_id.len
+}
+
+// the slots in use,
+#[tactic(auto, using(crate::specs::SizeLaws::sizes), unfolding(crate::specs::Size::slots_size))]
+fn slots_size(slots: &[VoterSlotRecord; MAX_FIXED_VOTER_SLOTS], count: usize) -> usize
     requires { count ≤ 9 }
-    ensures { result ≡ length ((layout.slots count).enc places) }
+    ensures { result ≡ slots_size slots.now count }
 {
     let mut size = 0;
-    let mut i = 0;
-    while i < count {
-        size += if places[i].has_last_result {
+    for slot in &slots[..count] {
+        size += if slot.has_last_result {
             FULL_SLOT_SIZE
         } else {
             SLOT_SIZE
         };
-        i += 1;
     }
     size
 }
 
-// three cuts, with the flag of each,
-fn three_cuts_size(cuts: ThreeCuts) -> usize
-    ensures { result ≡ length ((layout.three_cuts).enc cuts) }
+// a cut, with its flag,
+fn cut_size(optional: OptionalLogId) -> usize
+    ensures { result ≡ cut_size optional }
 {
-    let first = if cuts.first.is_some {
+    if optional.is_some {
         PRESENT_CUT_SIZE
     } else {
         FLAG_SIZE
-    };
-    let second = if cuts.second.is_some {
-        PRESENT_CUT_SIZE
-    } else {
-        FLAG_SIZE
-    };
-    let third = if cuts.third.is_some {
-        PRESENT_CUT_SIZE
-    } else {
-        FLAG_SIZE
-    };
-    first + second + third
+    }
+}
+
+// three of them,
+#[tactic(auto, using(crate::specs::SizeLaws::sizes))]
+fn three_cuts_size(cuts: ThreeCuts) -> usize
+    ensures { result ≡ three_cuts_size cuts }
+{
+    cut_size(cuts.first) + cut_size(cuts.second) + cut_size(cuts.third)
 }
 
 // a configuration,
-fn configuration_size(configuration: VoterConfiguration) -> usize
-    requires { configuration.count ≤ 9 }
-    ensures { result ≡ length ((layout.configuration).enc configuration) }
+fn configuration_size(configuration: &VoterConfiguration) -> usize
+    requires { configuration.now.count ≤ 9 }
+    ensures { result ≡ configuration_size configuration.now }
 {
     CONFIGURATION_SIZE + MEMBER_SIZE * configuration.count
 }
 
 // the evidence of a replacement,
-fn evidence_size(evidence: VoterReplacementEvidence) -> usize
-    requires { evidence.snapshot.snapshot_id.len ≤ 256 }
-    ensures { result ≡ length ((layout.evidence).enc evidence) }
+#[tactic(auto, using(crate::specs::SizeLaws::sizes), unfolding(crate::specs::Size::evidence_size))]
+fn evidence_size(evidence: &VoterReplacementEvidence) -> usize
+    requires { evidence.now.snapshot.snapshot_id.len ≤ 256 }
+    ensures { result ≡ evidence_size evidence.now }
 {
-    let early = early_cuts(evidence);
-    let late = late_cuts(evidence);
-    let cuts = three_cuts_size(early) + three_cuts_size(late);
+    let cuts = three_cuts_size(early_cuts(evidence)) + three_cuts_size(late_cuts(evidence));
     if evidence.has_snapshot {
         return FULL_EVIDENCE_SIZE + evidence.snapshot.snapshot_id.len + cuts;
     }
@@ -564,28 +442,28 @@ fn evidence_size(evidence: VoterReplacementEvidence) -> usize
 }
 
 // an open request,
-fn replacement_size(operation: VoterReplacementRecord) -> usize
-    requires { ReplacementFits operation }
-    ensures { result ≡ length ((layout.replacement).enc operation) }
+#[tactic(auto, using(crate::specs::SizeLaws::sizes), unfolding(crate::specs::Size::replacement_size))]
+fn replacement_size(operation: &VoterReplacementRecord) -> usize
+    requires { ReplacementFits operation.now }
+    ensures { result ≡ replacement_size operation.now }
 {
-    let attestation = operation.attestation;
-    let predecessor = operation.predecessor;
-    let successor = operation.successor;
-    let evidence = operation.evidence;
-    let configurations = configuration_size(predecessor) + configuration_size(successor);
-    REPLACEMENT_SIZE + attestation_size(attestation) + configurations + evidence_size(evidence)
+    let configurations = configuration_size(&operation.predecessor)
+        + configuration_size(&operation.successor);
+    REPLACEMENT_SIZE
+        + attestation_size(&operation.attestation)
+        + configurations
+        + evidence_size(&operation.evidence)
 }
 
 // and a table.
+#[tactic(auto, using(crate::specs::SizeLaws::sizes))]
 pub fn table_size(table: VoterSlotTable) -> usize
     requires { TableFits table }
     ensures { result ≡ length ((layout.table).enc table) }
 {
-    let places = table.slots;
-    let front = TABLE_SIZE + slots_size(places, table.count);
+    let front = TABLE_SIZE + slots_size(&table.slots, table.count);
     if table.has_replacement {
-        let operation = table.replacement;
-        return front + replacement_size(operation);
+        return front + replacement_size(&table.replacement);
     }
     front
 }

@@ -3,3 +3,4 @@
 #![tactic(auto)]
 
 pub mod encode;
+pub mod writer;

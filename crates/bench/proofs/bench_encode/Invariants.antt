@@ -1,9 +1,6 @@
--- `bench::bench_encode` is safe and ends: the buffer is as long as before. Assumes nothing.
-use Rattle.std.proofs.Common.{◌≡◌, ◌-◌, length}
+-- `bench::bench_encode` is safe: the buffer is as long as before. Assumes nothing.
+use Rattle.std.proofs.Common.{◌≡◌, length}
 use Rattle.bench.proofs.bench_encode.Given as goal
 
 abbrev pub invariant-loop-i : goal.invariant-loop-i
 invariant-loop-i l = length l.buffer ≡ length l.initial.buffer
-
-abbrev pub decreases-loop-i : goal.decreases-loop-i
-decreases-loop-i l = l.turns - l.i

@@ -2,8 +2,5 @@
 use Prim.Native.Nat.{◌≤◌}
 use Rattle.replay.proofs.run.Given as goal
 
-abbrev pub invariant-loop-turns : goal.invariant-loop-turns
-invariant-loop-turns g l = (l.at.start ≤ l.at.held) × (l.at.held ≤ 131072)
-
-abbrev pub decreases-loop-turns : goal.decreases-loop-turns
-decreases-loop-turns g l = l.turns
+abbrev pub invariant-loop : goal.invariant-loop
+invariant-loop g l = (l.at.start ≤ l.at.held) × (l.at.held ≤ 131072)

@@ -1,7 +1,6 @@
 -- `voter_slots::voter_slots_apply` meets its contract. Assumes nothing.
 use Rattle.std.proofs.Common.{sym, ap, ◌∙◌, Bool, cond, length}
-use Rattle.identity.specs.Answer.{number_of}
-use Rattle.identity.specs.declared.answer.Answer.TheVariants.{BadRecord}
+use Rattle.identity.specs.Answer.{number_of, BadRecord}
 use Rattle.journal.specs.declared.replay.Mark.{Mark}
 use Rattle.journal.specs.Replay.{asking}
 use Rattle.journal.proofs.StepLaws.{made-valid, makes}

@@ -14,12 +14,12 @@ use Rattle.control.proofs.judge.is_completed.Goals.{Start}
 
 pub loop-i-init : goal.loop-i-init
 unfolding all_below
-loop-i-init c = (omega arith, refl)
+loop-i-init c = refl
 
 pub loop-i-preserved : goal.loop-i-preserved
 loop-i-preserved c =
     let t = c.args.table in
-    (omega arith, all_below-turn _ c.loop-i.i _ _ c.loop-i.invariant.1 (ap (λ (b : Bool). leb t.count c.loop-i.i || not b) c.is_receipt_of-receipt.ensures))
+    all_below-turn _ c.loop-i.i _ _ c.loop-i.invariant (ap (λ (b : Bool). leb t.count c.loop-i.i || not b) c.is_receipt_of-receipt.ensures)
 
 -- nine places
 nine : (c : Start) → length c.args.table.slots ≡ 9
@@ -32,5 +32,5 @@ returns c =
     let e : c.loop-i.i ≡ 9 = omega arith in
     let t = s.args.table in
     let all : c.loop-i.none ≡ all_below (λ k. not (is_receipt_of s.args.id s.args.digest (slot_at t k))) t.count =
-    c.loop-i.invariant.1 ∙ rw e (nine-places t (nine s) (λ x. not (is_receipt_of s.args.id s.args.digest x)) refl) in
+    c.loop-i.invariant ∙ rw e (nine-places t (nine s) (λ x. not (is_receipt_of s.args.id s.args.digest x)) refl) in
     ap not all

@@ -1,25 +1,51 @@
--- `control::request::slot_check` meets its contract: what was found at the named place is what the definition reads there. Assumes nothing.
-use mathlib.Core.Bool.{cond, ◌&&◌}
-use mathlib.Core.Path.{ap, ◌∙◌}
+-- `control::request::slot_check` meets its contract: no member, or the tests of the member that was found, in their order. Assumes nothing.
+use mathlib.Core.Path.{◌≡◌, sym, ◌∙◌}
+use mathlib.Core.Bool.{false, true, cond, ◌&&◌}
+use native.Mathlib.Omega.{arith}
 use lib.Dec.{eqb, leb}
-use Rattle.identity.specs.declared.answer.Answer.TheVariants.{NoSurvivingQuorum, StaleIncarnation}
-use Rattle.identity.specs.declared.answer.Answer.{Answer}
+use Rattle.identity.specs.Answer.{NoSurvivingQuorum, StaleIncarnation, Answer, Accepted, InvalidLossEvidence}
 use Rattle.records.proofs.Held.{held-lost-voter-attestation-v1, held-voter-slot-table}
-use Rattle.control.specs.BeginJudgeLaws.{slot-judged}
+use Rattle.records.specs.Successor.{first_refusal}
+use Rattle.records.specs.TestLaws.{cond-false, cond-true}
+use Rattle.control.specs.BeginJudgeLaws.{slot-judged, slot-missing}
+use Rattle.control.specs.Control.{candidate_check, stale_check}
 use Rattle.control.proofs.request.slot_check.Goals as goal
+use Rattle.control.proofs.request.slot_check.Goals.{After-is_newer-newer}
 
-pub returns : goal.returns
-returns c =
-    -- the calls, from the last to the first, and the start
+judged : (c : After-is_newer-newer)
+    → cond (eqb c.args.table.revision c.args.request.expected_revision && (c.is_expected-expected.result && (c.same32-same_cluster.result && c.is_attested-attested.result)))
+    (cond (leb 3 c.args.table.count) (cond c.is_newer-newer.result Accepted InvalidLossEvidence) NoSurvivingQuorum) StaleIncarnation
+    ≡ first_refusal (stale_check c.args.table c.args.request) (candidate_check c.args.table c.args.request)
+judged c =
     let t = c.args.table in
     let r = c.args.request in
     let nine = (held-voter-slot-table t _ c.well_formed.0).slots.count in
     let bytes = (held-lost-voter-attestation-v1 r.attestation _ c.well_formed.1.0.1.1.1.1.1.0).old_descriptor_digest.count in
-    let x = c.named_member-named.result in
-    let right = c.is_expected-expected.result && (c.same32-same_cluster.result && c.is_attested-attested.result) in
-    let now = x.found && (eqb t.revision r.expected_revision && right) in
-    c.answer_by.ensures
-    ∙ (ap (λ (a : Answer). cond now a StaleIncarnation)
-    (c.answer_by-enough.ensures ∙ ap (λ (a : Answer). cond (leb 3 t.count) a NoSurvivingQuorum) c.answer_by-fits.ensures)
-    ∙ slot-judged t r nine bytes x _ _ _ _ c.named_member-named.ensures c.is_expected-expected.ensures c.same32-same_cluster.ensures
-    c.is_attested-attested.ensures c.is_newer-newer.ensures)
+    slot-judged t r nine bytes c.in-Some.member _ _ _ _ c.in-Some.ensures c.is_expected-expected.ensures c.same32-same_cluster.ensures
+    c.is_attested-attested.ensures c.is_newer-newer.ensures
+
+pub returns-in_default : goal.returns-in_default
+returns-in_default c =
+    let t = c.args.table in
+    let r = c.args.request in
+    let nine = (held-voter-slot-table t _ c.well_formed.0).slots.count in
+    let bytes = (held-lost-voter-attestation-v1 r.attestation _ c.well_formed.1.0.1.1.1.1.1.0).old_descriptor_digest.count in
+    slot-missing t r nine bytes c.named_member.result c.named_member.ensures c.in_default.not-Some
+
+pub returns-then-not-current : goal.returns-then-not-current
+returns-then-not-current c = sym (cond-false _ _ _ c.if-not-current.true) ∙ judged c.before.before.before
+
+pub returns-then-table-lt-MIN_REPLACEMENT_SLOTS : goal.returns-then-table-lt-MIN_REPLACEMENT_SLOTS
+returns-then-table-lt-MIN_REPLACEMENT_SLOTS c =
+    let few : leb 3 c.args.table.count ≡ false = grind arith in
+    sym (cond-true _ _ _ c.if-not-current.false ∙ cond-false _ _ _ few) ∙ judged c.before.before.before.before.before
+
+pub returns-then-not-newer : goal.returns-then-not-newer
+returns-then-not-newer c =
+    let enough : leb 3 c.args.table.count ≡ true = grind arith in
+    sym (cond-true _ _ _ c.if-not-current.false ∙ (cond-true _ _ _ enough ∙ cond-false _ _ _ c.if-not-newer.true)) ∙ judged c.before.before.before.before.before.before
+
+pub returns-else-not-newer : goal.returns-else-not-newer
+returns-else-not-newer c =
+    let enough : leb 3 c.args.table.count ≡ true = grind arith in
+    sym (cond-true _ _ _ c.if-not-current.false ∙ (cond-true _ _ _ enough ∙ cond-true _ _ _ c.if-not-newer.false)) ∙ judged c.before.before.before.before.before.before

@@ -1,5 +1,5 @@
 -- `control::retired::is_retired_identity` meets its contract: the answer so far is that of the places passed. Assumes nothing.
-use mathlib.Core.Path.{◌≡◌, refl, ap, ◌∙◌}
+use mathlib.Core.Path.{◌≡◌, ap, ◌∙◌}
 use mathlib.Core.Bool.{Bool, true, not, ◌&&◌, ◌||◌}
 use Prim.Native.Nat.{◌≤◌}
 use native.Mathlib.Omega.{arith}
@@ -15,14 +15,10 @@ use Rattle.control.specs.PlacesLaws.{nine-places}
 use Rattle.control.proofs.retired.is_retired_identity.Goals as goal
 use Rattle.control.proofs.retired.is_retired_identity.Goals.{Start}
 
-pub loop-i-init : goal.loop-i-init
-unfolding all_below
-loop-i-init c = (omega arith, refl)
-
 pub loop-i-preserved : goal.loop-i-preserved
 loop-i-preserved c =
     let table = c.args.table in
-    (omega arith, all_below-turn _ c.loop-i.i _ _ c.loop-i.invariant.1 (ap (λ (b : Bool). leb table.count c.loop-i.i || not b) c.is_below_floor-one.ensures))
+    all_below-turn _ c.loop-i.i _ _ c.loop-i.invariant (ap (λ (b : Bool). leb table.count c.loop-i.i || not b) c.is_below_floor.ensures)
 
 -- nine places
 nine : (c : Start) → length c.args.table.slots ≡ 9
@@ -35,9 +31,9 @@ blank identity h = ap (λ (b : Bool). not (b && leb identity.incarnation 0)) (ne
 pub returns : goal.returns
 unfolding is_retired_identity
 returns c =
-    let s = c.before.before in
+    let s = c.before.before.before in
     let e : c.loop-i.i ≡ 9 = omega arith in
     let table = s.args.table in
     let all : c.loop-i.none ≡ all_below (λ k. not (is_below_floor s.args.identity (slot_at table k))) table.count =
-    c.loop-i.invariant.1 ∙ rw e (nine-places table (nine s) (λ x. not (is_below_floor s.args.identity x)) (blank s.args.identity s.requires)) in
+    c.loop-i.invariant ∙ rw e (nine-places table (nine s) (λ x. not (is_below_floor s.args.identity x)) (blank s.args.identity s.requires)) in
     ap not all

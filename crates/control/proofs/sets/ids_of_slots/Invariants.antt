@@ -1,12 +1,7 @@
 -- `control::sets::ids_of_slots` meets its contract: the places passed have their ids. Assumes nothing.
-use mathlib.Core.Path.{◌≡◌}
-use Prim.Native.Nat.{◌≤◌, ◌-◌}
-use lib.ListN.{length, take}
+use Rattle.std.proofs.Common.{◌≡◌, length, take}
 use Rattle.control.specs.ObserveSets.{listed, slot_members}
 use Rattle.control.proofs.sets.ids_of_slots.Given as goal
 
 abbrev pub invariant-loop-i : goal.invariant-loop-i
-invariant-loop-i l = ((l.i ≤ 9) × (length l.ids ≡ 9)) × (take l.i l.ids ≡ listed (slot_members l.table) l.i)
-
-abbrev pub decreases-loop-i : goal.decreases-loop-i
-decreases-loop-i l = 9 - l.i
+invariant-loop-i l = (length l.ids ≡ 9) × (take l.i l.ids ≡ listed (slot_members l.table) l.i)

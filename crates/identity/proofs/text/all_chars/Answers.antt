@@ -7,21 +7,17 @@ use mathlib.Core.List.{List}
 use native.Mathlib.Omega.{arith}
 use lib.ListN.{length, take, drop, length-drop}
 use lib.Seq.{take_all, drop-drop}
-use borrow.Author.Rules.{rules}
 use borrow.Author.Tests.{not-true, not-false}
 use Rattle.identity.specs.Utf8.{decoded_char, chars_from, all_chars}
 use Rattle.identity.specs.Utf8Laws.{Sized, sized, chars-end, chars-malformed, chars-more}
 use Rattle.identity.specs.Text.{allows}
-use Rattle.identity.specs.declared.utf8.Decoded.TheVariants.{Char}
+use Rattle.identity.specs.Utf8.{Char}
 use Rattle.identity.proofs.text.all_chars.Goals as goal
 use Rattle.identity.proofs.text.all_chars.Goals.{After-decode, After-is_allowed, At-loop-at}
 
 pub loop-at-init : goal.loop-at-init
 unfolding all_chars
 loop-at-init c = (length c.args.bytes.now, (omega arith, refl))
-
-pub enum_told-1 : goal.enum_told-1
-enum_told-1 c = search rules
 
 -- what is known of the bytes that are left, where a character was looked for
 module _ (c : After-decode) where
@@ -68,13 +64,13 @@ module _ (c : After-is_allowed) where
   looked = (record { before = c.before.before.before; type_inv = record { bytes = c.type_inv.bytes } })
 
   abbrev code : ℕ
-  code = c.in-Char.code
+  code = c.in-Some.code
 
   abbrev width : ℕ
-  width = c.in-Char.width
+  width = c.in-Some.width
 
   char-here : decoded_char (rest looked) ≡ Char code width
-  char-here = sym (found looked) ∙ c.in-Char.is
+  char-here = sym (found looked) ∙ c.in-Some.is
 
   size : Sized (rest looked) width
   size = sized (rest looked) code width char-here

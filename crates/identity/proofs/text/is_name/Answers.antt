@@ -3,7 +3,8 @@ use mathlib.Core.Path.{sym, ◌∙◌}
 use borrow.Author.Tests.{le-leb, lt-leb, not-true, not-false}
 use native.Mathlib.Omega.{arith}
 use lib.ListN.{length}
-use Rattle.identity.specs.Text.{max_spiffe_id_bytes, is_name}
+use Rattle.identity.specs.Text.{max_spiffe_id_bytes, scheme, is_name}
+use Rattle.identity.specs.TextLaws.{starts_as}
 use Rattle.identity.proofs.text.is_name.Goals as goal
 
 pub returns-then-bytes-lt-MIN_VOTER_SPIFFE_ID_BYTES : goal.returns-then-bytes-lt-MIN_VOTER_SPIFFE_ID_BYTES
@@ -20,10 +21,10 @@ pub returns-then-not-starts_with : goal.returns-then-not-starts_with
 unfolding is_name
 returns-then-not-starts_with c =
     let n = length c.args.bytes.now in
-    rw (le-leb 10 n (omega arith), le-leb n max_spiffe_id_bytes (omega arith), sym c.starts_with.ensures ∙ not-true _ c.if-not-starts_with.true-raw)
+    rw (le-leb 10 n (omega arith), le-leb n max_spiffe_id_bytes (omega arith), sym (starts_as c.args.bytes.now scheme) ∙ sym c.starts_with.ensures.value ∙ not-true _ c.if-not-starts_with.true-raw)
 
 pub returns : goal.returns
 unfolding is_name
 returns c =
     let n = length c.args.bytes.now in
-    rw (le-leb 10 n (omega arith), le-leb n max_spiffe_id_bytes (omega arith), sym c.starts_with.ensures ∙ not-false _ c.if-not-starts_with.false-raw) c.all_allowed.ensures
+    rw (le-leb 10 n (omega arith), le-leb n max_spiffe_id_bytes (omega arith), sym (starts_as c.args.bytes.now scheme) ∙ sym c.starts_with.ensures.value ∙ not-false _ c.if-not-starts_with.false-raw) c.all_allowed.ensures

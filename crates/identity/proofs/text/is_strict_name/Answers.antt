@@ -7,7 +7,7 @@ use lib.ListN.{length, take, drop, length-drop}
 use lib.Seq.{take_all}
 use borrow.Author.Tests.{le-leb, lt-leb, not-true, not-false}
 use Rattle.identity.specs.Text.{scheme, starts_with, is_strict_name}
-use Rattle.identity.specs.TextLaws.{starts-length}
+use Rattle.identity.specs.TextLaws.{starts_as, starts-length}
 use Rattle.identity.proofs.text.is_strict_name.Goals as goal
 
 pub returns-then-bytes-gt-MAX_VOTER_SPIFFE_ID_BYTES : goal.returns-then-bytes-gt-MAX_VOTER_SPIFFE_ID_BYTES
@@ -18,11 +18,11 @@ pub returns-then-not-starts_with : goal.returns-then-not-starts_with
 unfolding is_strict_name
 returns-then-not-starts_with c =
     let s = c.args.bytes.now in
-    let n : starts_with s scheme ≡ false = sym c.starts_with.ensures ∙ not-true _ c.if-not-starts_with.true-raw in
+    let n : starts_with s scheme ≡ false = sym (starts_as s scheme) ∙ sym c.starts_with.ensures.value ∙ not-true _ c.if-not-starts_with.true-raw in
     rw (n, and-false)
 
 pub slice_bounds-are_strict_parts-count : goal.slice_bounds-are_strict_parts-count
-slice_bounds-are_strict_parts-count c = starts-length _ scheme (sym c.starts_with.ensures ∙ not-false _ c.if-not-starts_with.false-raw)
+slice_bounds-are_strict_parts-count c = starts-length _ scheme (sym (starts_as c.args.bytes.now scheme) ∙ sym c.starts_with.ensures.value ∙ not-false _ c.if-not-starts_with.false-raw)
 
 pub slice_bounds-are_strict_parts-start : goal.slice_bounds-are_strict_parts-start
 slice_bounds-are_strict_parts-start c = slice_bounds-are_strict_parts-count c
@@ -31,7 +31,7 @@ pub returns : goal.returns
 unfolding is_strict_name
 returns c =
     let s = c.args.bytes.now in
-    let y : starts_with s scheme ≡ true = sym c.starts_with.ensures ∙ not-false _ c.if-not-starts_with.false-raw in
+    let y : starts_with s scheme ≡ true = sym (starts_as s scheme) ∙ sym c.starts_with.ensures.value ∙ not-false _ c.if-not-starts_with.false-raw in
     let l : length s ≤ 2048 = omega arith in
     let d : take (length s - 9) (drop 9 s) ≡ drop 9 s = take_all (length s - 9) (drop 9 s) (omega (arith, length-drop 9 s)) in
     c.are_strict_parts.ensures ∙ rw (d, le-leb (length s) 2048 l, y)

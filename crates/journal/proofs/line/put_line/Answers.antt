@@ -29,7 +29,7 @@ abbrev e2 : After-number-answer → List ℕ
 e2 c = e1 c ++ space
 
 abbrev e3 : After-number-answer → List ℕ
-e3 c = e2 c ++ c.mark_text-text.result
+e3 c = e2 c ++ c.text-text.result
 
 abbrev e4 : After-number-answer → List ℕ
 e4 c = e3 c ++ space
@@ -49,7 +49,7 @@ e8 c = e7 c ++ newline
 -- all of it is the line
 whole : (c : After-number-answer) → e8 c ≡ line_of (count c) (start c).args.mark c.number-answer.result (revision c)
 unfolding line_of
-whole c = ap (λ t. decimal (count c) ++ space ++ t ++ space ++ decimal c.number-answer.result ++ space ++ decimal (revision c) ++ newline) c.mark_text-text.ensures
+whole c = ap (λ t. decimal (count c) ++ space ++ t ++ space ++ decimal c.number-answer.result ++ space ++ decimal (revision c) ++ newline) c.text-text.ensures
 
 -- there is room for all of it, and so for each part
 room8 : (c : After-number-answer) → (start c).args.at + length (e8 c) ≤ length (start c).args.out.now
@@ -72,7 +72,7 @@ room3 : (c : After-number-answer) → (start c).args.at + length (e3 c) ≤ leng
 room3 c = room-left (e3 c) (space) _ _ (room4 c)
 
 room2 : (c : After-number-answer) → (start c).args.at + length (e2 c) ≤ length (start c).args.out.now
-room2 c = room-left (e2 c) c.mark_text-text.result _ _ (room3 c)
+room2 c = room-left (e2 c) c.text-text.result _ _ (room3 c)
 
 room1 : (c : After-number-answer) → (start c).args.at + length (e1 c) ≤ length (start c).args.out.now
 room1 c = room-left (e1 c) (space) _ _ (room2 c)

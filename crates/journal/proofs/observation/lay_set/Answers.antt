@@ -1,49 +1,32 @@
--- `journal::observation::lay_set` meets its contract: the count, and so many ids. Assumes nothing.
-use mathlib.Core.Path.{◌≡◌}
+-- `journal::observation::lay_set` meets its contract. Assumes nothing.
+use Rattle.std.specs.Prelude.{◌≡◌, refl}
+use Rattle.std.proofs.Common.{arith, rules}
 use Rattle.format.specs.Num.{uint}
-use Rattle.format.specs.Res.Res.{ok}
-use Rattle.layout.specs.Reading.{u16_read}
-use Rattle.layout.specs.ReadingLaws.{got}
-use Rattle.journal.specs.SetBodyLaws.{head-within, set-headless, set-short, set_there}
-use borrow.Author.Rules.{rules}
+use Rattle.format.specs.Reads.{Reading, reads}
+use Rattle.journal.specs.SetBodyLaws.{ids_more, ids_start, number_takes, set_laid, set_read}
 use Rattle.journal.proofs.observation.lay_set.Goals as goal
 
-pub enum_told-1 : goal.enum_told-1
-enum_told-1 c =
-    search rules
+pub returns-in_err-count : goal.returns-in_err-count
+returns-in_err-count c = record { front = refl; is = search (rules, set_read); few = search rules }
 
-pub returns-in_default : goal.returns-in_default
-returns-in_default c =
-    let s = c.args in
-    set-headless s.bytes.now s.from s.ids.now c.not_laid.ensures
-    (got u16_read c.read_u16-count_read.ensures c.in_default.is)
+pub loop-i-init : goal.loop-i-init
+loop-i-init c = ids_start _ _ _
 
-pub overflow_sub-bytes : goal.overflow_sub-bytes
-overflow_sub-bytes c =
-    let count : (uint 2).dec c.args.bytes.now ≡ ok c.in-Read.count c.in-Read.at =
-    got u16_read c.read_u16-count_read.ensures c.in-Read.is in
-    head-within c.args.bytes.now c.args.from count
+pub bounds-ids-from : goal.bounds-ids-from
+bounds-ids-from c =
+    let l = c.loop-i in
+    let h : Reading.read c.in_ok-count.field-0 c.u16.new.self.bytes.now ≡ reads (uint 2) c.args.input.now.bytes.now = search rules in
+    let e : Reading.read c.in_ok-id.id c.u64.new.self.bytes.now ≡ reads (uint 8) l.input.bytes.now = search rules in
+    omega (arith, c.requires, number_takes 2 _ _ h, number_takes 8 _ _ e, l.invariant.few, l.invariant.long)
 
-pub returns-then-bytes-at : goal.returns-then-bytes-at
-returns-then-bytes-at c =
-    let count : (uint 2).dec c.args.bytes.now ≡ ok c.in-Read.count c.in-Read.at =
-    got u16_read c.read_u16-count_read.ensures c.in-Read.is in
-    set-short c.args.bytes.now c.args.from count c.args.ids.now c.not_laid-then-bytes-at.ensures c.if-bytes-at.true
-
-pub slice_bounds-lay_ids-count : goal.slice_bounds-lay_ids-count
-slice_bounds-lay_ids-count c =
-    let count : (uint 2).dec c.args.bytes.now ≡ ok c.in-Read.count c.in-Read.at =
-    got u16_read c.read_u16-count_read.ensures c.in-Read.is in
-    head-within c.args.bytes.now c.args.from count
-
-pub slice_bounds-lay_ids-start : goal.slice_bounds-lay_ids-start
-slice_bounds-lay_ids-start c =
-    let count : (uint 2).dec c.args.bytes.now ≡ ok c.in-Read.count c.in-Read.at =
-    got u16_read c.read_u16-count_read.ensures c.in-Read.is in
-    head-within c.args.bytes.now c.args.from count
+pub loop-i-preserved : goal.loop-i-preserved
+loop-i-preserved c =
+    let l = c.loop-i in
+    let h : Reading.read c.in_ok-count.field-0 c.u16.new.self.bytes.now ≡ reads (uint 2) c.args.input.now.bytes.now = search rules in
+    let e : Reading.read c.in_ok-id.id c.u64.new.self.bytes.now ≡ reads (uint 8) l.input.bytes.now = search rules in
+    ids_more _ _ _ _ _ _ _ _ (omega (arith, c.requires, number_takes 2 _ _ h, number_takes 8 _ _ e, l.invariant.few, l.invariant.long)) l.invariant e
 
 pub returns : goal.returns
 returns c =
-    let count : (uint 2).dec c.args.bytes.now ≡ ok c.in-Read.count c.in-Read.at =
-    got u16_read c.read_u16-count_read.ensures c.in-Read.is in
-    set_there c.args.bytes.now c.args.from count c.if-bytes-at.false c.lay_ids.ensures
+    let h : Reading.read c.in_ok-count.field-0 c.u16.new.self.bytes.now ≡ reads (uint 2) c.args.input.now.bytes.now = search rules in
+    set_laid _ _ h _ _ _ _ _ c.loop-i.invariant (omega arith)

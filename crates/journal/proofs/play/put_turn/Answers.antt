@@ -3,7 +3,7 @@ use Prim.Native.Nat.{ℕ, ◌+◌}
 use native.Mathlib.Omega.{arith}
 use mathlib.Core.Bool.{◌||◌}
 use mathlib.Core.List.{List}
-use Rattle.identity.specs.declared.answer.Answer.{Answer}
+use Rattle.identity.specs.Answer.{Answer}
 use Rattle.journal.specs.declared.play.Place.{Place}
 use Rattle.journal.specs.declared.record.Record.{Record}
 use Rattle.journal.specs.Play.{PutTurn}

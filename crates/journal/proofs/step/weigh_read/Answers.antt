@@ -1,16 +1,10 @@
--- `journal::step::weigh_read` meets its contract. Assumes nothing.
+-- `journal::step::weigh_read` meets its contract: the nodes are as many as were read. Assumes nothing.
 use mathlib.Core.Path.{◌≡◌, ap, ◌∙◌}
 use Prim.Native.Nat.{ℕ, ◌+◌, ◌-◌}
 use native.Mathlib.Omega.{arith}
-use lib.ListN.{length-take, take, drop}
+use lib.ListN.{take, drop}
 use Rattle.control.specs.ObserveSight.{weighed}
 use Rattle.journal.proofs.step.weigh_read.Goals as goal
-
-pub slice_bounds-weigh-end : goal.slice_bounds-weigh-end
-slice_bounds-weigh-end c = simp length-take (omega arith)
-
-pub slice_bounds-weigh-end-2 : goal.slice_bounds-weigh-end-2
-slice_bounds-weigh-end-2 c = simp length-take (omega arith)
 
 pub returns : goal.returns
 returns c =

@@ -1,18 +1,7 @@
 -- `records::validation::all_voting` meets its contract: the answer so far is that of the places passed. Assumes nothing.
-use mathlib.Core.Path.{◌≡◌}
-use mathlib.Core.Bool.{Bool}
-use Prim.Native.Nat.{ℕ, ◌≤◌, ◌-◌}
-use lib.Dec.{eqb}
-use Rattle.records.specs.Records.{all_below, slot_at, voting}
-use Rattle.records.specs.declared.records.VoterSlotTable.{VoterSlotTable}
+use Rattle.std.proofs.Common.{◌≡◌, eqb}
+use Rattle.records.specs.Records.{all_below, slot_in, voting}
 use Rattle.records.proofs.validation.all_voting.Given as goal
 
--- the test at a place
-abbrev pub test_at : VoterSlotTable → ℕ → Bool
-test_at t i = eqb (slot_at t i).phase voting
-
-abbrev pub invariant-loop-i : goal.invariant-loop-i
-invariant-loop-i l = (l.i ≤ l.table.count) × (l.all ≡ all_below (test_at l.table) l.i)
-
-abbrev pub decreases-loop-i : goal.decreases-loop-i
-decreases-loop-i l = l.table.count - l.i
+abbrev pub invariant-loop-slot : goal.invariant-loop-slot
+invariant-loop-slot l = l.all ≡ all_below (λ i. eqb (slot_in l.slots i).phase voting) l.slot-index

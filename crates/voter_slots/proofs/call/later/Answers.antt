@@ -1,6 +1,6 @@
 -- `voter_slots::call::later` meets its contract. Assumes nothing.
 use mathlib.Core.Path.{sym}
-use Rattle.identity.specs.declared.answer.Answer.TheVariants.{BadRecord}
+use Rattle.identity.specs.Answer.{BadRecord}
 use Rattle.records.specs.TestLaws.{cond-true, cond-false}
 use Rattle.voter_slots.proofs.call.later.Goals as goal
 

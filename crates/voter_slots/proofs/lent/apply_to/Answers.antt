@@ -1,7 +1,6 @@
 -- `voter_slots::lent::apply_to` meets its contract. Assumes nothing.
 use Rattle.std.proofs.Common.{◌≡◌, ℕ, sym, ap, ◌∙◌, Bool, length}
-use Rattle.identity.specs.Answer.{is_accepted}
-use Rattle.identity.specs.declared.answer.Answer.TheVariants.{Accepted}
+use Rattle.identity.specs.Answer.{is_accepted, Accepted}
 use Rattle.records.specs.ValidationLaws.{is-accepted}
 use Rattle.records.specs.Validation.{validate}
 use Rattle.journal.specs.declared.replay.Mark.{Mark}

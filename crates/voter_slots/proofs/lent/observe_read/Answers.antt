@@ -4,8 +4,7 @@ use mathlib.Core.Path.{◌≡◌, ap, subst, sym, ◌∙◌}
 use mathlib.Core.Bool.{true}
 use native.Mathlib.Omega.{arith}
 use lib.ListN.{length-take, take, drop}
-use Rattle.identity.specs.Answer.{is_accepted}
-use Rattle.identity.specs.declared.answer.Answer.{Answer}
+use Rattle.identity.specs.Answer.{is_accepted, Answer}
 use Rattle.records.specs.declared.records.VoterSlotTable.{VoterSlotTable}
 use Rattle.control.specs.Observation.{observe_membership}
 use Rattle.voter_slots.specs.Lent.{told}

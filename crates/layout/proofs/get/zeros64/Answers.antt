@@ -1,8 +1,0 @@
--- `layout::get::zeros64` meets its contract. Assumes nothing.
-use mathlib.Core.Path.{refl}
-use Rattle.format.specs.Copy.{zeros}
-use Rattle.layout.proofs.get.zeros64.Goals as goal
-
-pub returns : goal.returns
-unfolding zeros
-returns c = refl

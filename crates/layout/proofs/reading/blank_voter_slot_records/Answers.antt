@@ -1,9 +1,0 @@
--- `layout::reading::blank_voter_slot_records` meets its contract. Assumes nothing.
-use mathlib.Core.Path.{ap}
-use lib.ListN.{replicate}
-use Rattle.layout.specs.Parts.{blank_voter_slot_records}
-use Rattle.layout.proofs.reading.blank_voter_slot_records.Goals as goal
-
-pub returns : goal.returns
-unfolding blank_voter_slot_records
-returns c = ap (λ x. replicate 9 x) c.blank_voter_slot_record-blank.ensures

@@ -1,0 +1,59 @@
+// The fields of the bodies of questions, one after another.
+ghost use Rattle.std.specs.Prelude.{◌≡◌, length, IfSome};
+
+// What is left to read of a body. Each field is read if it is whole; numbers are big-endian.
+#[derive(Clone, Copy)]
+pub struct Fields<'a> {
+    pub left: &'a [u8],
+}
+
+impl<'a> Fields<'a> {
+    pub fn of(body: &'a [u8]) -> Fields<'a> {
+        Fields { left: body }
+    }
+
+    // So many bytes.
+    pub fn part(&mut self, size: usize) -> Option<&'a [u8]>
+        ensures { IfSome result (λ part. length part.now ≡ size) }
+    {
+        let (part, left) = self.left.split_at_checked(size)?;
+        self.left = left;
+        Some(part)
+    }
+
+    pub fn array<const N: usize>(&mut self) -> Option<[u8; N]> {
+        let (array, left) = self.left.split_first_chunk()?;
+        self.left = left;
+        Some(*array)
+    }
+
+    pub fn u8(&mut self) -> Option<u8> {
+        Some(u8::from_be_bytes(self.array()?))
+    }
+
+    pub fn u16(&mut self) -> Option<u16> {
+        Some(u16::from_be_bytes(self.array()?))
+    }
+
+    pub fn u32(&mut self) -> Option<u32> {
+        Some(u32::from_be_bytes(self.array()?))
+    }
+
+    pub fn u64(&mut self) -> Option<u64> {
+        Some(u64::from_be_bytes(self.array()?))
+    }
+
+    // A flag is 0 or 1: another number is not of the form.
+    pub fn flag(&mut self) -> Option<bool> {
+        match self.u8()? {
+            0 => Some(false),
+            1 => Some(true),
+            _ => None,
+        }
+    }
+
+    // Whether nothing is left: what comes after the last field is not of the form.
+    pub fn end(self) -> Option<()> {
+        if self.left.is_empty() { Some(()) } else { None }
+    }
+}
