@@ -1,7 +1,7 @@
 // The replies about calls on raw tables: the retired test, commands and observations.
 use codec::codec::decode_lost_voter_attestation;
 use control::apply::apply_control;
-use control::control::VoterSlotControl;
+use control::control::VoterCommand;
 use control::observe::observe_membership;
 use control::retired::is_retired;
 use identity::answer::{Answer, accepted};
@@ -9,8 +9,7 @@ use questions::question::Question;
 use questions::reply::{Reply, number};
 use raw::crc::crc32;
 use raw::fields::Fields;
-use raw::table::{TABLE_SIZE, last_table};
-use raw::write::put_table;
+use raw::table::{TABLE_SIZE, last_table, put_table};
 use raw_calls::record::*;
 use records::records::{VoterSlotLogId, VoterSlotTable};
 
@@ -66,16 +65,14 @@ fn command(mark: &[u8; 2], body: &[u8], table: VoterSlotTable) -> Option<Reply> 
 fn begin(body: &[u8], table: VoterSlotTable) -> Option<Reply> {
     let begin = begin_in(body)?;
     let decoded = decode_lost_voter_attestation(begin.attestation);
-    if !accepted(decoded.answer) {
-        return Some(given_back(decoded.answer, table));
-    }
-    let cut = begin.cut;
-    let command = begin.command(decoded.attestation);
-    Some(apply(table, CommandAt { cut, command }))
+    Some(match decoded.answer {
+        Err(_) => given_back(decoded.answer, table),
+        Ok(()) => apply(table, begin.command(decoded.attestation)),
+    })
 }
 
-fn apply(table: VoterSlotTable, at: CommandAt) -> Reply {
-    let controlled = apply_control(table, at.command, at.cut);
+fn apply(table: VoterSlotTable, command: VoterCommand) -> Reply {
+    let controlled = apply_control(table, command.control, command.cut);
     given_back(controlled.answer, controlled.table)
 }
 
@@ -83,14 +80,8 @@ fn observe(body: &[u8], table: VoterSlotTable) -> Option<Reply> {
     let mut ids = [0; MOST_IDS];
     let mut counts = [0; MOST_SETS];
     let mut nodes = [0; MOST_IDS];
-    let laid = lay_observation(&mut ids, &mut counts, &mut nodes, body)?;
-    let controlled = observe_membership(
-        table,
-        &ids[..laid.ids],
-        &counts[..laid.sets],
-        &nodes[..laid.nodes],
-        laid.cut,
-    );
+    let observation = observation_in(&mut ids, &mut counts, &mut nodes, body)?;
+    let controlled = observe_membership(table, observation);
     Some(given_back(controlled.answer, controlled.table))
 }
 

@@ -4,8 +4,7 @@ use identity::answer::accepted;
 use questions::reply::Reply;
 use raw::crc::crc32;
 use raw::fields::Fields;
-use raw::table::{TABLE_SIZE, last_table};
-use raw::write::{put_attestation, put_table};
+use raw::table::{TABLE_SIZE, last_table, put_attestation, put_table};
 use records::records::{LostVoterAttestationV1, VoterSlotTable};
 
 // The bytes of the largest table (`ends`).

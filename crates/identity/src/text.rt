@@ -189,21 +189,21 @@ fn all_within(bytes: &[u8], low: u8, high: u8) -> bool
     all
 }
 
-// The same, character by character.
+// The same, character by character. Each takes from one to four bytes, so that no range of places
+// and no iterator of the library goes from one to the next.
+#[tactic(auto, using(crate::specs::TextLaws::refused_char, crate::specs::TextLaws::allowed_char, crate::specs::Utf8Laws::all_chars_end, crate::specs::Utf8Laws::char_within))]
 fn all_chars(bytes: &[u8], rule: Allowed) -> bool
     ensures { result ≡ all_chars (allows rule) bytes.now }
 {
-    let mut at = 0;
-    while at < bytes.len() {
-        let Some((code, width)) = decode(&bytes[at..]) else {
-            return false;
-        };
+    let mut rest = bytes;
+    while let Some((code, width)) = decode(rest) {
         if !is_allowed(rule, code) {
             return false;
         }
-        at += width;
+        let (_, later) = rest.split_at(width);
+        rest = later;
     }
-    true
+    rest.is_empty()
 }
 
 // The trust domain and the segments after it, with slashes between them.

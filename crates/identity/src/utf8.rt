@@ -6,8 +6,8 @@ ghost use Rattle.identity.specs.Utf8.{octets, within, utf8_tail, led_by, decoded
 // The character at the front of bytes: its code point, and how many bytes it takes. There is none
 // for a wrong or a missing byte, an overlong form, a surrogate, or a code point above 10FFFF. The
 // first byte is judged by its range, which decides how many bytes there are and the bounds of the
-// second: an arm for each alternative of RFC 3629's grammar. The narrower bounds shut out overlong forms (after E0 and F0), surrogates (ED) and what
-// is above 10FFFF (F4).
+// second: an arm for each alternative of RFC 3629's grammar. The narrower bounds shut out overlong
+// forms (after E0 and F0), surrogates (ED) and what is above 10FFFF (F4).
 pub fn decode(bytes: &[u8]) -> Option<(u32, usize)>
     ensures { result ≡ decoded_char bytes.now }
 {

@@ -4,5 +4,7 @@
 
 pub mod crc;
 pub mod fields;
+pub mod form;
+pub mod room;
 pub mod table;
-pub mod write;
+

@@ -4,22 +4,16 @@
 ghost use Rattle.std.specs.Prelude.{◌≤◌, length, IfSome};
 
 use control::control::*;
+use control::sets::VoterObservation;
 use identity::identity::ConsensusIdentity;
 use identity::text::MAX_VOTER_SNAPSHOT_ID_BYTES;
 use raw::fields::Fields;
-use raw::table::{log_id, member};
+use raw::form::Raw;
 use records::blank::*;
 use records::records::*;
 
-// A command, and the cut at which it comes.
-#[derive(Clone, Copy)]
-pub struct CommandAt {
-    pub cut: VoterSlotLogId,
-    pub command: VoterSlotControl,
-}
-
 // cut 16, request_id 16, request_digest 32.
-pub fn marker_in(body: &[u8]) -> Option<CommandAt> {
+pub fn marker_in(body: &[u8]) -> Option<VoterCommand> {
     let mut fields = Fields::of(body);
     let marker = named(MARKER, &mut fields)?;
     fields.end()?;
@@ -27,10 +21,10 @@ pub fn marker_in(body: &[u8]) -> Option<CommandAt> {
 }
 
 // The front of a command that names its request.
-fn named(kind: u8, fields: &mut Fields) -> Option<CommandAt> {
-    Some(CommandAt {
-        cut: log_id(fields)?,
-        command: VoterSlotControl {
+fn named(kind: u8, fields: &mut Fields) -> Option<VoterCommand> {
+    Some(VoterCommand {
+        cut: Raw::read(fields)?,
+        control: VoterSlotControl {
             kind,
             request: no_request(),
             request_id: fields.array()?,
@@ -41,10 +35,10 @@ fn named(kind: u8, fields: &mut Fields) -> Option<CommandAt> {
 }
 
 // cut 16, request_id 16, request_digest 32, step.
-pub fn advance_in(body: &[u8]) -> Option<CommandAt> {
+pub fn advance_in(body: &[u8]) -> Option<VoterCommand> {
     let mut fields = Fields::of(body);
     let mut advance = named(ADVANCE, &mut fields)?;
-    advance.command.step = step(&mut fields)?;
+    advance.control.step = step(&mut fields)?;
     fields.end()?;
     Some(advance)
 }
@@ -56,7 +50,7 @@ fn step(fields: &mut Fields) -> Option<VoterReplacementStep> {
     step.kind = kind;
     match kind {
         RECORD_SNAPSHOT => step.snapshot = snapshot(fields)?,
-        RECORD_CAUGHT_UP => step.caught_up = log_id(fields)?,
+        RECORD_CAUGHT_UP => step.caught_up = Raw::read(fields)?,
         _ if kind <= FINALIZE => {}
         _ => return None,
     }
@@ -66,7 +60,7 @@ fn step(fields: &mut Fields) -> Option<VoterReplacementStep> {
 // cut 16, id with its size of 2, digest 32.
 fn snapshot(fields: &mut Fields) -> Option<VoterSnapshotEvidence> {
     Some(VoterSnapshotEvidence {
-        cut: log_id(fields)?,
+        cut: Raw::read(fields)?,
         snapshot_id: snapshot_id(fields)?,
         digest: fields.array()?,
     })
@@ -85,7 +79,7 @@ fn snapshot_id(fields: &mut Fields) -> Option<SnapshotId> {
 // A Begin whose attestation is not read yet: it has its own reader.
 #[derive(Clone, Copy)]
 pub struct Begin<'a> {
-    pub cut: VoterSlotLogId,
+    cut: VoterSlotLogId,
     expected_revision: u64,
     expected_configuration: ConsensusIdentity,
     candidate: VoterSlotMember,
@@ -99,10 +93,10 @@ pub struct Begin<'a> {
 pub fn begin_in(body: &[u8]) -> Option<Begin<'_>> {
     let mut fields = Fields::of(body);
     let begin = Begin {
-        cut: log_id(&mut fields)?,
+        cut: Raw::read(&mut fields)?,
         expected_revision: fields.u64()?,
         expected_configuration: configuration(&mut fields)?,
-        candidate: member(&mut fields)?,
+        candidate: Raw::read(&mut fields)?,
         attestation: sized(&mut fields)?,
         supplied_request_digest: fields.array()?,
         supplied_configuration_id: fields.array()?,
@@ -127,20 +121,23 @@ fn configuration(fields: &mut Fields) -> Option<ConsensusIdentity> {
 
 impl Begin<'_> {
     // The command, with the attestation that its bytes hold.
-    pub fn command(self, attestation: LostVoterAttestationV1) -> VoterSlotControl {
-        VoterSlotControl {
-            kind: BEGIN,
-            request: VoterReplacementRequest {
-                expected_revision: self.expected_revision,
-                expected_configuration: self.expected_configuration,
-                candidate: self.candidate,
-                attestation,
-                supplied_request_digest: self.supplied_request_digest,
-                supplied_configuration_id: self.supplied_configuration_id,
+    pub fn command(self, attestation: LostVoterAttestationV1) -> VoterCommand {
+        VoterCommand {
+            control: VoterSlotControl {
+                kind: BEGIN,
+                request: VoterReplacementRequest {
+                    expected_revision: self.expected_revision,
+                    expected_configuration: self.expected_configuration,
+                    candidate: self.candidate,
+                    attestation,
+                    supplied_request_digest: self.supplied_request_digest,
+                    supplied_configuration_id: self.supplied_configuration_id,
+                },
+                request_id: [0; 16],
+                request_digest: [0; 32],
+                step: no_step(),
             },
-            request_id: [0; 16],
-            request_digest: [0; 32],
-            step: no_step(),
+            cut: self.cut,
         }
     }
 }
@@ -169,39 +166,26 @@ fn no_step() -> VoterReplacementStep {
     }
 }
 
-// The sets of an observation, and after them its nodes.
-#[derive(Clone, Copy)]
-pub struct Observed {
-    pub cut: VoterSlotLogId,
-    // How many sets there are.
-    pub sets: usize,
-    // How many ids they have together.
-    pub ids: usize,
-    // How many nodes there are.
-    pub nodes: usize,
-}
-
 // cut 16, count of sets 1, the sets, the nodes. Lays the sets one after another into `ids`, with
 // the count of each, and the nodes, a set more.
-pub fn lay_observation(
-    ids: &mut [u64],
-    counts: &mut [usize],
-    nodes: &mut [u64],
+pub fn observation_in<'a>(
+    ids: &'a mut [u64],
+    counts: &'a mut [usize],
+    nodes: &'a mut [u64],
     body: &[u8],
-) -> Option<Observed>
-    ensures { IfSome result (λ o. (o.ids ≤ length ids.new) × (o.sets ≤ length counts.new) × (o.nodes ≤ length nodes.new)) }
-{
+) -> Option<VoterObservation<'a>> {
     let mut fields = Fields::of(body);
-    let cut = log_id(&mut fields)?;
+    let cut = Raw::read(&mut fields)?;
     let sets = usize::from(fields.u8()?);
-    let ids = lay_sets(ids, counts.get_mut(..sets)?, &mut fields)?;
-    let nodes = lay_set(nodes, &mut fields)?;
+    let counts = counts.get_mut(..sets)?;
+    let in_sets = lay_sets(ids, counts, &mut fields)?;
+    let in_nodes = lay_set(nodes, &mut fields)?;
     fields.end()?;
-    Some(Observed {
+    Some(VoterObservation {
+        sets: ids.get(..in_sets)?,
+        counts,
+        nodes: nodes.get(..in_nodes)?,
         cut,
-        sets,
-        ids,
-        nodes,
     })
 }
 
