@@ -10,7 +10,6 @@ ghost use Rattle.std.specs.Prelude.{◌≡◌};
 ghost use Rattle.layout.specs.Parts.{blank_voter_slot_members, member_of, result_of, evidence_of, early_cuts, late_cuts};
 
 use identity::identity::*;
-use records::blank::blank_voter_slot_member;
 use records::records::*;
 
 // What follows an identity in a member.
@@ -115,7 +114,7 @@ pub struct TableHead {
 pub fn blank_voter_slot_members() -> [VoterSlotMember; MAX_FIXED_VOTER_SLOTS]
     ensures { result ≡ blank_voter_slot_members }
 {
-    let blank = blank_voter_slot_member();
+    let blank = VoterSlotMember::default();
     [blank; MAX_FIXED_VOTER_SLOTS]
 }
 
