@@ -13,7 +13,7 @@ ghost use Rattle.control.specs.Control.{is_blank_name, is_blank_request, is_blan
 
 use crate::control::*;
 use identity::identity::{ConsensusIdentity, is_configuration_epoch};
-use records::blank::{Blank, are_blank};
+use records::blank::Blank;
 use records::records::VoterSnapshotEvidence;
 use records::representable::{
     is_representable_attestation, is_representable_member, is_representable_snapshot,
@@ -45,8 +45,8 @@ fn is_request_part(is_begin: bool, control: VoterSlotControl) -> bool
 fn is_blank_name(control: VoterSlotControl) -> bool
     ensures { result ≡ is_blank_name control }
 {
-    let request_id = are_blank(&control.request_id);
-    let request_digest = are_blank(&control.request_digest);
+    let request_id = control.request_id.is_blank();
+    let request_digest = control.request_digest.is_blank();
     request_id & request_digest
 }
 
@@ -72,8 +72,8 @@ fn is_blank_request(request: VoterReplacementRequest) -> bool
     let candidate = request_candidate.is_blank();
     let request_attestation = request.attestation;
     let attestation = request_attestation.is_blank();
-    let supplied_request_digest = are_blank(&request.supplied_request_digest);
-    let supplied_configuration_id = are_blank(&request.supplied_configuration_id);
+    let supplied_request_digest = request.supplied_request_digest.is_blank();
+    let supplied_configuration_id = request.supplied_configuration_id.is_blank();
     (request.expected_revision == 0)
         & (expected_configuration
             & (candidate & (attestation & (supplied_request_digest & supplied_configuration_id))))
@@ -83,8 +83,8 @@ fn is_blank_request(request: VoterReplacementRequest) -> bool
 fn is_blank_consensus_identity(identity: ConsensusIdentity) -> bool
     ensures { result ≡ same_consensus_identity identity blank_consensus_identity }
 {
-    let cluster_id = are_blank(&identity.cluster_id);
-    let configuration_id = are_blank(&identity.configuration_id);
+    let cluster_id = identity.cluster_id.is_blank();
+    let configuration_id = identity.configuration_id.is_blank();
     cluster_id & (configuration_id & (identity.configuration_epoch == 0))
 }
 

@@ -67,7 +67,7 @@ impl<'a> Reader<'a> {
     {
         let epoch = self.epoch()?;
         let count = self.count()?;
-        let mut members = blank_voter_slot_members();
+        let mut members = [VoterSlotMember::default(); MAX_FIXED_VOTER_SLOTS];
         self.members(count, &mut members)?;
         Ok(VoterConfiguration {
             epoch,
