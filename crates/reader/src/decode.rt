@@ -61,7 +61,7 @@ impl<'a> Reader<'a> {
     }
 
     // `configuration`
-    #[tactic(auto, using(format::specs::Reads::reads_three), unfolding(layout::specs::Layout::configuration))]
+    #[tactic(auto, using(format::specs::Reads::reads_three), unfolding(layout::specs::Layout::configuration, layout::specs::Parts::blank_voter_slot_members))]
     fn configuration(&mut self) -> Result<VoterConfiguration, Refusal>
         ensures { told result self.new.bytes.now ≡ reads configuration self.old.bytes.now }
     {
