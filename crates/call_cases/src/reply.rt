@@ -4,7 +4,7 @@ use control::apply::apply_control;
 use control::control::VoterCommand;
 use control::observe::observe_membership;
 use control::retired::is_retired;
-use identity::answer::{Answer, accepted};
+use identity::answer::Answer;
 use questions::question::Question;
 use questions::reply::{Reply, number};
 use raw::crc::crc32;

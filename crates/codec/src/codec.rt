@@ -18,7 +18,6 @@ use identity::answer::{Answer, Refusal};
 use layout::parts::MAX_LOST_VOTER_ATTESTATION_BYTES;
 use reader::decode::read_whole_attestation;
 use reader::reader::Reader;
-use records::blank::{blank_lost_voter_attestation_v1, blank_voter_slot_table};
 use records::records::{LostVoterAttestationV1, VoterSlotTable};
 use records::validation::{validate_representable, validate_table};
 use writer::encode::{put_table, table_size};
@@ -47,7 +46,7 @@ pub struct DecodedAttestation {
 pub fn read_voter_slot_table(bytes: &[u8]) -> Result<VoterSlotTable, Refusal>
     ensures { told_whole result (length bytes.now) ≡ decode_voter_slot_table bytes.now }
 {
-    let mut table = blank_voter_slot_table();
+    let mut table = VoterSlotTable::default();
     fill_voter_slot_table(bytes, &mut table)?;
     Ok(table)
 }
@@ -58,7 +57,7 @@ pub fn read_voter_slot_table(bytes: &[u8]) -> Result<VoterSlotTable, Refusal>
 pub fn decode_voter_slot_table(bytes: &[u8]) -> DecodedTable
     ensures { (number_of result.answer, result.table) ≡ decoded blank_voter_slot_table (decode_voter_slot_table bytes.now) }
 {
-    let mut table = blank_voter_slot_table();
+    let mut table = VoterSlotTable::default();
     match fill_voter_slot_table(bytes, &mut table) {
         Ok(()) => DecodedTable {
             answer: Ok(()),
@@ -90,7 +89,7 @@ fn no_table(refusal: Refusal) -> DecodedTable
 {
     DecodedTable {
         answer: Err(refusal),
-        table: blank_voter_slot_table(),
+        table: VoterSlotTable::default(),
     }
 }
 
@@ -99,7 +98,7 @@ fn no_table(refusal: Refusal) -> DecodedTable
 pub fn read_lost_voter_attestation(bytes: &[u8]) -> Result<LostVoterAttestationV1, Refusal>
     ensures { told_whole result (length bytes.now) ≡ decode_lost_voter_attestation bytes.now }
 {
-    let mut attestation = blank_lost_voter_attestation_v1();
+    let mut attestation = LostVoterAttestationV1::default();
     fill_lost_voter_attestation(bytes, &mut attestation)?;
     Ok(attestation)
 }
@@ -108,7 +107,7 @@ pub fn read_lost_voter_attestation(bytes: &[u8]) -> Result<LostVoterAttestationV
 pub fn decode_lost_voter_attestation(bytes: &[u8]) -> DecodedAttestation
     ensures { (number_of result.answer, result.attestation) ≡ decoded blank_lost_voter_attestation_v1 (decode_lost_voter_attestation bytes.now) }
 {
-    let mut attestation = blank_lost_voter_attestation_v1();
+    let mut attestation = LostVoterAttestationV1::default();
     match fill_lost_voter_attestation(bytes, &mut attestation) {
         Ok(()) => DecodedAttestation {
             answer: Ok(()),
@@ -116,7 +115,7 @@ pub fn decode_lost_voter_attestation(bytes: &[u8]) -> DecodedAttestation
         },
         Err(refusal) => DecodedAttestation {
             answer: Err(refusal),
-            attestation: blank_lost_voter_attestation_v1(),
+            attestation: LostVoterAttestationV1::default(),
         },
     }
 }

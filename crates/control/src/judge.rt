@@ -18,7 +18,6 @@ ghost use Rattle.control.specs.Verdicts.{answer_of, route_of, verdict_of};
 use crate::control::*;
 use identity::answer::{Answer, Refusal};
 use identity::identity::ConsensusRequestId;
-use records::equality::*;
 use records::evidence::{is_in_order, is_valid_snapshot_id, log_id_follows};
 use records::records::*;
 
@@ -99,7 +98,7 @@ fn same_id(table: VoterSlotTable, request_id: ConsensusRequestId) -> bool
     ensures { result ≡ eq_bytes table.replacement.attestation.request_id request_id }
 {
     let open = table.replacement.attestation.request_id;
-    same16(open, request_id)
+    open == request_id
 }
 
 // The digest is that of the open request.
@@ -107,7 +106,7 @@ fn same_digest(table: VoterSlotTable, request_digest: [u8; 32]) -> bool
     ensures { result ≡ eq_bytes table.replacement.attestation.request_digest request_digest }
 {
     let open = table.replacement.attestation.request_digest;
-    same32(open, request_digest)
+    open == request_digest
 }
 
 // `advance`. The revision is tested before all else, also where nothing would change. The slots are
@@ -152,8 +151,8 @@ fn is_receipt_of(slot: VoterSlotRecord, id: ConsensusRequestId, digest: [u8; 32]
 {
     let held_id = slot.last_result.request_id;
     let held_digest = slot.last_result.request_digest;
-    let same_id = same16(held_id, id);
-    let same_digest = same32(held_digest, digest);
+    let same_id = held_id == id;
+    let same_digest = held_digest == digest;
     ((slot.has_last_result & same_id) & same_digest) & (slot.last_result.kind == COMPLETED)
 }
 
@@ -214,7 +213,7 @@ fn judge_snapshot(
 {
     if table.replacement.evidence.has_snapshot {
         let held = table.replacement.evidence.snapshot;
-        let same = same_voter_snapshot_evidence(held, snapshot);
+        let same = held == snapshot;
         return if same {
             Ok(Judged::Keep)
         } else {
@@ -265,7 +264,7 @@ fn judge_caught_up(
     let held = caught_up.cut;
     let learner = table.replacement.evidence.learner.cut;
     let continuation = table.replacement.evidence.continuation;
-    let same = same_voter_slot_log_id(held, mark);
+    let same = held == mark;
     let later = follows_mark(caught_up, mark, learner);
     let fits = fits_continuation(continuation, mark, false);
     let catching_up = (phase == LEARNER_ADDED) | (phase == CAUGHT_UP);

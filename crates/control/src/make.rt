@@ -11,7 +11,6 @@ ghost use Rattle.records.specs.With.{with_snapshot};
 ghost use Rattle.control.specs.Control.{caught_up_recorded, continued, fenced_at, finalized, full, snapshot_recorded, target_index};
 
 use crate::control::VoterAdvance;
-use records::blank::blank_voter_replacement_record;
 use records::records::*;
 use records::successor::slot_index;
 
@@ -139,7 +138,7 @@ pub fn finalize_table(table: VoterSlotTable, advance: VoterAdvance) -> VoterSlot
     slot.has_last_result = true;
     slot.last_result = receipt;
     slots[at] = slot;
-    let blank = blank_voter_replacement_record();
+    let blank = VoterReplacementRecord::default();
     next.replacement = blank;
     next.has_replacement = false;
     next.revision = revision;

@@ -13,11 +13,11 @@ ghost use Rattle.control.specs.Control.{is_blank_name, is_blank_request, is_blan
 
 use crate::control::*;
 use identity::identity::{ConsensusIdentity, is_configuration_epoch};
+use records::blank::Blank;
 use records::records::VoterSnapshotEvidence;
 use records::representable::{
     is_representable_attestation, is_representable_member, is_representable_snapshot,
 };
-use records::zero::*;
 
 // A kind of the three; the request is a Begin's, the step an Advance's.
 #[tactic(auto, unfolding(crate::specs::Control::representable_control))]
@@ -45,8 +45,8 @@ fn is_request_part(is_begin: bool, control: VoterSlotControl) -> bool
 fn is_blank_name(control: VoterSlotControl) -> bool
     ensures { result ≡ is_blank_name control }
 {
-    let request_id = zeros(&control.request_id);
-    let request_digest = zeros(&control.request_digest);
+    let request_id = control.request_id.is_blank();
+    let request_digest = control.request_digest.is_blank();
     request_id & request_digest
 }
 
@@ -69,11 +69,11 @@ fn is_blank_request(request: VoterReplacementRequest) -> bool
     let request_configuration = request.expected_configuration;
     let expected_configuration = is_blank_consensus_identity(request_configuration);
     let request_candidate = request.candidate;
-    let candidate = is_blank_voter_slot_member(request_candidate);
+    let candidate = request_candidate.is_blank();
     let request_attestation = request.attestation;
-    let attestation = is_blank_lost_voter_attestation_v1(request_attestation);
-    let supplied_request_digest = zeros(&request.supplied_request_digest);
-    let supplied_configuration_id = zeros(&request.supplied_configuration_id);
+    let attestation = request_attestation.is_blank();
+    let supplied_request_digest = request.supplied_request_digest.is_blank();
+    let supplied_configuration_id = request.supplied_configuration_id.is_blank();
     (request.expected_revision == 0)
         & (expected_configuration
             & (candidate & (attestation & (supplied_request_digest & supplied_configuration_id))))
@@ -83,8 +83,8 @@ fn is_blank_request(request: VoterReplacementRequest) -> bool
 fn is_blank_consensus_identity(identity: ConsensusIdentity) -> bool
     ensures { result ≡ same_consensus_identity identity blank_consensus_identity }
 {
-    let cluster_id = zeros(&identity.cluster_id);
-    let configuration_id = zeros(&identity.configuration_id);
+    let cluster_id = identity.cluster_id.is_blank();
+    let configuration_id = identity.configuration_id.is_blank();
     cluster_id & (configuration_id & (identity.configuration_epoch == 0))
 }
 
@@ -107,7 +107,7 @@ pub fn is_representable_step(step: VoterReplacementStep) -> bool
     let step_snapshot = step.snapshot;
     let snapshot = is_snapshot_part(step.kind == RECORD_SNAPSHOT, step_snapshot);
     let step_caught_up = step.caught_up;
-    let no_mark = is_blank_voter_slot_log_id(step_caught_up);
+    let no_mark = step_caught_up.is_blank();
     (step.kind <= FINALIZE) & (snapshot & ((step.kind == RECORD_CAUGHT_UP) | no_mark))
 }
 
@@ -118,7 +118,7 @@ fn is_snapshot_part(is_used: bool, snapshot: VoterSnapshotEvidence) -> bool
     if is_used {
         return is_representable_snapshot(snapshot);
     }
-    is_blank_voter_snapshot_evidence(snapshot)
+    snapshot.is_blank()
 }
 
 // All parts are zero, the kind too, as in `zero` of records.
@@ -126,8 +126,8 @@ fn is_blank_step(step: VoterReplacementStep) -> bool
     ensures { result ≡ is_blank_step step }
 {
     let step_snapshot = step.snapshot;
-    let snapshot = is_blank_voter_snapshot_evidence(step_snapshot);
+    let snapshot = step_snapshot.is_blank();
     let step_caught_up = step.caught_up;
-    let caught_up = is_blank_voter_slot_log_id(step_caught_up);
+    let caught_up = step_caught_up.is_blank();
     (step.kind == 0) & (snapshot & caught_up)
 }

@@ -15,7 +15,6 @@ ghost use Rattle.layout.specs.Layout.{binding, member, members, configuration, r
 use crate::reader::Reader;
 use identity::answer::Refusal;
 use layout::parts::*;
-use records::blank::{blank_voter_replacement_result, blank_voter_snapshot_evidence};
 use records::records::*;
 use records::validation::is_valid_attestation;
 
@@ -62,13 +61,13 @@ impl<'a> Reader<'a> {
     }
 
     // `configuration`
-    #[tactic(auto, using(format::specs::Reads::reads_three), unfolding(layout::specs::Layout::configuration))]
+    #[tactic(auto, using(format::specs::Reads::reads_three), unfolding(layout::specs::Layout::configuration, layout::specs::Parts::blank_voter_slot_members))]
     fn configuration(&mut self) -> Result<VoterConfiguration, Refusal>
         ensures { told result self.new.bytes.now ≡ reads configuration self.old.bytes.now }
     {
         let epoch = self.epoch()?;
         let count = self.count()?;
-        let mut members = blank_voter_slot_members();
+        let mut members = [VoterSlotMember::default(); MAX_FIXED_VOTER_SLOTS];
         self.members(count, &mut members)?;
         Ok(VoterConfiguration {
             epoch,
@@ -108,7 +107,7 @@ impl<'a> Reader<'a> {
         ensures { told result self.new.bytes.now ≡ reads (opt replacement_result blank_voter_replacement_result) self.old.bytes.now }
     {
         if !self.flag()? {
-            return Ok((false, blank_voter_replacement_result()));
+            return Ok((false, VoterReplacementResult::default()));
         }
         Ok((true, self.replacement_result()?))
     }
@@ -262,7 +261,7 @@ impl<'a> Reader<'a> {
         ensures { told result self.new.bytes.now ≡ reads (opt snapshot blank_voter_snapshot_evidence) self.old.bytes.now }
     {
         if !self.flag()? {
-            return Ok((false, blank_voter_snapshot_evidence()));
+            return Ok((false, VoterSnapshotEvidence::default()));
         }
         Ok((true, self.snapshot()?))
     }

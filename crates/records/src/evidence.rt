@@ -141,31 +141,6 @@ impl VoterReplacementEvidence {
     }
 }
 
-// `VoterReplacementEvidence::validate`.
-pub fn is_valid_evidence(evidence: VoterReplacementEvidence, phase: u8) -> bool
-    ensures { result ≡ valid_evidence evidence phase }
-{
-    evidence.is_valid(phase)
-}
-
-// The snapshot's cut, or none.
-pub fn snapshot_cut(evidence: VoterReplacementEvidence) -> OptionalLogId
-    ensures { result ≡ snapshot_cut evidence }
-{
-    evidence.snapshot_cut()
-}
-
-// `VoterReplacementEvidence::retains`.
-pub fn evidence_retains(
-    new: VoterReplacementEvidence,
-    old: VoterReplacementEvidence,
-    old_phase: u8,
-) -> bool
-    ensures { result ≡ retains new old old_phase }
-{
-    new.retains(&old, old_phase)
-}
-
 // `VoterReplacementEvidence::latest`.
 pub fn latest_cut(evidence: VoterReplacementEvidence) -> VoterSlotLogId
     ensures { result ≡ latest evidence }

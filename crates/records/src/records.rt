@@ -279,23 +279,21 @@ pub struct VoterSlotTable {
 }
 
 impl VoterConfiguration {
-    // Its members, without the blanks.
+    // Its members, without the blanks; all nine places where the count is above nine.
     pub fn members_in_use(&self) -> &[VoterSlotMember]
-        requires { self.now.count ≤ 9 }
         ensures members { result.now ≡ members_in_use self.now }
-        ensures count { length result.now ≡ self.now.count }
+        ensures count { self.now.count ≤ 9 → length result.now ≡ self.now.count }
     {
-        &self.members[..self.count]
+        &self.members[..self.count.min(MAX_FIXED_VOTER_SLOTS)]
     }
 }
 
 impl VoterSlotTable {
-    // Its slots, without the blanks.
+    // Its slots, without the blanks; all nine places where the count is above nine.
     pub fn slots_in_use(&self) -> &[VoterSlotRecord]
-        requires { self.now.count ≤ 9 }
         ensures slots { result.now ≡ slots_in_use self.now }
-        ensures count { length result.now ≡ self.now.count }
+        ensures count { self.now.count ≤ 9 → length result.now ≡ self.now.count }
     {
-        &self.slots[..self.count]
+        &self.slots[..self.count.min(MAX_FIXED_VOTER_SLOTS)]
     }
 }

@@ -9,8 +9,8 @@ ghost use Rattle.identity.specs.Text.{every, is_utf8};
 ghost use Rattle.records.specs.Records.{all_below, slot_at, member_at};
 ghost use Rattle.records.specs.Representable.{is_zero, representable_spiffe_id, representable_snapshot_id, representable_optional_log_id, representable_member, representable_result, member_place, slot_place, representable_snapshot, representable_optional_snapshot, representable_slot_record, representable_configuration, representable_attestation, representable_evidence, representable_replacement, representable};
 
+use crate::blank::{Blank, are_blank};
 use crate::records::*;
-use crate::zero::*;
 use identity::identity::{MAX_VOTER_INCARNATION, VoterIncarnation};
 use identity::text::{MAX_VOTER_SNAPSHOT_ID_BYTES, MAX_VOTER_SPIFFE_ID_BYTES, is_utf8};
 
@@ -32,7 +32,7 @@ impl VoterSlotTable {
         if self.has_replacement {
             return self.replacement.is_representable();
         }
-        is_blank_voter_replacement_record(self.replacement)
+        self.replacement.is_blank()
     }
 
     // The nine places: a slot in each below the count, and a blank in each after it.
@@ -43,7 +43,7 @@ impl VoterSlotTable {
         let mut all = true;
         for (i, slot) in self.slots.iter().enumerate() {
             let held = if self.count <= i {
-                is_blank_voter_slot_record(*slot)
+                slot.is_blank()
             } else {
                 slot.is_representable()
             };
@@ -75,7 +75,7 @@ impl VoterSlotRecord {
         if self.has_last_result {
             return self.last_result.is_representable();
         }
-        is_blank_voter_replacement_result(self.last_result)
+        self.last_result.is_blank()
     }
 }
 
@@ -182,7 +182,7 @@ fn is_text(bytes: &[u8], len: usize) -> bool
     ensures { result ≡ (is_utf8 (take len bytes.now) && every is_zero (drop len bytes.now)) }
 {
     let utf8 = is_utf8(&bytes[..len]);
-    let filler = zeros(&bytes[len..]);
+    let filler = are_blank(&bytes[len..]);
     utf8 & filler
 }
 
@@ -219,7 +219,7 @@ fn is_member_place(past: bool, member: VoterSlotMember) -> bool
     ensures { result ≡ member_place past member }
 {
     if past {
-        return is_blank_voter_slot_member(member);
+        return member.is_blank();
     }
     is_representable_member(member)
 }
@@ -250,7 +250,7 @@ impl VoterReplacementEvidence {
         if self.has_snapshot {
             return self.snapshot.snapshot_id.is_representable();
         }
-        is_blank_voter_snapshot_evidence(self.snapshot)
+        self.snapshot.is_blank()
     }
 }
 
@@ -270,6 +270,6 @@ impl OptionalLogId {
         if self.is_some {
             return true;
         }
-        is_blank_voter_slot_log_id(self.cut)
+        self.cut.is_blank()
     }
 }

@@ -33,14 +33,6 @@ pub fn validate_successor_of(new: VoterSlotTable, old: VoterSlotTable) -> Answer
     new.validate_succession(&old)
 }
 
-// The check of two tables that are valid.
-pub fn validate_succession(new: VoterSlotTable, old: VoterSlotTable) -> Answer
-    requires { new.count ≤ 9 }
-    ensures { result ≡ succession new old }
-{
-    new.validate_succession(&old)
-}
-
 // A no is a regression.
 fn kept(yes: bool) -> Answer
     ensures { result ≡ or_regression yes Accepted }

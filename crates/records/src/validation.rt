@@ -178,7 +178,6 @@ pub fn validate_table(table: VoterSlotTable) -> Answer
 
 // Validity of a table that has passed the representability check.
 pub fn validate_representable(table: VoterSlotTable) -> Answer
-    requires { table.count ≤ 9 }
     ensures { result ≡ validity table }
 {
     table.validate()
@@ -258,7 +257,6 @@ impl VoterSlotTable {
     // `validate`, of a table that has passed the representability check.
     #[tactic(auto, unfolding(crate::specs::Validation::validity))]
     pub fn validate(&self) -> Answer
-        requires { self.now.count ≤ 9 }
         ensures { result ≡ validity self.now }
     {
         require(self.are_valid_slots())?;
@@ -298,9 +296,8 @@ impl VoterSlotTable {
     }
 
     // `validate_operation`.
-    #[tactic(auto, unfolding(crate::specs::Validation::validate_operation))]
+    #[tactic(auto, using(crate::proofs::InUse::operation_few), unfolding(crate::specs::Validation::validate_operation))]
     fn validate_operation(&self) -> Answer
-        requires { self.now.count ≤ 9 }
         ensures { result ≡ validate_operation self.now }
     {
         require(self.is_valid_operation())?;
@@ -361,6 +358,8 @@ impl VoterSlotTable {
     }
 
     // The first refusal, slot by slot: 3 in an earlier slot comes before 6 in a later one.
+    //
+    // It asks for the count, since the definition would go on past the nine places.
     #[tactic(auto, unfolding(crate::specs::Validation::validate_members))]
     fn validate_members(&self) -> Answer
         requires { self.now.count ≤ 9 }

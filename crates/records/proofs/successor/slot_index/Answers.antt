@@ -5,5 +5,5 @@ use Rattle.records.proofs.successor.slot_index.Goals as goal
 pub returns : goal.returns
 returns c =
     let u = c.slots_in_use in
-    let e = index-in-use c.args.table u.result.now u.ensures.slots u.ensures.count c.args.slot in
+    let e = index-in-use c.args.table u.result.now u.ensures.slots (u.ensures.count c.requires) c.args.slot in
     cc
