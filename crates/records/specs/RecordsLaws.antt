@@ -7,9 +7,11 @@ use Rattle.std.specs.Prelude.{◌≡◌, refl, Bool, true, false, cond, not, ◌
 use Rattle.std.proofs.Common.{ap, ◌∙◌, add-one, le-leb, eqb-true}
 use Rattle.std.proofs.Math.Bool.{and-true, and-eq-true_iff}
 use native.Mathlib.Omega.{arith}
+use Rattle.std.proofs.Common.{length-take}
 use Rattle.std.proofs.lemmas.Bool.{lt-leb, eqb-false}
 use Rattle.std.proofs.lemmas.List.{get_or-take}
-use Rattle.std.specs.List.{position_or_len}
+use Rattle.std.specs.List.{list_all, list_any, position_or_len}
+use Rattle.std.proofs.lemmas.List.Folds.{list_all_more}
 use Rattle.records.specs.Records.{all_below, first_from}
 
 -- one more place
@@ -51,15 +53,43 @@ pub all_below-eight : (p : ℕ → Bool) (n m : ℕ) → n - 1 ≤ m → all_bel
 all_below-eight p n m h =
     all_below-after p (λ i. leb n (i + 1) || p i) (n - 1) m h (λ i k. rw (lt-leb n (i + 1) (omega arith))) (λ i k. rw (le-leb n (i + 1) (omega arith)))
 
+-- ---- a test of each of the first n of a list, and of one of them
+
+all-front : {A : Type 0} (p : A → Bool) (d : A) (xs : List A) (n : ℕ) → n ≤ length xs
+    → list_all p (take n xs) ≡ all_below (λ i. p (get_or xs i d)) n
+unfolding all_below
+all-front p d xs zero h = refl
+all-front p d xs (suc n) h =
+    let e : suc n ≡ n + 1 = omega arith in
+    rw (e, list_all_more p xs n d (omega arith), all-front p d xs n (omega arith))
+
+any-all : {A : Type 0} (p : A → Bool) (xs : List A) → list_any p xs ≡ not (list_all (λ x. not (p x)) xs)
+any-all p [] = refl
+any-all p (x ∷ xs) = rw (any-all p xs) (by (p x))
+  where
+    by : (b : Bool) → (b || not (list_all (λ y. not (p y)) xs)) ≡ not (not b && list_all (λ y. not (p y)) xs)
+    by true = refl
+    by false = refl
+
 -- ---- the places in use: the first n of a list
 
 module _ {A : Type 0} (d : A) (xs ys : List A) (n : ℕ) (e : ys ≡ take n xs) (h : length ys ≡ n) where
   pub front-at : (i : ℕ) → i < n → get_or ys i d ≡ get_or xs i d
   front-at i l = ap (λ (zs : List A). get_or zs i d) e ∙ get_or-take n xs i d l
 
+  few : n ≤ length xs
+  few = let l = ap length e in omega (arith, h, l, length-take {A = A})
+
   -- a test of each
   pub front-each : (p : A → Bool) → all_below (λ i. p (get_or ys i d)) (length ys) ≡ all_below (λ i. p (get_or xs i d)) n
   front-each p = rw h (all_below-same _ _ n (λ i l. ap p (front-at i l)))
+
+  -- the same of a test of all, and of one that passes
+  pub front-all : (p : A → Bool) → list_all p ys ≡ all_below (λ i. p (get_or xs i d)) n
+  front-all p = ap (list_all p) e ∙ all-front p d xs n few
+
+  pub front-any : (p : A → Bool) → list_any p ys ≡ not (all_below (λ i. not (p (get_or xs i d))) n)
+  front-any p = any-all p ys ∙ ap not (front-all (λ x. not (p x)))
 
   -- a test of each with the next
   pub front-neighbours : (p : A → A → Bool)

@@ -6,6 +6,7 @@
 // original gives `TooLarge`; `follows`, `retains` and `latest` are in evidence.rt,
 // `validate_successor_of` in successor.rt.
 ghost use Rattle.std.specs.Prelude.{◌&&◌, ◌≡◌, ◌+◌, ◌-◌, ◌<◌, ◌≤◌, eqb, leb, ltb, not, length};
+ghost use Rattle.std.specs.List.{list_all, list_any};
 ghost use Rattle.identity.specs.Answer.{Accepted};
 ghost use Rattle.records.specs.Records.{all_below, slot_in, member_in, voting};
 ghost use Rattle.records.specs.Validation.{require_of, valid_count, valid_configuration, valid_spiffe_id, valid_attestation, is_active, valid_result, valid_slot, distinct_results, valid_slots, target_phase, valid_operation_head, is_current_epoch, valid_operation, claims_of, superseded_receipt, retired_member, valid_target, other_request, validate_member, validate_members, validate_operation, validity, validate};
@@ -72,18 +73,10 @@ impl VoterConfiguration {
 }
 
 // Each admission generation is above 0.
-//
-// This loop and those below have no early exit: in place of `all`, which leaves at the first no,
-// they let the compiler look at several places at a time.
-#[tactic(auto, unfolding(crate::specs::Records::all_below))]
 fn have_generations(members: &[VoterSlotMember]) -> bool
-    ensures { result ≡ all_below (λ i. ltb 0 (member_in members.now i).admission_generation) (length members.now) }
+    ensures { result ≡ list_all (λ m. ltb 0 m.admission_generation) members.now }
 {
-    let mut all = true;
-    for member in members {
-        all = all & (0 < member.admission_generation);
-    }
-    all
+    members.iter().all(|member| 0 < member.admission_generation)
 }
 
 // The slot numbers rise strictly.
@@ -184,15 +177,10 @@ pub fn validate_representable(table: VoterSlotTable) -> Answer
 }
 
 // With no request open every slot is voting.
-#[tactic(auto, unfolding(crate::specs::Records::all_below))]
 fn all_voting(slots: &[VoterSlotRecord]) -> bool
-    ensures { result ≡ all_below (λ i. eqb (slot_in slots.now i).phase voting) (length slots.now) }
+    ensures { result ≡ list_all (λ s. eqb s.phase voting) slots.now }
 {
-    let mut all = true;
-    for slot in slots {
-        all = all & (slot.phase == VOTING);
-    }
-    all
+    slots.iter().all(|slot| slot.phase == VOTING)
 }
 
 // The slot numbers rise strictly.
@@ -222,15 +210,10 @@ fn results_distinct(slots: &[VoterSlotRecord]) -> bool
 }
 
 // The receipt of the slot, against those of the slots before it.
-#[tactic(auto, unfolding(crate::specs::Records::all_below))]
 fn is_distinct_from(slot: &VoterSlotRecord, earlier: &[VoterSlotRecord]) -> bool
-    ensures { result ≡ all_below (λ j. distinct_results (slot_in earlier.now j) slot.now) (length earlier.now) }
+    ensures { result ≡ list_all (λ other. distinct_results other slot.now) earlier.now }
 {
-    let mut all = true;
-    for other in earlier {
-        all = all & are_distinct_results(other, slot);
-    }
-    all
+    earlier.iter().all(|other| are_distinct_results(other, slot))
 }
 
 // The two have no receipt of one request.
@@ -242,15 +225,10 @@ fn are_distinct_results(a: &VoterSlotRecord, b: &VoterSlotRecord) -> bool
 }
 
 // One of the slots has that number.
-#[tactic(auto, unfolding(crate::specs::Records::all_below))]
 fn has_target(slots: &[VoterSlotRecord], target: SlotId) -> bool
-    ensures { result ≡ not (all_below (λ i. not (eqb (slot_in slots.now i).member.identity.slot target)) (length slots.now)) }
+    ensures { result ≡ list_any (λ s. eqb s.member.identity.slot target) slots.now }
 {
-    let mut none = true;
-    for slot in slots {
-        none = none & !(slot.member.identity.slot == target);
-    }
-    !none
+    slots.iter().any(|slot| slot.member.identity.slot == target)
 }
 
 impl VoterSlotTable {
@@ -281,18 +259,25 @@ impl VoterSlotTable {
         slots_rise(slots) & (self.is_each_slot_valid(slots) & results_distinct(slots))
     }
 
-    // Each of the slots by itself; the one that is being replaced is active.
-    #[tactic(auto, unfolding(crate::specs::Records::all_below))]
+    // Each of the slots by itself.
     fn is_each_slot_valid(&self, slots: &[VoterSlotRecord]) -> bool
-        ensures { result ≡ all_below (λ i. valid_slot self.now.revision self.now.configuration_epoch (is_active self.now (slot_in slots.now i)) (slot_in slots.now i)) (length slots.now) }
+        ensures { result ≡ list_all (λ s. valid_slot self.now.revision self.now.configuration_epoch (is_active self.now s) s) slots.now }
     {
-        let mut all = true;
-        for slot in slots {
-            let active = self.has_replacement
-                & (self.replacement.attestation.slot == slot.member.identity.slot);
-            all = all & is_valid_slot(self.revision, self.configuration_epoch, active, slot);
-        }
-        all
+        slots.iter().all(|slot| {
+            is_valid_slot(
+                self.revision,
+                self.configuration_epoch,
+                self.is_active(slot),
+                slot,
+            )
+        })
+    }
+
+    // The slot is the one that is being replaced.
+    fn is_active(&self, slot: &VoterSlotRecord) -> bool
+        ensures { result ≡ is_active self.now slot.now }
+    {
+        self.has_replacement & (self.replacement.attestation.slot == slot.member.identity.slot)
     }
 
     // `validate_operation`.
