@@ -210,8 +210,6 @@ impl<'a> Writer<'a> {
 impl Encode for VoterSlotMember {
     ghost bytes = { (layout.member).enc };
 
-    ghost fits = { λ m. Unit {0} };
-
     #[tactic(auto, using(crate::specs::PutLaws::writing), unfolding(layout::specs::Layout::member))]
     fn put(&self, output: &mut Writer) {
         self.identity.put(output);
@@ -237,8 +235,6 @@ impl Encode for VoterConfiguration {
 impl Encode for VoterReplacementResult {
     ghost bytes = { (layout.replacement_result).enc };
 
-    ghost fits = { λ r. Unit {0} };
-
     #[tactic(auto, using(crate::specs::PutLaws::writing), unfolding(layout::specs::Layout::replacement_result))]
     fn put(&self, output: &mut Writer) {
         output.result_head(self);
@@ -251,8 +247,6 @@ impl Encode for VoterReplacementResult {
 // A slot.
 impl Encode for VoterSlotRecord {
     ghost bytes = { (layout.slot).enc };
-
-    ghost fits = { λ s. Unit {0} };
 
     #[tactic(auto, using(crate::specs::PutLaws::optional), unfolding(layout::specs::Layout::slot))]
     fn put(&self, output: &mut Writer) {

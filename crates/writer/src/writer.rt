@@ -32,8 +32,8 @@ pub trait Encode {
     // The bytes of its form.
     ghost bytes: { Self → List ℕ };
 
-    // The lengths that its fields hold, where a caller could hand in more.
-    ghost fits: { Self → Type 0 };
+    // That its lengths are no more than it has places for. Most values have no length.
+    ghost fits: { Self → Type 0 } = { λ _. Unit {0} };
 
     fn put(&self, output: &mut Writer)
         requires room { HasRoom (bytes self.now) output.old }
@@ -167,8 +167,6 @@ impl<'a> Writer<'a> {
 impl Encode for VoterSlotIdentity {
     ghost bytes = { (layout.identity).enc };
 
-    ghost fits = { λ i. Unit {0} };
-
     #[tactic(auto, using(crate::specs::PutLaws::writing), unfolding(layout::specs::Layout::identity))]
     fn put(&self, output: &mut Writer) {
         output.u16(self.slot);
@@ -179,8 +177,6 @@ impl Encode for VoterSlotIdentity {
 // `log_id`
 impl Encode for VoterSlotLogId {
     ghost bytes = { (layout.log_id).enc };
-
-    ghost fits = { λ i. Unit {0} };
 
     #[tactic(auto, using(crate::specs::PutLaws::writing), unfolding(layout::specs::Layout::log_id))]
     fn put(&self, output: &mut Writer) {
@@ -193,8 +189,6 @@ impl Encode for VoterSlotLogId {
 impl Encode for OptionalLogId {
     ghost bytes = { (layout.optional_log_id).enc };
 
-    ghost fits = { λ o. Unit {0} };
-
     #[tactic(auto, using(crate::specs::PutLaws::optional))]
     fn put(&self, output: &mut Writer) {
         output.optional(self.is_some, &self.cut);
@@ -204,8 +198,6 @@ impl Encode for OptionalLogId {
 // Three of the cuts that end the evidence.
 impl Encode for ThreeCuts {
     ghost bytes = { (layout.three_cuts).enc };
-
-    ghost fits = { λ c. Unit {0} };
 
     #[tactic(auto, using(crate::specs::PutLaws::writing), unfolding(layout::specs::Layout::three_cuts))]
     fn put(&self, output: &mut Writer) {

@@ -1,8 +1,8 @@
 -- `writer::encode::table_size` meets its contract: the sizes of its parts, which are small enough to add. Assumes nothing.
-use Rattle.std.proofs.Common.{arith, ◌∙◌, ap₂}
+use Rattle.std.proofs.Common.{arith}
 use Rattle.std.proofs.lemmas.Grind.{common_steps}
 use Rattle.records.proofs.Held.{held-voter-slot-table}
-use Rattle.writer.specs.Size.{table_size, slots_size}
+use Rattle.writer.specs.Size.{table_size}
 use Rattle.writer.specs.SizeLaws.{table-long, slots-front}
 use Rattle.writer.proofs.encode.table_size.Goals as goal
 
@@ -11,13 +11,11 @@ unfolding table_size
 returns c =
     let t = c.args.table in
     let e = table-long t (held-voter-slot-table t _ c.well_formed.0) c.requires in
-    let s = c.slots_size-front.ensures ∙ ap₂ slots_size c.slots_in_use.ensures.slots c.slots_in_use.ensures.count ∙ slots-front t.slots t.count t.count (omega arith) in
-    grind (arith, common_steps)
+    grind (arith, common_steps, slots-front)
 
 pub returns-then-table : goal.returns-then-table
 unfolding table_size
 returns-then-table c =
     let t = c.args.table in
     let e = table-long t (held-voter-slot-table t _ c.well_formed.0) c.requires in
-    let s = c.slots_size-front.ensures ∙ ap₂ slots_size c.slots_in_use.ensures.slots c.slots_in_use.ensures.count ∙ slots-front t.slots t.count t.count (omega arith) in
-    grind (arith, common_steps)
+    grind (arith, common_steps, slots-front)
