@@ -120,7 +120,7 @@ impl<'a> Writer<'a> {
         self.binding(&slot.member);
     }
 
-    // `unsigned_claims` and the signature, in four groups.
+    // `unsigned_claims` and the signature, in three groups and the names.
     #[tactic(auto, using(crate::specs::PutLaws::writing), unfolding(layout::specs::Layout::claims_request))]
     fn claims_request(&mut self, claims: &LostVoterAttestationV1)
         requires { HasRoom ((layout.claims_request).enc (claims_request_of claims.now)) self.old }
@@ -146,18 +146,6 @@ impl<'a> Writer<'a> {
         self.bytes(&claims.candidate_key_digest);
     }
 
-    #[tactic(auto, using(crate::specs::PutLaws::writing), unfolding(layout::specs::Layout::claims_names))]
-    fn claims_names(&mut self, claims: &LostVoterAttestationV1)
-        requires room { HasRoom ((layout.claims_names).enc (claims_names_of claims.now)) self.old }
-        requires small { NamesFit claims.now }
-        ensures { Wrote ((layout.claims_names).enc (claims_names_of claims.now)) self.old self.new }
-    {
-        self.u64(claims.admission_generation);
-        claims.candidate_spiffe_id.put(self);
-        claims.controller_spiffe_id.put(self);
-        self.bytes(&claims.signing_key_digest);
-    }
-
     #[tactic(auto, using(crate::specs::PutLaws::writing), unfolding(layout::specs::Layout::claims_end))]
     fn claims_end(&mut self, claims: &LostVoterAttestationV1)
         requires { HasRoom ((layout.claims_end).enc (claims_end_of claims.now)) self.old }
@@ -179,18 +167,6 @@ impl<'a> Writer<'a> {
     {
         self.u16(attestation_size(claims) as u16);
         claims.put(self);
-    }
-
-    // What an open request changes, and how far it is.
-    #[tactic(auto, using(crate::specs::PutLaws::writing), unfolding(layout::specs::Layout::change))]
-    fn change(&mut self, operation: &VoterReplacementRecord)
-        requires room { HasRoom ((layout.change).enc (change_of operation.now)) self.old }
-        requires small { ReplacementFits operation.now }
-        ensures { Wrote ((layout.change).enc (change_of operation.now)) self.old self.new }
-    {
-        operation.predecessor.put(self);
-        operation.successor.put(self);
-        self.u8(operation.phase);
     }
 
     // The front of a table, after the magic and the version.
@@ -262,11 +238,14 @@ impl Encode for LostVoterAttestationV1 {
 
     ghost fits = { NamesFit };
 
-    #[tactic(auto, using(crate::specs::PutLaws::writing), unfolding(layout::specs::Layout::claims))]
+    #[tactic(auto, using(crate::specs::PutLaws::writing), unfolding(layout::specs::Layout::claims, layout::specs::Layout::claims_names))]
     fn put(&self, output: &mut Writer) {
         output.claims_request(self);
         output.claims_slot(self);
-        output.claims_names(self);
+        output.u64(self.admission_generation);
+        self.candidate_spiffe_id.put(output);
+        self.controller_spiffe_id.put(output);
+        output.bytes(&self.signing_key_digest);
         output.claims_end(self);
     }
 }
@@ -306,11 +285,13 @@ impl Encode for VoterReplacementRecord {
 
     ghost fits = { λ r. ReplacementFits r × IsSized r.attestation };
 
-    #[tactic(auto, using(crate::specs::PutLaws::writing), unfolding(layout::specs::Layout::replacement))]
+    #[tactic(auto, using(crate::specs::PutLaws::writing), unfolding(layout::specs::Layout::replacement, layout::specs::Layout::change))]
     fn put(&self, output: &mut Writer) {
         output.u64(self.expected_revision);
         output.boxed_attestation(&self.attestation);
-        output.change(self);
+        self.predecessor.put(output);
+        self.successor.put(output);
+        output.u8(self.phase);
         self.evidence.put(output);
     }
 }
