@@ -16,7 +16,7 @@ ghost use Rattle.codec.specs.Codec.{table_bytes, decoded, decode_voter_slot_tabl
 
 use identity::answer::{Answer, Refusal};
 use layout::parts::MAX_LOST_VOTER_ATTESTATION_BYTES;
-use reader::decode::read_whole_attestation;
+use reader::decode::fill_whole_attestation;
 use reader::reader::Reader;
 use records::records::{LostVoterAttestationV1, VoterSlotTable};
 use records::validation::{validate_representable, validate_table};
@@ -67,10 +67,9 @@ pub fn decode_voter_slot_table(bytes: &[u8]) -> DecodedTable
     }
 }
 
-// The reading of both, into a place that is blank.
+// The reading of both, into a place whose content does not matter.
 #[tactic(auto, using(format::specs::ReadsMore::reads_whole, crate::specs::EntryLaws::gate_accepts, crate::specs::EntryLaws::gate_refuses), unfolding(crate::specs::Codec::decode_voter_slot_table, crate::specs::Codec::bounded, format::specs::Num::pick, format::specs::Res::and_then))]
 pub fn fill_voter_slot_table(bytes: &[u8], table: &mut VoterSlotTable) -> Result<(), Refusal>
-    requires { table.old ≡ blank_voter_slot_table }
     ensures { told_whole_at result table.new (length bytes.now) ≡ decode_voter_slot_table bytes.now }
 {
     if MAX_VOTER_SLOT_TABLE_BYTES < bytes.len() {
@@ -120,19 +119,20 @@ pub fn decode_lost_voter_attestation(bytes: &[u8]) -> DecodedAttestation
     }
 }
 
-// The reading of both, into a place that is blank.
+// The reading of both, into a place whose content does not matter. It is blanked before the bound is
+// tested: so it is not blanked twice where the caller has just made it.
 #[tactic(auto, unfolding(crate::specs::Codec::decode_lost_voter_attestation, crate::specs::Codec::bounded, format::specs::Num::pick))]
 pub fn fill_lost_voter_attestation(
     bytes: &[u8],
     attestation: &mut LostVoterAttestationV1,
 ) -> Result<(), Refusal>
-    requires { attestation.old ≡ blank_lost_voter_attestation_v1 }
     ensures { told_whole_at result attestation.new (length bytes.now) ≡ decode_lost_voter_attestation bytes.now }
 {
+    *attestation = LostVoterAttestationV1::default();
     if MAX_LOST_VOTER_ATTESTATION_BYTES < bytes.len() {
         return Err(Refusal::TooLarge);
     }
-    read_whole_attestation(bytes, attestation)
+    fill_whole_attestation(bytes, attestation)
 }
 
 // The table's bytes at the start of the buffer, and their count; refused, nothing is written: the

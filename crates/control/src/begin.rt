@@ -25,7 +25,7 @@ use records::evidence::{latest_cut, log_id_follows};
 use records::records::*;
 
 // A Begin with the cut at which it is committed: what its judge, its maker and its thin call take.
-#[derive(Clone, Copy)]
+#[derive(Clone, Copy, Default)]
 pub struct VoterBegin {
     // The request.
     pub request: VoterReplacementRequest,

@@ -33,7 +33,7 @@ pub const FENCE: u8 = 3;
 pub const FINALIZE: u8 = 4;
 
 // A request, and the two values that the caller supplies.
-#[derive(Clone, Copy)]
+#[derive(Clone, Copy, Default)]
 pub struct VoterReplacementRequest {
     // Exact compare-and-set table revision.
     pub expected_revision: u64,
@@ -50,7 +50,7 @@ pub struct VoterReplacementRequest {
 }
 
 // A step of an Advance: the snapshot of RecordSnapshot, the mark of RecordCaughtUp.
-#[derive(Clone, Copy)]
+#[derive(Clone, Copy, Default)]
 pub struct VoterReplacementStep {
     // `RECORD_SNAPSHOT` to `FINALIZE`.
     pub kind: u8,
@@ -62,7 +62,7 @@ pub struct VoterReplacementStep {
 
 // A command: the request of a Begin; the request's id and digest of an Advance or a Marker; the
 // step of an Advance.
-#[derive(Clone, Copy)]
+#[derive(Clone, Copy, Default)]
 pub struct VoterSlotControl {
     // `BEGIN`, `ADVANCE` or `MARKER`.
     pub kind: u8,
@@ -78,7 +78,7 @@ pub struct VoterSlotControl {
 
 // An Advance with the cut at which it is committed: what its judge, its makers and its thin call
 // take.
-#[derive(Clone, Copy)]
+#[derive(Clone, Copy, Default)]
 pub struct VoterAdvance {
     // Original caller-stable request identity.
     pub request_id: ConsensusRequestId,

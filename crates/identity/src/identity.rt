@@ -41,7 +41,7 @@ pub const MAX_VOTER_INCARNATION: VoterIncarnation = 140737488355328;
 const NODE_ID_SPAN: ConsensusNodeId = 65536;
 
 // The scope of a configuration: its cluster, its digest and its epoch.
-#[derive(Clone, Copy)]
+#[derive(Clone, Copy, Default)]
 pub struct ConsensusIdentity {
     // Cluster identity digest.
     pub cluster_id: ConsensusClusterId,

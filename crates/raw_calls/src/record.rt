@@ -25,10 +25,10 @@ fn named(kind: u8, fields: &mut Fields) -> Option<VoterCommand> {
         cut: Raw::read(fields)?,
         control: VoterSlotControl {
             kind,
-            request: no_request(),
+            request: VoterReplacementRequest::default(),
             request_id: fields.array()?,
             request_digest: fields.array()?,
-            step: no_step(),
+            step: VoterReplacementStep::default(),
         },
     })
 }
@@ -45,7 +45,7 @@ pub fn advance_in(body: &[u8]) -> Option<VoterCommand> {
 // kind 1; of a snapshot the snapshot, of a caught-up mark its cut 16.
 fn step(fields: &mut Fields) -> Option<VoterReplacementStep> {
     let kind = fields.u8()?;
-    let mut step = no_step();
+    let mut step = VoterReplacementStep::default();
     step.kind = kind;
     match kind {
         RECORD_SNAPSHOT => step.snapshot = snapshot(fields)?,
@@ -134,34 +134,10 @@ impl Begin<'_> {
                 },
                 request_id: [0; 16],
                 request_digest: [0; 32],
-                step: no_step(),
+                step: VoterReplacementStep::default(),
             },
             cut: self.cut,
         }
-    }
-}
-
-// The parts that a kind of command does not use.
-fn no_request() -> VoterReplacementRequest {
-    VoterReplacementRequest {
-        expected_revision: 0,
-        expected_configuration: ConsensusIdentity {
-            cluster_id: [0; 32],
-            configuration_id: [0; 32],
-            configuration_epoch: 0,
-        },
-        candidate: VoterSlotMember::default(),
-        attestation: LostVoterAttestationV1::default(),
-        supplied_request_digest: [0; 32],
-        supplied_configuration_id: [0; 32],
-    }
-}
-
-fn no_step() -> VoterReplacementStep {
-    VoterReplacementStep {
-        kind: 0,
-        snapshot: VoterSnapshotEvidence::default(),
-        caught_up: VoterSlotLogId::default(),
     }
 }
 

@@ -9,7 +9,7 @@ ghost use Rattle.format.specs.Through.{whole, boxed};
 ghost use Rattle.format.specs.Reads.{reads};
 ghost use Rattle.records.specs.Blank.{blank_voter_replacement_result, blank_voter_snapshot_evidence, blank_lost_voter_attestation_v1, blank_voter_replacement_record, blank_voter_slot_table};
 ghost use Rattle.layout.specs.Parts.{blank_voter_slot_members, blank_voter_slot_records};
-ghost use Rattle.layout.specs.Told.{told, told_at, told_whole_at};
+ghost use Rattle.layout.specs.Told.{told, told_at, told_whole, told_whole_at};
 ghost use Rattle.layout.specs.Layout.{binding, member, members, configuration, result_head, replacement_result, slot_member, slot, slots, claims_request, claims_slot, claims_end, claims, attestation, snapshot, evidence, replacement, table_head, table};
 
 use crate::reader::Reader;
@@ -198,7 +198,7 @@ impl<'a> Reader<'a> {
 
     // The fields of an attestation, into a place that is blank; anything may come after them.
     #[tactic(auto, using(layout::specs::ReadingLaws::reads_claims, layout::specs::ReadingLaws::blank_candidate, layout::specs::ReadingLaws::blank_controller))]
-    pub fn attestation(&mut self, place: &mut LostVoterAttestationV1) -> Result<(), Refusal>
+    fn attestation(&mut self, place: &mut LostVoterAttestationV1) -> Result<(), Refusal>
         requires { place.old ≡ blank_lost_voter_attestation_v1 }
         ensures { told_at result place.new self.new.bytes.now ≡ reads claims self.old.bytes.now }
     {
@@ -240,7 +240,7 @@ impl<'a> Reader<'a> {
         requires { place.old ≡ blank_lost_voter_attestation_v1 }
         ensures { told_at result place.new self.new.bytes.now ≡ reads (boxed attestation 8192) self.old.bytes.now }
     {
-        read_whole_attestation(self.sized_bytes(MAX_LOST_VOTER_ATTESTATION_BYTES)?, place)
+        fill_whole_attestation(self.sized_bytes(MAX_LOST_VOTER_ATTESTATION_BYTES)?, place)
     }
 
     // The evidence of a snapshot.
@@ -306,14 +306,14 @@ impl<'a> Reader<'a> {
         })
     }
 
-    // The fields of a table, into a place that is blank; anything may come after them. The table is
-    // filled where it stands: a `Result` that has it would copy its 8 KB at each `?`.
+    // The fields of a table; anything may come after them. The table is filled where it stands: a
+    // `Result` that has it would copy its 8 KB at each `?`.
     #[tactic(auto, using(layout::specs::ReadingLaws::reads_table, format::specs::Reads::reads_opt, layout::specs::ReadingLaws::blank_slots, layout::specs::ReadingLaws::blank_replacement))]
     pub fn table(&mut self, place: &mut VoterSlotTable) -> Result<(), Refusal>
-        requires { place.old ≡ blank_voter_slot_table }
         ensures form { told_at result place.new self.new.bytes.now ≡ reads table self.old.bytes.now }
         ensures small { IfOk result (λ nothing. place.new.count ≤ 9) }
     {
+        *place = VoterSlotTable::default();
         self.magic_and_version()?;
         let head = self.table_head()?;
         let cluster_instance = head.cluster_instance;
@@ -334,10 +334,19 @@ impl<'a> Reader<'a> {
     }
 }
 
-// All of the bytes are one attestation, of the rule of validation.rs. It is read into a place that
-// is blank.
+// All of the bytes are one attestation, of the rule of validation.rs.
+pub fn read_whole_attestation(bytes: &[u8]) -> Result<LostVoterAttestationV1, Refusal>
+    ensures { told_whole result (length bytes.now) ≡ whole attestation bytes.now }
+{
+    let mut attestation = LostVoterAttestationV1::default();
+    fill_whole_attestation(bytes, &mut attestation)?;
+    Ok(attestation)
+}
+
+// The same, into a place that the caller has blanked, as that of a table is: blanked once more here,
+// an attestation of short names would take a fifth longer to read.
 #[tactic(auto, using(format::specs::ReadsMore::reads_whole, format::specs::Reads::reads_check), unfolding(layout::specs::Layout::attestation, format::specs::Num::pick))]
-pub fn read_whole_attestation(
+pub fn fill_whole_attestation(
     bytes: &[u8],
     place: &mut LostVoterAttestationV1,
 ) -> Result<(), Refusal>

@@ -234,7 +234,7 @@ impl<'a> Reader<'a> {
 
     // `string`, into a place of zeros: how many bytes; zeros stay after them.
     #[tactic(auto, using(format::specs::Reads::reads_check, layout::specs::ReadingLaws::rest_of_zeros), unfolding(layout::specs::Layout::string, format::specs::Num::pick))]
-    pub fn string<const N: usize>(&mut self, place: &mut [u8; N]) -> Result<usize, Refusal>
+    fn string<const N: usize>(&mut self, place: &mut [u8; N]) -> Result<usize, Refusal>
         requires { place.old ≡ zeros N }
         ensures { told_beside result place.new self.new.bytes.now ≡ made_read (λ p. (p.0, placed N p)) (reads (string N) self.old.bytes.now) }
     {
@@ -249,7 +249,7 @@ impl<'a> Reader<'a> {
     // `identity_string`, into a place that is blank: returned, its 2 KB would be copied at each
     // step.
     #[tactic(auto, using(format::specs::Reads::reads_via, layout::specs::ReadingLaws::blank_bytes), unfolding(layout::specs::Layout::spiffe_id))]
-    pub fn spiffe_id(&mut self, place: &mut SpiffeId) -> Result<(), Refusal>
+    pub(crate) fn spiffe_id(&mut self, place: &mut SpiffeId) -> Result<(), Refusal>
         requires { place.old ≡ blank_spiffe_id }
         ensures { told_at result place.new self.new.bytes.now ≡ reads spiffe_id self.old.bytes.now }
     {
