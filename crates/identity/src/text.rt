@@ -37,10 +37,11 @@ pub enum Allowed {
     NoControlNoWhitespace,
 }
 
-// The part of a strict name that is being read.
+// The part of a strict name that is being read. By the library's `split` a part's bytes would be
+// passed twice, once in search of the slash after it and once to be judged.
 #[derive(Clone, Copy)]
 struct Part {
-    // Whether all was right so far.
+    // Whether all was right so far: a test, with no value that it would stand beside.
     good: bool,
     // Whether the part is the trust domain.
     in_domain: bool,
@@ -121,7 +122,8 @@ pub fn is_whitespace(code: u32) -> bool
     contains(&WHITE_SPACE, code)
 }
 
-// Whether the code point is in the list. No early exit, so that several are compared at once.
+// Whether the code point is in the list. No early exit, as the library's `contains` has one, so that
+// several are compared at once.
 #[tactic(auto, unfolding(crate::specs::Text::is_in))]
 fn contains(list: &[u32], code: u32) -> bool
     ensures { result ≡ is_in list.now code }
@@ -177,7 +179,8 @@ fn last_ascii(rule: Allowed) -> u8
     }
 }
 
-// Whether every byte lies from low to high. No early exit, so that sixteen are compared at once.
+// Whether every byte lies from low to high. No early exit, as the library's `all` has one, so that
+// sixteen are compared at once.
 #[tactic(auto, using(crate::specs::TextLaws::all_more), unfolding(crate::specs::Text::every))]
 fn all_within(bytes: &[u8], low: u8, high: u8) -> bool
     ensures { result ≡ every (within (octets low high)) bytes.now }

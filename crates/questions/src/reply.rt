@@ -12,10 +12,12 @@ pub enum Reply {
     // A table that was read: its revision, the count of its bytes, their checksum, and the checksum
     // of its raw form.
     Table(u64, u64, u64, u64),
-    // The body is not of the question's form.
+    // The body is not of the question's form: a reply too, since it is printed.
     Malformed,
 }
 
+// The answer's number, as wide as those that are printed beside it. No `From`, since neither type is
+// of this crate.
 pub fn number(answer: Answer) -> u64 {
     u64::from(identity::answer::number(answer))
 }
