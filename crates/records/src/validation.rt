@@ -89,7 +89,7 @@ fn members_rise(members: &[VoterSlotMember]) -> bool
 impl LostVoterAttestationV1 {
     // `validate`.
     #[tactic(auto, unfolding(crate::specs::Validation::valid_attestation))]
-    fn is_valid(&self) -> bool
+    pub fn is_valid(&self) -> bool
         ensures { result ≡ valid_attestation self.now }
     {
         if !is_valid_name(
@@ -112,13 +112,6 @@ impl LostVoterAttestationV1 {
             self.expires_ms,
         )
     }
-}
-
-// `LostVoterAttestationV1::validate`.
-pub fn is_valid_attestation(attestation: LostVoterAttestationV1) -> bool
-    ensures { result ≡ valid_attestation attestation }
-{
-    attestation.is_valid()
 }
 
 // A name of that length. A length above the field is a no.
@@ -161,13 +154,6 @@ pub fn validate_table(table: VoterSlotTable) -> Answer
     if !table.is_representable() {
         return Err(Refusal::Unrepresentable);
     }
-    table.validate()
-}
-
-// Validity of a table that has passed the representability check.
-pub fn validate_representable(table: VoterSlotTable) -> Answer
-    ensures { result ≡ validity table }
-{
     table.validate()
 }
 
