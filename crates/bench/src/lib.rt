@@ -11,7 +11,6 @@ use identity::answer::{Answer, Refusal, number};
 use raw::table::table_in;
 use records::blank::are_blank;
 use records::records::VoterSlotTable;
-use records::representable::is_representable;
 use records::successor::validate_successor_of;
 use records::validation::validate_table;
 
@@ -117,7 +116,8 @@ fn later(table: VoterSlotTable) -> VoterSlotTable {
 
 // 30 where the table does not pass.
 fn representable(table: VoterSlotTable) -> Answer {
-    is_representable(table)
+    table
+        .is_representable()
         .then_some(())
         .ok_or(Refusal::Unrepresentable)
 }

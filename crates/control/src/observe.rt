@@ -175,76 +175,76 @@ fn member_index(configuration: &VoterConfiguration, slot: SlotId) -> usize
     member_place(configuration.members_in_use(), slot).unwrap_or(configuration.count)
 }
 
-// The identity is a superseded candidate's: of the slot being replaced, after the predecessor's
-// incarnation, and not after the attested one.
-#[tactic(auto, unfolding(crate::specs::Observation::is_obsolete))]
-fn is_obsolete(operation: &VoterReplacementRecord, identity: VoterSlotIdentity) -> bool
-    requires { operation.now.predecessor.count ≤ 9 }
-    ensures { result ≡ is_obsolete operation.now (Ok identity) }
-{
-    let predecessor = &operation.predecessor;
-    let slot = operation.attestation.slot;
-    let at = member_index(predecessor, slot);
-    if predecessor.count <= at {
-        return false;
-    }
-    let retired = predecessor.members[at].identity.incarnation;
-    (((operation.phase <= SNAPSHOT_INSTALLED) & (identity.slot == slot))
-        & (retired < identity.incarnation))
-        & (identity.incarnation <= operation.attestation.expected_incarnation)
-}
-
-// Whether the node of neither configuration, if there is one, is a superseded candidate.
-#[tactic(auto, unfolding(crate::specs::Observation::is_obsolete))]
-fn may_linger(operation: &VoterReplacementRecord, node: Option<ConsensusNodeId>) -> bool
-    requires { operation.now.predecessor.count ≤ 9 }
-    ensures { result ≡ lingers_as operation.now node }
-{
-    match node.map(VoterSlotIdentity::from_node_id) {
-        None => true,
-        Some(Ok(identity)) => is_obsolete(operation, identity),
-        Some(Err(_)) => false,
-    }
-}
-
 // ---- what an open request is seen to be
 
-// `old` and `new` are the ids of the members of the predecessor and of the successor.
-fn see_ids(
-    operation: &VoterReplacementRecord,
-    old: &[ConsensusNodeId],
-    new: &[ConsensusNodeId],
-    membership: &Membership,
-) -> Seen
-    requires { operation.now.predecessor.count ≤ 9 }
-    ensures { sight_of result ≡ seen_of operation.now old.now new.now membership.now.sets.now membership.now.counts.now membership.now.nodes.now }
-{
-    let outside = first_outside(membership.nodes, old, new);
-    let lingers = may_linger(operation, outside);
-    let tests = test_sets(
-        old,
-        new,
-        membership,
-        operation.phase,
-        outside.is_none(),
-        lingers,
-    );
-    see_by(operation.phase, tests)
+// An open request whose configurations have nine members at most: their counts are gone by.
+#[derive(Clone, Copy)]
+struct OpenRequest<'a> {
+    operation: &'a VoterReplacementRecord,
+    ghost few_before: { operation.now.predecessor.count ≤ 9 },
+    ghost few_after: { operation.now.successor.count ≤ 9 },
 }
 
-// `observe_membership` with a request open: what its arms tell apart.
-fn see(operation: &VoterReplacementRecord, membership: &Membership) -> Seen
-    requires { (operation.now.predecessor.count ≤ 9) × (operation.now.successor.count ≤ 9) }
-    ensures { sight_of result ≡ see operation.now (split_sets membership.now.sets.now membership.now.counts.now) membership.now.nodes.now }
-{
-    let before = ids_of(&operation.predecessor);
-    let after = ids_of(&operation.successor);
-    see_ids(
-        operation,
-        &before[..operation.predecessor.count],
-        &after[..operation.successor.count],
-        membership,
-    )
+impl OpenRequest<'_> {
+    // The identity is a superseded candidate's: of the slot being replaced, after the predecessor's
+    // incarnation, and not after the attested one.
+    #[tactic(auto, unfolding(crate::specs::Observation::is_obsolete))]
+    fn is_obsolete(&self, identity: VoterSlotIdentity) -> bool
+        ensures { result ≡ is_obsolete self.now.operation.now (Ok identity) }
+    {
+        let operation = self.operation;
+        let predecessor = &operation.predecessor;
+        let slot = operation.attestation.slot;
+        let at = member_index(predecessor, slot);
+        if predecessor.count <= at {
+            return false;
+        }
+        let retired = predecessor.members[at].identity.incarnation;
+        (((operation.phase <= SNAPSHOT_INSTALLED) & (identity.slot == slot))
+            & (retired < identity.incarnation))
+            & (identity.incarnation <= operation.attestation.expected_incarnation)
+    }
+
+    // Whether the node of neither configuration, if there is one, is a superseded candidate.
+    #[tactic(auto, unfolding(crate::specs::Observation::is_obsolete))]
+    fn may_linger(&self, node: Option<ConsensusNodeId>) -> bool
+        ensures { result ≡ lingers_as self.now.operation.now node }
+    {
+        match node.map(VoterSlotIdentity::from_node_id) {
+            None => true,
+            Some(Ok(identity)) => self.is_obsolete(identity),
+            Some(Err(_)) => false,
+        }
+    }
+
+    // `old` and `new` are the ids of the members of the predecessor and of the successor.
+    fn see_ids(
+        &self,
+        old: &[ConsensusNodeId],
+        new: &[ConsensusNodeId],
+        membership: &Membership,
+    ) -> Seen
+        ensures { sight_of result ≡ seen_of self.now.operation.now old.now new.now membership.now.sets.now membership.now.counts.now membership.now.nodes.now }
+    {
+        let outside = first_outside(membership.nodes, old, new);
+        let lingers = self.may_linger(outside);
+        let phase = self.operation.phase;
+        let tests = test_sets(old, new, membership, phase, outside.is_none(), lingers);
+        see_by(phase, tests)
+    }
+
+    // `observe_membership` with a request open: what its arms tell apart.
+    fn see(&self, membership: &Membership) -> Seen
+        ensures { sight_of result ≡ see self.now.operation.now (split_sets membership.now.sets.now membership.now.counts.now) membership.now.nodes.now }
+    {
+        let predecessor = &self.operation.predecessor;
+        let successor = &self.operation.successor;
+        let before = ids_of(predecessor);
+        let after = ids_of(successor);
+        let old = &before[..predecessor.count];
+        let new = &after[..successor.count];
+        self.see_ids(old, new, membership)
+    }
 }
 
 // ---- the verdict
@@ -281,23 +281,6 @@ fn is_uniform_cut(evidence: &VoterReplacementEvidence, cut: VoterSlotLogId) -> b
     log_id_follows(cut, evidence.joint.cut, false)
 }
 
-// ---- the slot being replaced
-
-// The place of the first of the slots of that number.
-fn place_of(slots: &[VoterSlotRecord], slot: SlotId) -> Option<usize>
-    ensures { result ≡ position (λ s. eqb s.member.identity.slot slot) slots.now }
-{
-    slots.iter().position(|s| s.member.identity.slot == slot)
-}
-
-// The first slot of that number, or the count.
-fn slot_place(table: &VoterSlotTable, slot: SlotId) -> usize
-    requires { table.now.count ≤ 9 }
-    ensures { result ≡ slot_index table.now slot }
-{
-    place_of(table.slots_in_use(), slot).unwrap_or(table.count)
-}
-
 // ---- the judgement of what is seen
 
 // What is seen of a table that is known to be valid, whose slot being replaced is in this phase.
@@ -329,7 +312,7 @@ fn judge_seen(table: &VoterSlotTable, seen: Seen, cut: VoterSlotLogId) -> Result
     requires { table.now.count ≤ 9 }
     ensures { verdict_of_observed result ≡ judge_seen table.now (sight_of seen) cut }
 {
-    let at = slot_place(table, table.replacement.attestation.slot);
+    let at = table.slot_index(table.replacement.attestation.slot);
     if table.count <= at {
         return Err(Refusal::InvalidTransition);
     }
@@ -370,7 +353,10 @@ fn judge_sets(
     if !table.has_replacement {
         return judge_closed(table, membership);
     }
-    let seen = see(&table.replacement, membership);
+    let open = OpenRequest {
+        operation: &table.replacement,
+    };
+    let seen = open.see(membership);
     judge_seen(table, seen, cut)
 }
 
@@ -419,7 +405,6 @@ fn weigh_lent(table: &VoterSlotTable, observation: VoterObservation) -> Result<O
 // The whole validity is asked for only where something is new.
 #[tactic(auto, unfolding(crate::specs::ObserveSight::confirmed))]
 fn confirm(table: &VoterSlotTable, judged: Result<Observed, Refusal>) -> Result<Observed, Refusal>
-    requires { table.now.count ≤ 9 }
     ensures { verdict_of_observed result ≡ confirmed (is_accepted (validity table.now)) (verdict_of_observed judged) }
 {
     let observed = judged?;
@@ -445,7 +430,7 @@ fn enter_phase(table: &mut VoterSlotTable, phase: u8)
     requires { Room table.old }
     ensures { table.new ≡ table_with table.old (table.old.revision + 1) table.old.configuration_epoch (set table.old.slots (target_index table.old) (in_phase (target_slot table.old) (target_phase phase))) true (operation_with table.old.replacement phase table.old.replacement.evidence) }
 {
-    let at = slot_place(table, table.replacement.attestation.slot);
+    let at = table.slot_index(table.replacement.attestation.slot);
     table.slots[at].phase = target_phase(phase);
     table.replacement.phase = phase;
     table.has_replacement = true;
@@ -486,7 +471,7 @@ fn carry_out(table: &mut VoterSlotTable, observed: Observed, cut: VoterSlotLogId
 // The membership with the learner.
 #[tactic(auto, unfolding(crate::specs::Judgement::carried))]
 pub fn learner_table(mut table: VoterSlotTable, cut: VoterSlotLogId) -> VoterSlotTable
-    requires { (table.revision ≡ full → ⊥) × ((table.count ≤ 9) × (target_index table < table.count)) }
+    requires { Room table }
     ensures { result ≡ added table cut adds_learner }
 {
     carry_out(&mut table, Observed::AddLearner, cut);
@@ -496,7 +481,7 @@ pub fn learner_table(mut table: VoterSlotTable, cut: VoterSlotLogId) -> VoterSlo
 // The joint membership.
 #[tactic(auto, unfolding(crate::specs::Judgement::carried))]
 pub fn joint_table(mut table: VoterSlotTable, cut: VoterSlotLogId) -> VoterSlotTable
-    requires { (table.revision ≡ full → ⊥) × ((table.count ≤ 9) × (target_index table < table.count)) }
+    requires { Room table }
     ensures { result ≡ added table cut adds_joint }
 {
     carry_out(&mut table, Observed::AddJoint, cut);
@@ -506,7 +491,7 @@ pub fn joint_table(mut table: VoterSlotTable, cut: VoterSlotLogId) -> VoterSlotT
 // The successor's membership.
 #[tactic(auto, unfolding(crate::specs::Judgement::carried))]
 pub fn uniform_table(mut table: VoterSlotTable, cut: VoterSlotLogId) -> VoterSlotTable
-    requires { (table.revision ≡ full → ⊥) × ((table.count ≤ 9) × (target_index table < table.count)) }
+    requires { Room table }
     ensures { result ≡ added table cut adds_uniform }
 {
     carry_out(&mut table, Observed::AddUniform, cut);
@@ -544,6 +529,7 @@ fn weigh_entry(table: &VoterSlotTable, observation: VoterObservation) -> Result<
 }
 
 // `observe_membership` on a table that is lent: any table, any sets, any nodes and any cut.
+#[tactic(auto, using(crate::proofs::Stored::observed_entry), unfolding(crate::specs::Judgement::carried))]
 pub fn observe_membership_in_place(
     table: &mut VoterSlotTable,
     observation: VoterObservation,
@@ -556,6 +542,7 @@ pub fn observe_membership_in_place(
 }
 
 // An observation of a table that is lent and known to be valid.
+#[tactic(auto, using(crate::proofs::Stored::observed_valid), unfolding(crate::specs::Judgement::carried))]
 pub fn observe_in_place(table: &mut VoterSlotTable, observation: VoterObservation) -> Answer
     requires { validate table.old ≡ Accepted }
     ensures { (result, table.new) ≡ observe_membership table.old observation.entry.sets.now observation.entry.counts.now observation.entry.nodes.now observation.entry.cut }

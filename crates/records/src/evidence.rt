@@ -141,13 +141,6 @@ impl VoterReplacementEvidence {
     }
 }
 
-// `VoterReplacementEvidence::latest`.
-pub fn latest_cut(evidence: VoterReplacementEvidence) -> VoterSlotLogId
-    ensures { result ≡ latest evidence }
-{
-    evidence.latest()
-}
-
 impl OptionalLogId {
     // A stage is present exactly where it is due, and follows the one before it.
     #[tactic(auto, unfolding(crate::specs::Evidence::valid_stage))]

@@ -4,6 +4,11 @@
 // 717de332e7, Apache-2.0 (see NOTICE). Changed: a `Vec` is nine places and a count, a `String` is
 // bytes and a length, an `Option` is a yes or no next to the record; what is after a count or a
 // length and what is absent is zero; enums that a table holds are numbers with names.
+//
+// Each of these is so since document 01 has it, and a C caller lends tables in this layout: there is
+// no heap for a `Vec` or a `String`, and a caller may hand in any number where the original has an
+// enum, any count or length, and gets 30. So `is_some`, `has_last_result`, `has_snapshot` and
+// `has_replacement` are fields, and so are `count`, `len` and the numbers below.
 ghost use Rattle.std.specs.Prelude.{◌≡◌, ◌≤◌, length};
 ghost use Rattle.records.specs.Records.{slots_in_use, members_in_use};
 

@@ -5,10 +5,10 @@
 // yes or no; the representability check comes first, and has refused each text for which the
 // original gives `TooLarge`; `follows`, `retains` and `latest` are in evidence.rt,
 // `validate_successor_of` in successor.rt.
-ghost use Rattle.std.specs.Prelude.{◌&&◌, ◌≡◌, ◌+◌, ◌-◌, ◌<◌, ◌≤◌, eqb, leb, ltb, not, length};
-ghost use Rattle.std.specs.List.{list_all, list_any};
+ghost use Rattle.std.specs.Prelude.{◌&&◌, ◌≡◌, ◌≤◌, eqb, leb, ltb, length};
+ghost use Rattle.std.specs.List.{IsAllAdjacentAnswer, list_all, list_any};
 ghost use Rattle.identity.specs.Answer.{Accepted};
-ghost use Rattle.records.specs.Records.{all_below, slot_in, member_in, voting};
+ghost use Rattle.records.specs.Records.{all_below, slot_in, voting};
 ghost use Rattle.records.specs.Validation.{require_of, valid_count, valid_configuration, valid_spiffe_id, valid_attestation, is_active, valid_result, valid_slot, distinct_results, valid_slots, target_phase, valid_operation_head, is_current_epoch, valid_operation, claims_of, superseded_receipt, retired_member, valid_target, other_request, validate_member, validate_members, validate_operation, validity, validate};
 
 use crate::evidence::is_valid_log_id;
@@ -80,21 +80,16 @@ fn have_generations(members: &[VoterSlotMember]) -> bool
 }
 
 // The slot numbers rise strictly.
-#[tactic(auto, unfolding(crate::specs::Records::all_below))]
 fn members_rise(members: &[VoterSlotMember]) -> bool
-    ensures { result ≡ all_below (λ i. ltb (member_in members.now i).identity.slot (member_in members.now (i + 1)).identity.slot) (length members.now - 1) }
+    ensures { IsAllAdjacentAnswer (λ a b t. t ≡ ltb a.identity.slot b.identity.slot) members.now result }
 {
-    let mut all = true;
-    for i in 1..members.len() {
-        all = all & (members[i - 1].identity.slot < members[i].identity.slot);
-    }
-    all
+    members.is_sorted_by(|member, next| member.identity.slot < next.identity.slot)
 }
 
 impl LostVoterAttestationV1 {
     // `validate`.
     #[tactic(auto, unfolding(crate::specs::Validation::valid_attestation))]
-    fn is_valid(&self) -> bool
+    pub fn is_valid(&self) -> bool
         ensures { result ≡ valid_attestation self.now }
     {
         if !is_valid_name(
@@ -117,13 +112,6 @@ impl LostVoterAttestationV1 {
             self.expires_ms,
         )
     }
-}
-
-// `LostVoterAttestationV1::validate`.
-pub fn is_valid_attestation(attestation: LostVoterAttestationV1) -> bool
-    ensures { result ≡ valid_attestation attestation }
-{
-    attestation.is_valid()
 }
 
 // A name of that length. A length above the field is a no.
@@ -169,13 +157,6 @@ pub fn validate_table(table: VoterSlotTable) -> Answer
     table.validate()
 }
 
-// Validity of a table that has passed the representability check.
-pub fn validate_representable(table: VoterSlotTable) -> Answer
-    ensures { result ≡ validity table }
-{
-    table.validate()
-}
-
 // With no request open every slot is voting.
 fn all_voting(slots: &[VoterSlotRecord]) -> bool
     ensures { result ≡ list_all (λ s. eqb s.phase voting) slots.now }
@@ -184,18 +165,16 @@ fn all_voting(slots: &[VoterSlotRecord]) -> bool
 }
 
 // The slot numbers rise strictly.
-#[tactic(auto, unfolding(crate::specs::Records::all_below))]
 fn slots_rise(slots: &[VoterSlotRecord]) -> bool
-    ensures { result ≡ all_below (λ i. ltb (slot_in slots.now i).member.identity.slot (slot_in slots.now (i + 1)).member.identity.slot) (length slots.now - 1) }
+    ensures { IsAllAdjacentAnswer (λ a b t. t ≡ ltb a.member.identity.slot b.member.identity.slot) slots.now result }
 {
-    let mut all = true;
-    for i in 1..slots.len() {
-        all = all & (slots[i - 1].member.identity.slot < slots[i].member.identity.slot);
-    }
-    all
+    slots.is_sorted_by(|slot, next| slot.member.identity.slot < next.member.identity.slot)
 }
 
 // No request has a receipt in two slots; a slot without one is not compared.
+//
+// The places are counted in a loop, as in slots_succeed (successor.rt) and the places of
+// representable.rt: the check found no proof for `all` after `enumerate` or `zip`.
 #[tactic(auto, unfolding(crate::specs::Records::all_below))]
 fn results_distinct(slots: &[VoterSlotRecord]) -> bool
     ensures { result ≡ all_below (λ i. all_below (λ j. distinct_results (slot_in slots.now j) (slot_in slots.now i)) i) (length slots.now) }
@@ -213,7 +192,9 @@ fn results_distinct(slots: &[VoterSlotRecord]) -> bool
 fn is_distinct_from(slot: &VoterSlotRecord, earlier: &[VoterSlotRecord]) -> bool
     ensures { result ≡ list_all (λ other. distinct_results other slot.now) earlier.now }
 {
-    earlier.iter().all(|other| are_distinct_results(other, slot))
+    earlier
+        .iter()
+        .all(|other| are_distinct_results(other, slot))
 }
 
 // The two have no receipt of one request.
