@@ -19,7 +19,7 @@ ghost use Rattle.layout.specs.Layout.{slot_id, incarnation, epoch, slot_count, c
 
 use identity::answer::Refusal;
 use identity::identity::*;
-use identity::text::{MAX_VOTER_SNAPSHOT_ID_BYTES, MAX_VOTER_SPIFFE_ID_BYTES, is_utf8};
+use identity::text::{MAX_VOTER_SNAPSHOT_ID_BYTES, is_utf8};
 use layout::parts::{ThreeCuts, Times, VERSION};
 use records::records::*;
 use records::validation::is_valid_count;

@@ -6,7 +6,7 @@
 ghost use Rattle.std.specs.Prelude.{◌≡◌, ◌+◌, ◌≤◌, length};
 ghost use Rattle.format.specs.Put.{Put};
 ghost use Rattle.format.specs.Through.{boxed};
-ghost use Rattle.layout.specs.Parts.{NamesFit, ReplacementFits, TableFits, binding_of, result_head_of, slot_member_of, claims_request_of, claims_slot_of, claims_names_of, claims_end_of, change_of, table_head_of};
+ghost use Rattle.layout.specs.Parts.{NamesFit, ReplacementFits, TableFits, binding_of, result_head_of, claims_request_of, claims_slot_of, claims_end_of};
 ghost use Rattle.layout.specs.Layout as layout;
 ghost use Rattle.writer.specs.Size.{attestation_size, slots_size, cut_size, three_cuts_size, configuration_size, evidence_size, replacement_size};
 ghost use Rattle.writer.specs.Writes.{HasRoom, IsSized, Wrote};
