@@ -4,15 +4,13 @@
 // 717de332e7, Apache-2.0 (see NOTICE). Changed: groups of fields that stand together have a reader
 // of their own (layout's parts.rt); lists fill a place of nine.
 ghost use Rattle.std.specs.Prelude.{◌≡◌, ◌≤◌, length, IfOk};
-ghost use Rattle.format.specs.List.{opt};
 ghost use Rattle.format.specs.Through.{whole, boxed};
 ghost use Rattle.format.specs.Reads.{reads};
-ghost use Rattle.records.specs.Blank.{blank_voter_replacement_result, blank_voter_snapshot_evidence, blank_lost_voter_attestation_v1, blank_voter_replacement_record, blank_voter_slot_table};
-ghost use Rattle.layout.specs.Parts.{blank_voter_slot_members, blank_voter_slot_records};
+ghost use Rattle.records.specs.Blank.{blank_voter_slot_member, blank_voter_replacement_result, blank_voter_slot_record, blank_voter_snapshot_evidence, blank_lost_voter_attestation_v1, blank_voter_replacement_record};
 ghost use Rattle.layout.specs.Told.{told, told_at, told_whole, told_whole_at};
-ghost use Rattle.layout.specs.Layout.{binding, member, members, configuration, result_head, replacement_result, slot_member, slot, slots, claims_request, claims_slot, claims_end, claims, attestation, snapshot, evidence, replacement, table_head, table};
+ghost use Rattle.layout.specs.Layout.{binding, member, configuration, result_head, replacement_result, slot_member, slot, claims_request, claims_slot, claims_end, claims, attestation, snapshot, evidence, replacement, table_head, table};
 
-use crate::reader::Reader;
+use crate::reader::{Decode, Reader};
 use identity::answer::Refusal;
 use layout::parts::*;
 use records::records::*;
@@ -30,44 +28,15 @@ impl<'a> Reader<'a> {
         })
     }
 
-    // A member of a configuration.
-    #[tactic(auto, using(format::specs::Reads::reads_two), unfolding(layout::specs::Layout::member))]
-    fn member(&mut self) -> Result<VoterSlotMember, Refusal>
-        ensures { told result self.new.bytes.now ≡ reads member self.old.bytes.now }
-    {
-        let identity = self.identity()?;
-        let binding = self.binding()?;
-        Ok(member_of(identity, binding))
-    }
-
-    // The first so many of the nine places, which are blank; the others stay so. `slots` is the same
-    // of slots: one function for both would take the reader of a place as a closure, with a clause
-    // of what each call of it leaves, and is no shorter.
-    #[tactic(auto, using(format::specs::ReadsMore::filled_none, format::specs::ReadsMore::padded_refused), unfolding(layout::specs::Layout::members, layout::specs::Parts::blank_voter_slot_members))]
-    fn members(
-        &mut self,
-        count: usize,
-        places: &mut [VoterSlotMember; MAX_FIXED_VOTER_SLOTS],
-    ) -> Result<(), Refusal>
-        requires few { count ≤ 9 }
-        requires blank { places.old ≡ blank_voter_slot_members }
-        ensures { told_at result places.new self.new.bytes.now ≡ reads (members count) self.old.bytes.now }
-    {
-        for i in 0..count {
-            places[i] = self.member()?;
-        }
-        Ok(())
-    }
-
     // `configuration`
-    #[tactic(auto, using(format::specs::Reads::reads_three), unfolding(layout::specs::Layout::configuration, layout::specs::Parts::blank_voter_slot_members))]
+    #[tactic(auto, using(format::specs::Reads::reads_three), unfolding(layout::specs::Layout::configuration, layout::specs::Layout::members, layout::specs::Parts::blank_voter_slot_members))]
     fn configuration(&mut self) -> Result<VoterConfiguration, Refusal>
         ensures { told result self.new.bytes.now ≡ reads configuration self.old.bytes.now }
     {
         let epoch = self.epoch()?;
         let count = self.count()?;
         let mut members = [VoterSlotMember::default(); MAX_FIXED_VOTER_SLOTS];
-        self.members(count, &mut members)?;
+        self.fill(count, &mut members)?;
         Ok(VoterConfiguration {
             epoch,
             members,
@@ -88,29 +57,6 @@ impl<'a> Reader<'a> {
         })
     }
 
-    // A receipt.
-    #[tactic(auto, using(format::specs::Reads::reads_four), unfolding(layout::specs::Layout::replacement_result))]
-    fn replacement_result(&mut self) -> Result<VoterReplacementResult, Refusal>
-        ensures { told result self.new.bytes.now ≡ reads replacement_result self.old.bytes.now }
-    {
-        let head = self.result_head()?;
-        let configuration_epoch = self.epoch()?;
-        let kind = self.choice(COMPLETED, SUPERSEDED)?;
-        let terminal = self.log_id()?;
-        Ok(result_of(head, configuration_epoch, kind, terminal))
-    }
-
-    // A receipt, or none.
-    #[tactic(auto, using(format::specs::Reads::reads_opt))]
-    fn optional_result(&mut self) -> Result<(bool, VoterReplacementResult), Refusal>
-        ensures { told result self.new.bytes.now ≡ reads (opt replacement_result blank_voter_replacement_result) self.old.bytes.now }
-    {
-        if !self.flag()? {
-            return Ok((false, VoterReplacementResult::default()));
-        }
-        Ok((true, self.replacement_result()?))
-    }
-
     // The front of a slot.
     #[tactic(auto, using(format::specs::Reads::reads_three), unfolding(layout::specs::Layout::slot_member))]
     fn slot_member(&mut self) -> Result<SlotMember, Refusal>
@@ -123,40 +69,6 @@ impl<'a> Reader<'a> {
             member: member_of(identity, binding),
             retired_through,
         })
-    }
-
-    // A slot.
-    #[tactic(auto, using(format::specs::Reads::reads_three), unfolding(layout::specs::Layout::slot))]
-    fn slot(&mut self) -> Result<VoterSlotRecord, Refusal>
-        ensures { told result self.new.bytes.now ≡ reads slot self.old.bytes.now }
-    {
-        let head = self.slot_member()?;
-        let phase = self.choice(PENDING, VOTING)?;
-        let (has_last_result, last_result) = self.optional_result()?;
-        Ok(VoterSlotRecord {
-            member: head.member,
-            retired_through: head.retired_through,
-            phase,
-            has_last_result,
-            last_result,
-        })
-    }
-
-    // The first so many of the nine places, which are blank; the others stay so.
-    #[tactic(auto, using(format::specs::ReadsMore::filled_none, format::specs::ReadsMore::padded_refused), unfolding(layout::specs::Layout::slots, layout::specs::Parts::blank_voter_slot_records))]
-    fn slots(
-        &mut self,
-        count: usize,
-        places: &mut [VoterSlotRecord; MAX_FIXED_VOTER_SLOTS],
-    ) -> Result<(), Refusal>
-        requires few { count ≤ 9 }
-        requires blank { places.old ≡ blank_voter_slot_records }
-        ensures { told_at result places.new self.new.bytes.now ≡ reads (slots count) self.old.bytes.now }
-    {
-        for i in 0..count {
-            places[i] = self.slot()?;
-        }
-        Ok(())
     }
 
     // The groups of an attestation.
@@ -242,36 +154,13 @@ impl<'a> Reader<'a> {
         fill_whole_attestation(self.sized_bytes(MAX_LOST_VOTER_ATTESTATION_BYTES)?, place)
     }
 
-    // The evidence of a snapshot.
-    #[tactic(auto, using(format::specs::Reads::reads_three), unfolding(layout::specs::Layout::snapshot))]
-    fn snapshot(&mut self) -> Result<VoterSnapshotEvidence, Refusal>
-        ensures { told result self.new.bytes.now ≡ reads snapshot self.old.bytes.now }
-    {
-        Ok(VoterSnapshotEvidence {
-            cut: self.log_id()?,
-            snapshot_id: self.snapshot_id()?,
-            digest: self.array()?,
-        })
-    }
-
-    // A snapshot, or none.
-    #[tactic(auto, using(format::specs::Reads::reads_opt))]
-    fn optional_snapshot(&mut self) -> Result<(bool, VoterSnapshotEvidence), Refusal>
-        ensures { told result self.new.bytes.now ≡ reads (opt snapshot blank_voter_snapshot_evidence) self.old.bytes.now }
-    {
-        if !self.flag()? {
-            return Ok((false, VoterSnapshotEvidence::default()));
-        }
-        Ok((true, self.snapshot()?))
-    }
-
     // The evidence of a replacement.
     #[tactic(auto, using(format::specs::Reads::reads_four), unfolding(layout::specs::Layout::evidence))]
     fn evidence(&mut self) -> Result<VoterReplacementEvidence, Refusal>
         ensures { told result self.new.bytes.now ≡ reads evidence self.old.bytes.now }
     {
         let prepare = self.log_id()?;
-        let (has_snapshot, snapshot) = self.optional_snapshot()?;
+        let (has_snapshot, snapshot) = self.optional(VoterSnapshotEvidence::default())?;
         let early = self.three_cuts()?;
         let late = self.three_cuts()?;
         Ok(evidence_of(prepare, has_snapshot, snapshot, early, late))
@@ -307,7 +196,7 @@ impl<'a> Reader<'a> {
 
     // The fields of a table; anything may come after them. The table is filled where it stands: a
     // `Result` that has it would copy its 8 KB at each `?`.
-    #[tactic(auto, using(layout::specs::ReadingLaws::reads_table, format::specs::Reads::reads_opt, layout::specs::ReadingLaws::blank_slots, layout::specs::ReadingLaws::blank_replacement))]
+    #[tactic(auto, using(layout::specs::ReadingLaws::reads_table, format::specs::Reads::reads_opt, layout::specs::ReadingLaws::blank_slots, layout::specs::ReadingLaws::blank_replacement), unfolding(layout::specs::Layout::slots, layout::specs::Parts::blank_voter_slot_records))]
     pub fn table(&mut self, place: &mut VoterSlotTable) -> Result<(), Refusal>
         ensures form { told_at result place.new self.new.bytes.now ≡ reads table self.old.bytes.now }
         ensures small { IfOk result (λ nothing. place.new.count ≤ 9) }
@@ -323,13 +212,72 @@ impl<'a> Reader<'a> {
         place.configuration_epoch = head.configuration_epoch;
         let count = self.count()?;
         place.count = count;
-        self.slots(count, &mut place.slots)?;
+        self.fill(count, &mut place.slots)?;
         let is_open = self.flag()?;
         place.has_replacement = is_open;
         if !is_open {
             return Ok(());
         }
         self.replacement(&mut place.replacement)
+    }
+}
+
+// A member of a configuration.
+impl Decode for VoterSlotMember {
+    ghost form = { member };
+
+    #[tactic(auto, using(format::specs::Reads::reads_two), unfolding(layout::specs::Layout::member))]
+    fn decode(input: &mut Reader) -> Result<VoterSlotMember, Refusal> {
+        let identity = input.identity()?;
+        let binding = input.binding()?;
+        Ok(member_of(identity, binding))
+    }
+}
+
+// A receipt.
+impl Decode for VoterReplacementResult {
+    ghost form = { replacement_result };
+
+    #[tactic(auto, using(format::specs::Reads::reads_four), unfolding(layout::specs::Layout::replacement_result))]
+    fn decode(input: &mut Reader) -> Result<VoterReplacementResult, Refusal> {
+        let head = input.result_head()?;
+        let configuration_epoch = input.epoch()?;
+        let kind = input.choice(COMPLETED, SUPERSEDED)?;
+        let terminal = input.log_id()?;
+        Ok(result_of(head, configuration_epoch, kind, terminal))
+    }
+}
+
+// A slot.
+impl Decode for VoterSlotRecord {
+    ghost form = { slot };
+
+    #[tactic(auto, using(format::specs::Reads::reads_three), unfolding(layout::specs::Layout::slot))]
+    fn decode(input: &mut Reader) -> Result<VoterSlotRecord, Refusal> {
+        let head = input.slot_member()?;
+        let phase = input.choice(PENDING, VOTING)?;
+        let (has_last_result, last_result) = input.optional(VoterReplacementResult::default())?;
+        Ok(VoterSlotRecord {
+            member: head.member,
+            retired_through: head.retired_through,
+            phase,
+            has_last_result,
+            last_result,
+        })
+    }
+}
+
+// The evidence of a snapshot.
+impl Decode for VoterSnapshotEvidence {
+    ghost form = { snapshot };
+
+    #[tactic(auto, using(format::specs::Reads::reads_three), unfolding(layout::specs::Layout::snapshot))]
+    fn decode(input: &mut Reader) -> Result<VoterSnapshotEvidence, Refusal> {
+        Ok(VoterSnapshotEvidence {
+            cut: input.log_id()?,
+            snapshot_id: input.snapshot_id()?,
+            digest: input.array()?,
+        })
     }
 }
 

@@ -113,7 +113,7 @@ module _ {A : Type 0} (f : A → List ℕ) (l : List A) where
       → (flat_map f (take (i + 1) l) ≡ flat_map f (take i l) ++ f (get_or l i d)) × (length (flat_map f (take i l)) + length (f (get_or l i d)) ≤ length (flat_map f l))
   all_step i d h = (
     ap (λ n. flat_map f (take n l)) (add-one i) ∙ ap (flat_map f) (take-suc l i d h)
-    ∙ sym (flat_map_more f [] (take i l) (get_or l i d)),
+        ∙ sym (flat_map_more f [] (take i l) (get_or l i d)),
     length-flat_map-take f l i d h,
   )
 
@@ -130,8 +130,8 @@ module _ {A : Type 0} (f : A → List ℕ) (l : List A) (i : ℕ) (x : A) (v w :
         s.0 ∙ so.0,
         omega (arith, s.1, so.1, ap length now, long),
         s.2 ∙ ap₂ (put (f x)) so.1 so.2
-        ∙ sym (put_next (flat_map f (take i l)) (f x) v.at v.buffer.now (omega (arith, (all_step f l i x h).1, ap (λ y. length (f y)) e, long)))
-        ∙ ap (λ b. put b v.at v.buffer.now) (sym now),
+            ∙ sym (put_next (flat_map f (take i l)) (f x) v.at v.buffer.now (omega (arith, (all_step f l i x h).1, ap (λ y. length (f y)) e, long)))
+            ∙ ap (λ b. put b v.at v.buffer.now) (sym now),
       )
 
 -- the first n of a list, in a place of nine

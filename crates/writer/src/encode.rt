@@ -6,7 +6,7 @@
 ghost use Rattle.std.specs.Prelude.{◌≡◌, ◌+◌, ◌≤◌, length};
 ghost use Rattle.format.specs.Put.{Put};
 ghost use Rattle.format.specs.Through.{boxed};
-ghost use Rattle.layout.specs.Parts.{NamesFit, ReplacementFits, TableFits, binding_of, result_head_of, slot_member_of, claims_request_of, claims_slot_of, claims_names_of, claims_end_of, change_of, table_head_of};
+ghost use Rattle.layout.specs.Parts.{NamesFit, ReplacementFits, TableFits, binding_of, result_head_of, claims_request_of, claims_slot_of, claims_end_of};
 ghost use Rattle.layout.specs.Layout as layout;
 ghost use Rattle.writer.specs.Size.{attestation_size, slots_size, cut_size, three_cuts_size, configuration_size, evidence_size, replacement_size};
 ghost use Rattle.writer.specs.Writes.{HasRoom, IsSized, Wrote};
@@ -97,7 +97,8 @@ impl<'a> Writer<'a> {
         self.u64(member.admission_generation);
     }
 
-    // The front of a receipt.
+    // The front of a receipt: its proof and the receipt's are each within the search's limits, those of
+    // one for both are not.
     #[tactic(auto, using(crate::specs::PutLaws::writing), unfolding(layout::specs::Layout::result_head))]
     fn result_head(&mut self, res: &VoterReplacementResult)
         requires { HasRoom ((layout.result_head).enc (result_head_of res.now)) self.old }
@@ -107,17 +108,6 @@ impl<'a> Writer<'a> {
         self.bytes(&res.request_digest);
         self.u64(res.incarnation);
         self.u64(res.revision);
-    }
-
-    // The front of a slot.
-    #[tactic(auto, using(crate::specs::PutLaws::writing), unfolding(layout::specs::Layout::slot_member))]
-    fn slot_member(&mut self, slot: &VoterSlotRecord)
-        requires { HasRoom ((layout.slot_member).enc (slot_member_of slot.now)) self.old }
-        ensures { Wrote ((layout.slot_member).enc (slot_member_of slot.now)) self.old self.new }
-    {
-        slot.member.identity.put(self);
-        self.u64(slot.retired_through);
-        self.binding(&slot.member);
     }
 
     // `unsigned_claims` and the signature, in three groups and the names.
@@ -168,18 +158,6 @@ impl<'a> Writer<'a> {
         self.u16(attestation_size(claims) as u16);
         claims.put(self);
     }
-
-    // The front of a table, after the magic and the version.
-    #[tactic(auto, using(crate::specs::PutLaws::writing), unfolding(layout::specs::Layout::table_head))]
-    fn table_head(&mut self, table: &VoterSlotTable)
-        requires { HasRoom ((layout.table_head).enc (table_head_of table.now)) self.old }
-        ensures { Wrote ((layout.table_head).enc (table_head_of table.now)) self.old self.new }
-    {
-        self.bytes(&table.cluster_instance);
-        self.bytes(&table.manifest_digest);
-        self.u64(table.revision);
-        self.u64(table.configuration_epoch);
-    }
 }
 
 // A member of a configuration.
@@ -224,9 +202,11 @@ impl Encode for VoterReplacementResult {
 impl Encode for VoterSlotRecord {
     ghost bytes = { (layout.slot).enc };
 
-    #[tactic(auto, using(crate::specs::PutLaws::optional), unfolding(layout::specs::Layout::slot))]
+    #[tactic(auto, using(crate::specs::PutLaws::optional), unfolding(layout::specs::Layout::slot, layout::specs::Layout::slot_member))]
     fn put(&self, output: &mut Writer) {
-        output.slot_member(self);
+        self.member.identity.put(output);
+        output.u64(self.retired_through);
+        output.binding(&self.member);
         output.u8(self.phase);
         output.optional(self.has_last_result, &self.last_result);
     }
@@ -302,10 +282,13 @@ impl Encode for VoterSlotTable {
 
     ghost fits = { λ t. TableFits t × IsSized t.replacement.attestation };
 
-    #[tactic(auto, using(crate::specs::PutLaws::tabled))]
+    #[tactic(auto, using(crate::specs::PutLaws::tabled), unfolding(layout::specs::Layout::table_head))]
     fn put(&self, output: &mut Writer) {
         output.magic_and_version();
-        output.table_head(self);
+        output.bytes(&self.cluster_instance);
+        output.bytes(&self.manifest_digest);
+        output.u64(self.revision);
+        output.u64(self.configuration_epoch);
         output.u8(self.count as u8);
         output.all(self.slots_in_use());
         output.optional(self.has_replacement, &self.replacement);
