@@ -64,6 +64,7 @@ fn checked(table: &VoterSlotTable, control: VoterSlotControl, cut: VoterSlotLogI
 }
 
 // `apply_control` on a table that is lent: any table, any command and any cut.
+#[tactic(auto, using(crate::proofs::Stored::entry_refused, crate::proofs::Stored::entry_passed))]
 pub fn apply_control_in_place(table: &mut VoterSlotTable, command: VoterCommand) -> Answer
     ensures { (result, table.new) ≡ apply_control table.old command.control command.cut }
 {
@@ -88,7 +89,7 @@ pub fn apply_to_valid(table: VoterSlotTable, command: VoterCommand) -> Controlle
 
 // `apply_to_valid` on a table that is lent: the same tests. It takes 5 KB: calls by kind are
 // faster.
-#[tactic(auto, unfolding(crate::specs::Judgement::carried, crate::specs::Judgement::made))]
+#[tactic(auto, using(crate::proofs::Stored::applied_begin, crate::proofs::Stored::applied_advance, crate::proofs::Stored::applied_marker))]
 pub fn apply_in_place(table: &mut VoterSlotTable, command: VoterCommand) -> Answer
     requires { validate table.old ≡ Accepted }
     ensures { (result, table.new) ≡ applied_of table.old command.control command.cut }
