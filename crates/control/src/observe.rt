@@ -50,7 +50,7 @@ pub enum Observed {
     AddUniform,
 }
 
-// The tests of the sets and the nodes.
+// The tests of the sets and the nodes. Each is a yes or no with no value beside it.
 #[derive(Clone, Copy)]
 pub struct SetTests {
     // The successor has no id that the predecessor lacks.

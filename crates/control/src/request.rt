@@ -6,7 +6,8 @@
 // supplies the digest as recomputed and the id of the current configuration. Loops pass all nine
 // places, from the last to the first, and a place found later takes the place of one found before;
 // it is picked by `then_some` and `or`, since after an `if` in the loop the compiler copies the
-// request once more.
+// request once more. So it does where the slots in use are searched by `find`: a repeated Begin takes
+// twice as long, and a fresh one half as long again.
 ghost use Rattle.std.specs.Prelude.{◌≡◌};
 ghost use Rattle.records.specs.Successor.{first_refusal};
 ghost use Rattle.records.specs.Validation.{valid_attestation};
