@@ -216,21 +216,21 @@ same_{0} a b =
 
 # That the fields are the same where that test holds
 FROM_TRUE = {
-    'number': 'eqb-true _ _',
-    'bool': 'beq-true _ _',
-    'bytes': 'eq_bytes-true _ _',
-    'nine': 'eq_list-true same_{snake} same_{snake}-true _ _',
-    'struct': 'same_{snake}-true _ _',
+    'number': 'eqb-true {a} {b}',
+    'bool': 'beq-true {a} {b}',
+    'bytes': 'eq_bytes-true {a} {b}',
+    'nine': 'eq_list-true same_{snake} same_{snake}-true {a} {b}',
+    'struct': 'same_{snake}-true {a} {b}',
 }
 
 
-# That a field of a is the same as itself
+# That each field of such a kind is the same as itself
 OF_ITSELF = {
-    'number': 'eqb_refl {a}',
-    'bool': 'beq-refl {a}',
-    'bytes': 'eq_bytes-refl {a}',
-    'nine': 'eq_list-refl same_{snake} same_{snake}-refl {a}',
-    'struct': 'same_{snake}-refl {a}',
+    'number': 'eqb_refl',
+    'bool': 'beq-refl',
+    'bytes': 'eq_bytes-refl',
+    'nine': 'eq_list-refl same_{snake} same_{snake}-refl',
+    'struct': 'same_{snake}-refl',
 }
 
 
@@ -356,23 +356,19 @@ pub same_{0}-true : (a b : {1}) → same_{0} a b ≡ true → a ≡ b
 unfolding same_{0}
 same_{0}-true a b h =
     let e = all-each _ h in
-{2}{3}
+{2}
 
 pub same_{0}-refl : (a : {1}) → same_{0} a a ≡ true
 unfolding all_true same_{0}
-{4}
+{3}
 '''
 
 
 def record_laws(name, fields):
     """That a test of a record that holds is a path, and that each value is the same as itself."""
-    lets, path = '', 'e'
-    for i, field in enumerate(fields):
-        lets += '    let e%d : %s ≡ %s = %s %s.0 in\n' % (i, field.of('a'), field.of('b'), field.say(FROM_TRUE), path)
-        path += '.1'
-    paths = record(['%s = e%d i' % (field.name, i) for i, field in enumerate(fields)], 'λ i. ')
-    selves = listed('rw', [field.say(OF_ITSELF) for field in fields])
-    return RECORD_LAWS.format(snake(name), name, lets, paths, clause('same_%s-refl a' % snake(name), selves))
+    paths = ['%s = %s e%s.0 i' % (field.name, field.say(FROM_TRUE), '.1' * i) for i, field in enumerate(fields)]
+    selves = list(dict.fromkeys(field.say(OF_ITSELF) for field in fields))
+    return RECORD_LAWS.format(snake(name), name, record(paths, 'λ i. '), clause('same_%s-refl a' % snake(name), listed('simp', selves)))
 
 
 def equality_laws():

@@ -11,7 +11,6 @@ use identity::answer::{Answer, Refusal, number};
 use raw::table::table_in;
 use records::blank::are_blank;
 use records::records::VoterSlotTable;
-use records::representable::is_representable;
 use records::successor::validate_successor_of;
 use records::validation::validate_table;
 
@@ -124,7 +123,7 @@ fn later(table: VoterSlotTable) -> VoterSlotTable {
 }
 
 fn representable_of(table: VoterSlotTable) -> u64 {
-    if is_representable(table) {
+    if table.is_representable() {
         return 0;
     }
     number_of(Err(Refusal::Unrepresentable))

@@ -19,7 +19,7 @@ use layout::parts::MAX_LOST_VOTER_ATTESTATION_BYTES;
 use reader::decode::read_whole_attestation;
 use reader::reader::Reader;
 use records::records::{LostVoterAttestationV1, VoterSlotTable};
-use records::validation::{validate_representable, validate_table};
+use records::validation::validate_table;
 use writer::encode::{put_table, table_size};
 
 // Hard ceiling for one complete durable slot table, independent of application size.
@@ -79,7 +79,7 @@ pub fn fill_voter_slot_table(bytes: &[u8], table: &mut VoterSlotTable) -> Result
     let mut input = Reader::new(bytes);
     input.table(table)?;
     input.finish()?;
-    validate_representable(*table)
+    table.validate()
 }
 
 // A refused reading.

@@ -21,7 +21,7 @@ use crate::control::{VoterCommand, VoterReplacementRequest};
 use crate::judge::*;
 use crate::request::*;
 use identity::answer::{Answer, Refusal};
-use records::evidence::{latest_cut, log_id_follows};
+use records::evidence::log_id_follows;
 use records::records::*;
 use records::successor::place_of;
 
@@ -146,7 +146,7 @@ fn is_later(table: VoterSlotTable, cut: VoterSlotLogId) -> bool
     ensures { result ≡ begin_test table cut }
 {
     let evidence = table.replacement.evidence;
-    let latest = latest_cut(evidence);
+    let latest = evidence.latest();
     let later = log_id_follows(cut, latest, false);
     !table.has_replacement | later
 }

@@ -15,9 +15,6 @@ use crate::control::*;
 use identity::identity::is_configuration_epoch;
 use records::blank::Blank;
 use records::records::VoterSnapshotEvidence;
-use records::representable::{
-    is_representable_attestation, is_representable_member, is_representable_snapshot,
-};
 
 // A kind of the three; the request is a Begin's, the step an Advance's.
 #[tactic(auto, unfolding(crate::specs::Control::representable_control))]
@@ -53,9 +50,9 @@ pub fn is_representable_request(request: VoterReplacementRequest) -> bool
     ensures { result ≡ representable_request request }
 {
     let request_candidate = request.candidate;
-    let candidate = is_representable_member(request_candidate);
+    let candidate = request_candidate.is_representable();
     let request_attestation = request.attestation;
-    let attestation = is_representable_attestation(request_attestation);
+    let attestation = request_attestation.is_representable();
     let epoch = is_configuration_epoch(request.expected_configuration.configuration_epoch);
     epoch & (candidate & attestation)
 }
@@ -110,7 +107,7 @@ fn is_snapshot_part(is_used: bool, snapshot: VoterSnapshotEvidence) -> bool
     ensures { result ≡ cond is_used (representable_snapshot snapshot) (same_voter_snapshot_evidence snapshot blank_voter_snapshot_evidence) }
 {
     if is_used {
-        return is_representable_snapshot(snapshot);
+        return snapshot.is_representable();
     }
     snapshot.is_blank()
 }

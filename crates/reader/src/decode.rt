@@ -16,7 +16,6 @@ use crate::reader::Reader;
 use identity::answer::Refusal;
 use layout::parts::*;
 use records::records::*;
-use records::validation::is_valid_attestation;
 
 impl<'a> Reader<'a> {
     // `binding`: what follows an identity.
@@ -347,7 +346,7 @@ pub fn read_whole_attestation(
     let mut input = Reader::new(bytes);
     input.attestation(place)?;
     input.finish()?;
-    if !is_valid_attestation(*place) {
+    if !place.is_valid() {
         return Err(Refusal::InvalidRecord);
     }
     Ok(())

@@ -4,7 +4,7 @@
 // openpacketcore-sdk, commit 717de332e7, Apache-2.0 (see NOTICE). Changed: a check that can only
 // give `Regression` answers yes or no; the representability check comes first. `retains` and
 // `latest`, which it calls, are in evidence.rt.
-ghost use Rattle.std.specs.Prelude.{◌≡◌, ◌+◌, ◌≤◌, eqb, length};
+ghost use Rattle.std.specs.Prelude.{◌≡◌, ◌≤◌, eqb, length};
 ghost use Rattle.identity.specs.Answer.{Accepted};
 ghost use Rattle.std.specs.List.{position};
 ghost use Rattle.records.specs.Equality.{same_voter_slot_table};
@@ -62,7 +62,8 @@ impl VoterSlotTable {
         *self == *other
     }
 
-    // The check of two tables that are valid.
+    // The check of two tables that are valid. It asks for the count, and so do those that it calls:
+    // the definitions go on past the nine places, where they find blanks.
     #[tactic(auto, using(crate::proofs::InUse::succession_in_use), unfolding(crate::specs::Successor::succession))]
     fn validate_succession(&self, old: &VoterSlotTable) -> Answer
         requires { self.now.count ≤ 9 }

@@ -1,5 +1,5 @@
 -- `records::blank::are_blank` meets its contract: the answer so far is that of the values passed. Assumes nothing.
-use Rattle.std.proofs.Common.{refl, ap, ◌∙◌, length, arith}
+use Rattle.std.proofs.Common.{refl, ap, ◌∙◌, arith}
 use Rattle.records.specs.ZeroLaws.{blank-more}
 use Rattle.records.proofs.blank.are_blank.Goals as goal
 

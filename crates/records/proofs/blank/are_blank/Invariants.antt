@@ -1,5 +1,5 @@
 -- `records::blank::are_blank` meets its contract: the answer so far is that of the values passed. Assumes nothing.
-use Rattle.std.proofs.Common.{◌≡◌, ◌≤◌, length, take}
+use Rattle.std.proofs.Common.{◌≡◌, length, take}
 use Rattle.std.specs.Prelude.{replicate}
 use Rattle.records.specs.Equality.{eq_list}
 use Rattle.records.proofs.blank.are_blank.Given as goal

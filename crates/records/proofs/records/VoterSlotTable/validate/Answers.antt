@@ -2,7 +2,7 @@
 use Rattle.std.proofs.Common.{◌≤◌, ◌∙◌, eqb, arith}
 use Rattle.std.proofs.lemmas.Grind.{common_steps}
 use Rattle.records.specs.Records.{no_slot_record, voting}
-use Rattle.records.specs.RecordsLaws.{front-each}
+use Rattle.records.specs.RecordsLaws.{front-all}
 use Rattle.records.specs.Validation.{validity}
 use Rattle.records.proofs.InUse.{slots_few}
 use Rattle.records.proofs.records.VoterSlotTable.validate.Goals as goal
@@ -13,5 +13,5 @@ returns-then-not-self c =
     let t = c.args.self.now in
     let u = c.slots_in_use in
     let h : t.count ≤ 9 = grind (arith, common_steps, slots_few) in
-    let idle = c.all_voting.ensures ∙ front-each no_slot_record t.slots u.result.now t.count u.ensures.slots (u.ensures.count h) (λ s. eqb s.phase voting) in
+    let idle = c.all_voting.ensures ∙ front-all no_slot_record t.slots u.result.now t.count u.ensures.slots (u.ensures.count h) (λ s. eqb s.phase voting) in
     grind (arith, common_steps, idle)
