@@ -21,7 +21,7 @@ ghost use Rattle.control.specs.Verdicts.{answer_of, verdict_of};
 use crate::control::*;
 use identity::answer::{Answer, Refusal};
 use identity::identity::ConsensusRequestId;
-use records::evidence::{is_in_order, is_valid_snapshot_id, log_id_follows};
+use records::evidence::{is_in_order, log_id_follows};
 use records::records::*;
 
 // What a command that is not refused does to the table: nothing, or which change.
@@ -183,7 +183,7 @@ fn judge_snapshot(
     let at = snapshot.cut;
     let prepare = table.replacement.evidence.prepare;
     let continuation = table.replacement.evidence.continuation;
-    let valid = is_valid_snapshot_id(id);
+    let valid = id.is_valid();
     let later = log_id_follows(at, prepare, true);
     let fits = fits_continuation(continuation, at, true);
     let due = (table.replacement.phase == PREPARED)

@@ -50,7 +50,7 @@ pub enum Observed {
     AddUniform,
 }
 
-// The tests of the sets and the nodes.
+// The tests of the sets and the nodes. Each is a yes or no with no value beside it.
 #[derive(Clone, Copy)]
 pub struct SetTests {
     // The successor has no id that the predecessor lacks.
@@ -379,6 +379,7 @@ pub fn weigh(table: VoterSlotTable, observation: VoterObservation) -> Result<Obs
 }
 
 // The same on a table that is lent.
+#[tactic(auto, unfolding(crate::specs::Observation::representable_sets, crate::specs::ObserveSight::weighed))]
 fn weigh_lent(table: &VoterSlotTable, observation: VoterObservation) -> Result<Observed, Refusal>
     ensures { verdict_of_observed result ≡ weighed table.now observation.entry.sets.now observation.entry.counts.now observation.entry.nodes.now observation.entry.cut }
 {
@@ -529,7 +530,7 @@ fn weigh_entry(table: &VoterSlotTable, observation: VoterObservation) -> Result<
 }
 
 // `observe_membership` on a table that is lent: any table, any sets, any nodes and any cut.
-#[tactic(auto, using(crate::proofs::Stored::observed_entry), unfolding(crate::specs::Judgement::carried))]
+#[tactic(auto, using(crate::proofs::Stored::observed_entry, crate::proofs::Stored::entry_room), unfolding(crate::specs::Judgement::carried))]
 pub fn observe_membership_in_place(
     table: &mut VoterSlotTable,
     observation: VoterObservation,
@@ -542,7 +543,7 @@ pub fn observe_membership_in_place(
 }
 
 // An observation of a table that is lent and known to be valid.
-#[tactic(auto, using(crate::proofs::Stored::observed_valid), unfolding(crate::specs::Judgement::carried))]
+#[tactic(auto, using(crate::proofs::Stored::observed_valid, crate::proofs::Stored::weighed_room), unfolding(crate::specs::Judgement::carried))]
 pub fn observe_in_place(table: &mut VoterSlotTable, observation: VoterObservation) -> Answer
     requires { validate table.old ≡ Accepted }
     ensures { (result, table.new) ≡ observe_membership table.old observation.entry.sets.now observation.entry.counts.now observation.entry.nodes.now observation.entry.cut }

@@ -6,10 +6,10 @@
 // supplies the digest as recomputed and the id of the current configuration. Loops pass all nine
 // places, from the last to the first, and a place found later takes the place of one found before;
 // it is picked by `then_some` and `or`, since after an `if` in the loop the compiler copies the
-// request once more.
+// request once more. So it does where the slots in use are searched by `find`: a repeated Begin takes
+// twice as long, and a fresh one half as long again.
 ghost use Rattle.std.specs.Prelude.{◌≡◌};
 ghost use Rattle.records.specs.Successor.{first_refusal};
-ghost use Rattle.records.specs.Validation.{valid_attestation};
 ghost use Rattle.control.specs.Control.{candidate_check, current_configuration, is_expected, request_check, stale_check, valid_request};
 ghost use Rattle.control.specs.BeginJudge.{attested_member, has_digest, has_receipt, named_of, newer_than, receipt_state};
 
@@ -18,7 +18,6 @@ use identity::answer::{Answer, Refusal};
 use identity::identity::{ConsensusConfigurationEpoch, ConsensusRequestId, SlotId};
 use records::number::is_next;
 use records::records::*;
-use records::validation::{are_valid_times, is_valid_spiffe_id};
 
 // `VoterReplacementRequest::validate`: 12.
 #[tactic(auto, unfolding(crate::specs::Control::request_check))]
@@ -41,7 +40,7 @@ pub fn validate_request(request: VoterReplacementRequest) -> Answer
 fn is_valid_request(request: VoterReplacementRequest) -> bool
     ensures { result ≡ valid_request request }
 {
-    let claims = are_valid_claims(request);
+    let claims = request.attestation.is_valid();
     let cluster = request.expected_configuration.cluster_id;
     let attested_cluster = request.attestation.cluster_instance;
     let same_cluster = cluster == attested_cluster;
@@ -60,31 +59,6 @@ fn is_valid_request(request: VoterReplacementRequest) -> bool
                         & (same_key
                             & (request.candidate.admission_generation
                                 == request.attestation.admission_generation))))))
-}
-
-// `LostVoterAttestationV1::validate`, part by part: of the attestation itself a copy would be made.
-#[tactic(auto, unfolding(records::specs::Validation::valid_attestation))]
-fn are_valid_claims(request: VoterReplacementRequest) -> bool
-    ensures { result ≡ valid_attestation request.attestation }
-{
-    let candidate = request.attestation.candidate_spiffe_id.bytes;
-    let candidate_valid = is_valid_spiffe_id(
-        request.attestation.candidate_spiffe_id.len,
-        candidate,
-    );
-    let controller = request.attestation.controller_spiffe_id.bytes;
-    let controller_valid = is_valid_spiffe_id(
-        request.attestation.controller_spiffe_id.len,
-        controller,
-    );
-    let times_valid = are_valid_times(
-        request.attestation.admission_generation,
-        request.attestation.observation_start_ms,
-        request.attestation.decision_ms,
-        request.attestation.issued_ms,
-        request.attestation.expires_ms,
-    );
-    candidate_valid & (controller_valid & times_valid)
 }
 
 // Whether the first receipt of the request of that id, among those of the slots in use, has that

@@ -38,7 +38,7 @@ impl VoterReplacementEvidence {
         if !is_valid_log_id(self.prepare) {
             return false;
         }
-        if self.has_snapshot && !is_valid_snapshot_id(self.snapshot.snapshot_id) {
+        if self.has_snapshot && !self.snapshot.snapshot_id.is_valid() {
             return false;
         }
         self.are_valid_stages(phase) & self.is_valid_continuation()
@@ -196,14 +196,16 @@ pub fn is_in_order(continuation: VoterSlotLogId, other: OptionalLogId, is_snapsh
     log_id_follows(cut, continuation, false)
 }
 
-// A length above the field is a no.
-pub fn is_valid_snapshot_id(id: SnapshotId) -> bool
-    ensures { result ≡ valid_snapshot_id id }
-{
-    if MAX_VOTER_SNAPSHOT_ID_BYTES < id.len {
-        return false;
+impl SnapshotId {
+    // Whether it is the id of a snapshot. A length above the field is a no.
+    pub fn is_valid(&self) -> bool
+        ensures { result ≡ valid_snapshot_id self.now }
+    {
+        if MAX_VOTER_SNAPSHOT_ID_BYTES < self.len {
+            return false;
+        }
+        is_snapshot_id(&self.bytes[..self.len])
     }
-    is_snapshot_id(&id.bytes[..id.len])
 }
 
 // The one of greater index, where the stage is present.

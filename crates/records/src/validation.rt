@@ -92,58 +92,35 @@ impl LostVoterAttestationV1 {
     pub fn is_valid(&self) -> bool
         ensures { result ≡ valid_attestation self.now }
     {
-        if !is_valid_name(
-            self.candidate_spiffe_id.len,
-            &self.candidate_spiffe_id.bytes,
-        ) {
+        if !self.candidate_spiffe_id.is_valid() {
             return false;
         }
-        if !is_valid_name(
-            self.controller_spiffe_id.len,
-            &self.controller_spiffe_id.bytes,
-        ) {
+        if !self.controller_spiffe_id.is_valid() {
             return false;
         }
-        are_valid_times(
-            self.admission_generation,
-            self.observation_start_ms,
-            self.decision_ms,
-            self.issued_ms,
-            self.expires_ms,
-        )
+        self.are_valid_times()
+    }
+
+    // Its numbers: what was observed, decided and issued came in that order.
+    fn are_valid_times(&self) -> bool
+        ensures { result ≡ (ltb 0 self.now.admission_generation && (leb self.now.observation_start_ms self.now.decision_ms && (leb self.now.decision_ms self.now.issued_ms && ltb self.now.issued_ms self.now.expires_ms))) }
+    {
+        (0 < self.admission_generation)
+            & ((self.observation_start_ms <= self.decision_ms)
+                & ((self.decision_ms <= self.issued_ms) & (self.issued_ms < self.expires_ms)))
     }
 }
 
-// A name of that length. A length above the field is a no.
-pub fn is_valid_spiffe_id(len: usize, bytes: [u8; MAX_VOTER_SPIFFE_ID_BYTES]) -> bool
-    ensures { result ≡ valid_spiffe_id (record { len = len; bytes = bytes }) }
-{
-    is_valid_name(len, &bytes)
-}
-
-// The same where the bytes lie.
-fn is_valid_name(len: usize, bytes: &[u8; MAX_VOTER_SPIFFE_ID_BYTES]) -> bool
-    ensures { result ≡ valid_spiffe_id (record { len = len; bytes = bytes.now }) }
-{
-    if MAX_VOTER_SPIFFE_ID_BYTES < len {
-        return false;
+impl SpiffeId {
+    // Whether it is a name. A length above the field is a no.
+    pub fn is_valid(&self) -> bool
+        ensures { result ≡ valid_spiffe_id self.now }
+    {
+        if MAX_VOTER_SPIFFE_ID_BYTES < self.len {
+            return false;
+        }
+        is_name(&self.bytes[..self.len])
     }
-    is_name(&bytes[..len])
-}
-
-// The numbers of an attestation: what was observed, decided and issued came in that order.
-pub fn are_valid_times(
-    generation: u64,
-    observation_start_ms: u64,
-    decision_ms: u64,
-    issued_ms: u64,
-    expires_ms: u64,
-) -> bool
-    ensures { result ≡ (ltb 0 generation && (leb observation_start_ms decision_ms && (leb decision_ms issued_ms && ltb issued_ms expires_ms))) }
-{
-    (0 < generation)
-        & ((observation_start_ms <= decision_ms)
-            & ((decision_ms <= issued_ms) & (issued_ms < expires_ms)))
 }
 
 // `VoterSlotTable::validate`, after 30.
