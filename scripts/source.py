@@ -205,11 +205,14 @@ class Source:
         result = '()'
         if tokens[at].text == '->':
             first = at + 1
-            while tokens[at].text not in ('requires', 'ensures', 'ghost', '{'):
+            while tokens[at].text not in ('requires', 'ensures', 'ghost', '{', ';'):
                 at += 1
             result = self.type_text(tokens, first, at)
         clauses = set()
         while tokens[at].text != '{':
+            # a method that a trait declares has no body
+            if tokens[at].text == ';':
+                return at + 1
             clauses.add(tokens[at].text)
             while tokens[at].text != '{':
                 at += 1

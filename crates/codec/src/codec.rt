@@ -25,16 +25,17 @@ use writer::encode::{put_table, table_size};
 // Hard ceiling for one complete durable slot table, independent of application size.
 pub const MAX_VOTER_SLOT_TABLE_BYTES: usize = 65536;
 
-// An answer, and the table that was read. A reading refused returns the blank table, all zero:
-// callers of the C interface are given it.
+// An answer, and the table that was read. The answer stands beside the table and is no `Result` with
+// it, since document 01 has a refused reading give the blank table, all zero: callers of the C
+// interface are handed it.
 #[derive(Clone, Copy)]
 pub struct DecodedTable {
     pub answer: Answer,
     pub table: VoterSlotTable,
 }
 
-// An answer, and the attestation that was read. A reading refused returns the blank attestation,
-// all zero.
+// An answer, and the attestation that was read. They stand beside each other as a table and its
+// answer do: a refused reading gives the blank attestation, all zero.
 #[derive(Clone, Copy)]
 pub struct DecodedAttestation {
     pub answer: Answer,

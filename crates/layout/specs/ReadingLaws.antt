@@ -7,7 +7,7 @@ use Rattle.format.specs.Combinators.{dep, check}
 use Rattle.format.specs.Num.{uint, raw}
 use Rattle.format.specs.Copy.{drop-replicate, zeros}
 use Rattle.format.specs.Reads.{reads, then_read, made_read, tested_read, reads_via, reads_check, reads_two, reads_pair, fused, same_then, reads_four, then_three, then_four}
-use Rattle.records.specs.Equality.{eq_bytes, eq_list}
+use Rattle.records.specs.Equality.{eq_bytes}
 use Rattle.layout.specs.Layout.{magic, head_test, magic_and_version, table_head, slot_count, slots, replacement, table_front, table, max_attestation_bytes, attestation, claims, claims_request, claims_slot, claims_names, claims_end, spiffe_id, configuration, choice, evidence, change}
 use Rattle.layout.specs.Parts.{table_of, attestation_of, replacement_of, blank_voter_slot_records}
 use Rattle.format.specs.List.{opt}

@@ -47,7 +47,8 @@ pub struct ThreeCuts {
 // Hard ceiling for one complete signed loss-attestation frame.
 pub const MAX_LOST_VOTER_ATTESTATION_BYTES: usize = 8192;
 
-// The version of a table and of an attestation.
+// The version of a table and of an attestation. It is a number and no enum: it is compared with bytes
+// that may hold any number, and there is no other version.
 pub const VERSION: u64 = 1;
 
 // The four groups of an attestation: which request,
@@ -147,8 +148,8 @@ pub fn result_of(
     }
 }
 
-// The records of their parts. Each has two parts or more, so these are functions and no `From`: a
-// member of its identity and its binding,
+// and the evidence of its first cut, its snapshot, with the flag beside it as the record and its C
+// layout have it, and its other six cuts.
 pub fn evidence_of(
     prepare: VoterSlotLogId,
     has_snapshot: bool,

@@ -4,7 +4,7 @@
 // 717de332e7, Apache-2.0 (see NOTICE). Changed: groups of fields that stand together have a reader
 // of their own (layout's parts.rt); lists fill a place of nine.
 ghost use Rattle.std.specs.Prelude.{◌≡◌, ◌≤◌, length, IfOk};
-ghost use Rattle.format.specs.Through.{whole, boxed};
+ghost use Rattle.format.specs.Through.{whole};
 ghost use Rattle.format.specs.Reads.{reads};
 ghost use Rattle.records.specs.Blank.{blank_voter_slot_member, blank_voter_replacement_result, blank_voter_slot_record, blank_voter_snapshot_evidence, blank_lost_voter_attestation_v1, blank_voter_replacement_record};
 ghost use Rattle.layout.specs.Told.{told, told_at, told_whole, told_whole_at};
@@ -145,15 +145,6 @@ impl<'a> Reader<'a> {
         Ok(())
     }
 
-    // `sized_bytes(MAX_LOST_VOTER_ATTESTATION_BYTES)`, and the attestation in them.
-    #[tactic(auto, using(format::specs::ReadsMore::reads_boxed), unfolding(layout::specs::Layout::sized))]
-    fn boxed_attestation(&mut self, place: &mut LostVoterAttestationV1) -> Result<(), Refusal>
-        requires { place.old ≡ blank_lost_voter_attestation_v1 }
-        ensures { told_at result place.new self.new.bytes.now ≡ reads (boxed attestation 8192) self.old.bytes.now }
-    {
-        fill_whole_attestation(self.sized_bytes(MAX_LOST_VOTER_ATTESTATION_BYTES)?, place)
-    }
-
     // The evidence of a replacement.
     #[tactic(auto, using(format::specs::Reads::reads_four), unfolding(layout::specs::Layout::evidence))]
     fn evidence(&mut self) -> Result<VoterReplacementEvidence, Refusal>
@@ -167,13 +158,14 @@ impl<'a> Reader<'a> {
     }
 
     // An open request, into a place that is blank.
-    #[tactic(auto, using(layout::specs::ReadingLaws::reads_replacement, layout::specs::ReadingLaws::blank_attestation))]
+    #[tactic(auto, using(layout::specs::ReadingLaws::reads_replacement, layout::specs::ReadingLaws::blank_attestation, format::specs::ReadsMore::reads_boxed), unfolding(layout::specs::Layout::sized))]
     fn replacement(&mut self, place: &mut VoterReplacementRecord) -> Result<(), Refusal>
         requires { place.old ≡ blank_voter_replacement_record }
         ensures { told_at result place.new self.new.bytes.now ≡ reads replacement self.old.bytes.now }
     {
         place.expected_revision = self.u64()?;
-        self.boxed_attestation(&mut place.attestation)?;
+        let sized = self.sized_bytes(MAX_LOST_VOTER_ATTESTATION_BYTES)?;
+        fill_whole_attestation(sized, &mut place.attestation)?;
         place.predecessor = self.configuration()?;
         place.successor = self.configuration()?;
         place.phase = self.choice(PREPARED, UNIFORM)?;

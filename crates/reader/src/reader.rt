@@ -201,7 +201,9 @@ impl<'a> Reader<'a> {
         Ok((true, T::decode(self)?))
     }
 
-    // The first so many of the nine places, which are blank; the others stay so.
+    // The first so many of the nine places, which are blank; the others stay so. It takes the count
+    // beside them: of a part, `&mut places[..count]`, that is lent, each exit of its callers needed an
+    // answer of its own to say that the part and the blanks behind it are the form's nine.
     #[tactic(auto, using(format::specs::ReadsMore::filled_none, format::specs::ReadsMore::padded_refused))]
     pub fn fill<T: Decode + Blank + Copy>(
         &mut self,
