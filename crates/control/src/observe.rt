@@ -386,46 +386,34 @@ fn has_few_members(table: &VoterSlotTable) -> bool
 }
 
 // The verdict. On a table not known to be valid a change still needs `confirm`.
-pub fn weigh(
-    table: VoterSlotTable,
-    sets: &[ConsensusNodeId],
-    counts: &[usize],
-    nodes: &[ConsensusNodeId],
-    cut: VoterSlotLogId,
-) -> Result<Observed, Refusal>
-    ensures { verdict_of_observed result ≡ weighed table sets.now counts.now nodes.now cut }
+pub fn weigh(table: VoterSlotTable, observation: VoterObservation) -> Result<Observed, Refusal>
+    ensures { verdict_of_observed result ≡ weighed table observation.entry.sets.now observation.entry.counts.now observation.entry.nodes.now observation.entry.cut }
 {
-    weigh_lent(&table, sets, counts, nodes, cut)
+    weigh_lent(&table, observation)
 }
 
 // The same on a table that is lent.
-fn weigh_lent(
-    table: &VoterSlotTable,
-    sets: &[ConsensusNodeId],
-    counts: &[usize],
-    nodes: &[ConsensusNodeId],
-    cut: VoterSlotLogId,
-) -> Result<Observed, Refusal>
-    ensures { verdict_of_observed result ≡ weighed table.now sets.now counts.now nodes.now cut }
+fn weigh_lent(table: &VoterSlotTable, observation: VoterObservation) -> Result<Observed, Refusal>
+    ensures { verdict_of_observed result ≡ weighed table.now observation.entry.sets.now observation.entry.counts.now observation.entry.nodes.now observation.entry.cut }
 {
     let few = has_few_members(table);
-    let counted = add_up(counts, sets.len());
-    let held = are_held(sets);
-    let nodes_held = are_held(nodes);
+    let counted = add_up(observation.counts, observation.sets.len());
+    let held = are_held(observation.sets);
+    let nodes_held = are_held(observation.nodes);
     if !(few & ((counted & held) & nodes_held)) {
         return Err(Refusal::Unrepresentable);
     }
-    let rising = sets_rise(sets, counts);
-    let nodes_rise = rises(nodes);
+    let rising = sets_rise(observation.sets, observation.counts);
+    let nodes_rise = rises(observation.nodes);
     if !(rising & nodes_rise) {
         return Err(Refusal::NotRising);
     }
     let membership = Membership {
-        sets,
-        counts,
-        nodes,
+        sets: observation.sets,
+        counts: observation.counts,
+        nodes: observation.nodes,
     };
-    judge_sets(table, &membership, cut)
+    judge_sets(table, &membership, observation.cut)
 }
 
 // The whole validity is asked for only where something is new.
@@ -528,78 +516,51 @@ pub fn uniform_table(mut table: VoterSlotTable, cut: VoterSlotLogId) -> VoterSlo
 // ---- the calls
 
 // An observation of a table that is known to be valid, by value.
-pub fn observe_valid(
-    mut table: VoterSlotTable,
-    sets: &[ConsensusNodeId],
-    counts: &[usize],
-    nodes: &[ConsensusNodeId],
-    cut: VoterSlotLogId,
-) -> Controlled
+pub fn observe_valid(mut table: VoterSlotTable, observation: VoterObservation) -> Controlled
     requires { validate table ≡ Accepted }
-    ensures { (result.answer, result.table) ≡ observe_membership table sets.now counts.now nodes.now cut }
+    ensures { (result.answer, result.table) ≡ observe_membership table observation.entry.sets.now observation.entry.counts.now observation.entry.nodes.now observation.entry.cut }
 {
-    let answer = observe_in_place(&mut table, sets, counts, nodes, cut);
+    let answer = observe_in_place(&mut table, observation);
     Controlled { answer, table }
 }
 
 // `VoterSlotTable::observe_membership`.
-pub fn observe_membership(
-    mut table: VoterSlotTable,
-    sets: &[ConsensusNodeId],
-    counts: &[usize],
-    nodes: &[ConsensusNodeId],
-    cut: VoterSlotLogId,
-) -> Controlled
-    ensures { (result.answer, result.table) ≡ observe_membership table sets.now counts.now nodes.now cut }
+pub fn observe_membership(mut table: VoterSlotTable, observation: VoterObservation) -> Controlled
+    ensures { (result.answer, result.table) ≡ observe_membership table observation.entry.sets.now observation.entry.counts.now observation.entry.nodes.now observation.entry.cut }
 {
-    let answer = observe_membership_in_place(&mut table, sets, counts, nodes, cut);
+    let answer = observe_membership_in_place(&mut table, observation);
     Controlled { answer, table }
 }
 
 // The verdict of the entry point: 30 of the table, and its validity where something is new.
-fn weigh_entry(
-    table: &VoterSlotTable,
-    sets: &[ConsensusNodeId],
-    counts: &[usize],
-    nodes: &[ConsensusNodeId],
-    cut: VoterSlotLogId,
-) -> Result<Observed, Refusal>
-    ensures { verdict_of_observed result ≡ entry_weighed table.now sets.now counts.now nodes.now cut }
+fn weigh_entry(table: &VoterSlotTable, observation: VoterObservation) -> Result<Observed, Refusal>
+    ensures { verdict_of_observed result ≡ entry_weighed table.now observation.entry.sets.now observation.entry.counts.now observation.entry.nodes.now observation.entry.cut }
 {
     if !table.is_representable() {
         return Err(Refusal::Unrepresentable);
     }
-    let judged = weigh_lent(table, sets, counts, nodes, cut);
+    let judged = weigh_lent(table, observation);
     confirm(table, judged)
 }
 
 // `observe_membership` on a table that is lent: any table, any sets, any nodes and any cut.
 pub fn observe_membership_in_place(
     table: &mut VoterSlotTable,
-    sets: &[ConsensusNodeId],
-    counts: &[usize],
-    nodes: &[ConsensusNodeId],
-    cut: VoterSlotLogId,
+    observation: VoterObservation,
 ) -> Answer
-    ensures { (result, table.new) ≡ observe_membership table.old sets.now counts.now nodes.now cut }
+    ensures { (result, table.new) ≡ observe_membership table.old observation.entry.sets.now observation.entry.counts.now observation.entry.nodes.now observation.entry.cut }
 {
-    let observed = weigh_entry(table, sets, counts, nodes, cut)?;
-    carry_out(table, observed, cut);
+    let observed = weigh_entry(table, observation)?;
+    carry_out(table, observed, observation.cut);
     Ok(())
 }
 
 // An observation of a table that is lent and known to be valid.
-pub fn observe_in_place(
-    table: &mut VoterSlotTable,
-    sets: &[ConsensusNodeId],
-    counts: &[usize],
-    nodes: &[ConsensusNodeId],
-    cut: VoterSlotLogId,
-) -> Answer
+pub fn observe_in_place(table: &mut VoterSlotTable, observation: VoterObservation) -> Answer
     requires { validate table.old ≡ Accepted }
-    ensures { (result, table.new) ≡ observe_membership table.old sets.now counts.now nodes.now cut }
+    ensures { (result, table.new) ≡ observe_membership table.old observation.entry.sets.now observation.entry.counts.now observation.entry.nodes.now observation.entry.cut }
 {
-    let observed = weigh_lent(table, sets, counts, nodes, cut)?;
-    carry_out(table, observed, cut);
+    let observed = weigh_lent(table, observation)?;
+    carry_out(table, observed, observation.cut);
     Ok(())
 }
