@@ -10,7 +10,7 @@ ghost use Rattle.journal.specs.Replay.{opening};
 ghost use Rattle.journal.specs.RunHistory.{LineOfRun};
 
 use crate::line::{LONGEST_LINE, put_line};
-use crate::observation::{MOST_IDS, no_counts, no_ids};
+use crate::observation::{IdRoom, MOST_IDS};
 use crate::record::{Record, record_at};
 use crate::replay::Mark;
 use crate::step::*;
@@ -146,8 +146,7 @@ fn play_on(from: Opened, input: &[u8], last: bool, out: &mut [u8]) -> Opened
     requires { Safe input.now (length out.old) from × (from.stands ≡ true) }
     ensures { Goes input.now last from out.old result out.new × (result.place.turns ≡ 0) }
 {
-    let mut ids = no_ids::<MOST_IDS>();
-    let mut counts = no_counts();
+    let mut room = IdRoom::<MOST_IDS>::new();
     let mut place = from.place;
     let mut t = from.table;
     while 0 < place.turns {
@@ -157,7 +156,7 @@ fn play_on(from: Opened, input: &[u8], last: bool, out: &mut [u8]) -> Opened
             Mark::Mk => Called::Command(judge_marker_body(t, body)),
             Mark::Ad => Called::Command(judge_advance_body(t, body)),
             Mark::Bg => Called::Command(judge_begin_body(t, body)),
-            Mark::Ob => Called::Observation(judge_observation_body(t, body, &mut ids, &mut counts)),
+            Mark::Ob => Called::Observation(judge_observation_body(t, body, &mut room)),
             Mark::Tb | Mark::Unknown => Called::Command(Err(Refusal::BadRecord)),
         };
         match called {

@@ -99,7 +99,7 @@ judge_begin_body-requires c = valid-at c.loop-place.t (c.loop-place.invariant.1.
 pub judge_observation_body-requires : goal.judge_observation_body-requires
 judge_observation_body-requires c =
     let h = found c.args.input.now c.args.last c.loop-place.place.read c.loop-place.invariant.1.within c.type_inv.input c.record_at-found.result c.record_at-found.ensures in
-    (valid-at c.loop-place.t (c.loop-place.invariant.1.valid (omega arith)), simp (length-take, length-drop) (omega arith))
+    simp (length-take, length-drop) (omega arith)
 
 pub snapshot_table-t-requires : goal.snapshot_table-t-requires
 snapshot_table-t-requires c =
