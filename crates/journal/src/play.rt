@@ -27,7 +27,8 @@ use records::validation::validate_table;
 // Where a log stands.
 #[derive(Clone, Copy)]
 pub struct Journal {
-    // There is a table.
+    // There is a table. No `Option` has both: a log with no table keeps the value that it was given, and
+    // a start that is refused gives its table back, as document 01 has it of every refused call.
     pub stands: bool,
     // How many records were read.
     pub count: u64,
@@ -37,7 +38,8 @@ pub struct Journal {
     pub table: VoterSlotTable,
 }
 
-// What was played. A start whose table is not valid is refused, and nothing is played.
+// What was played. A start whose table is not valid is refused, and nothing is played. The answer stands
+// beside the journal, and is no `Result`: a refused start gives its journal back, by document 01.
 #[derive(Clone, Copy)]
 pub struct Played {
     // Accepted, or why the start is refused.

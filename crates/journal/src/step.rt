@@ -138,7 +138,10 @@ pub fn judge_observation_body(
 }
 
 // The table after the record. Where the table that stands is to be changed, its owner chooses the
-// maker itself, as `play_on` does: what this returns is copied.
+// maker itself, by the same arms, as `play_on` does: what this returns is copied.
+//
+// That what was judged may be made (`Makes`) is a clause: it goes by cases, so that a struct of table,
+// body and `Called` could hold it only truncated, and each maker would have to take it out again.
 pub fn make_record(table: VoterSlotTable, body: &[u8], called: Called) -> VoterSlotTable
     requires { Makes table body.now called }
     ensures { result ≡ made_by table body.now called }
@@ -187,6 +190,10 @@ fn make_observation(
 }
 
 // ---- what a body that was judged holds, read again for a maker
+//
+// What was judged does not carry it: `Called` would need a case for each kind of body, with a value of up
+// to 5 KB that `play_on` and `make_record` take apart again, and a law for each. So a maker's body is read
+// from the bytes, and what is returned of bytes that hold none is a blank.
 
 // The Advance.
 pub fn advance_in(body: &[u8]) -> VoterAdvance
