@@ -7,7 +7,6 @@ use mathlib.Core.Logic.◌⊎◌.{inl, inr}
 use lib.ListN.{length, length-take, length-drop}
 use Rattle.std.proofs.Common.{rules}
 use Rattle.control.specs.Verdicts.{step_made}
-use Rattle.control.specs.ObserveSight.{verdict_of_observed}
 use Rattle.control.specs.Judgement.Addition.{adds_learner, adds_joint, adds_uniform}
 use Rattle.control.specs.Judgement.Move.{records_snapshot, records_caught_up, continues, fences, finalizes}
 use Rattle.journal.specs.declared.play.Opened.{Opened}
