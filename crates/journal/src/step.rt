@@ -3,11 +3,11 @@
 // is a small value.
 //
 // Document 01, section "Replay program". No part of the original has it.
-ghost use Rattle.std.specs.Prelude.{◌+◌, ◌≤◌, ◌≡◌, length, take, drop};
+ghost use Rattle.std.specs.Prelude.{◌≤◌, ◌≡◌, length};
 ghost use Rattle.identity.specs.Answer.{Accepted};
 ghost use Rattle.records.specs.Validation.{validate};
 ghost use Rattle.control.specs.Verdicts.{verdict_of};
-ghost use Rattle.control.specs.ObserveSight.{verdict_of_observed, weighed};
+ghost use Rattle.control.specs.ObserveSight.{verdict_of_observed};
 ghost use Rattle.journal.specs.declared.replay.Mark.TheVariants.{Ad, Bg, Mk, Ob};
 ghost use Rattle.journal.specs.Replay.{asking};
 ghost use Rattle.journal.specs.Step.{HoldsAdvance, HoldsBegin, Makes, MakesCommand, MakesObservation, answer_of_called, is_changing, checked_call, command_verdict, cut_at, made_by, made_by_command, made_by_observation, numbered, observation_verdict};
@@ -72,6 +72,11 @@ fn check_call(
 }
 
 // The judges of the bodies: 33 for one that is not of its form, and then as the calls. An MK;
+//
+// That the table is valid is a clause, here and in the calls on these. A type of its own, which lends
+// the table, was tried: the judges of `control` take it by value, and copy what is lent. A marker then
+// took 30 percent more instructions and an advance 16, and replacements fell from 2.2 to 2.8 times the
+// original's rate to 1.8 to 2.1, where the bar is 2. By value, as a field, it is copied as well.
 #[tactic(auto, using(crate::proofs::StepLaws::marker_entry), unfolding(crate::specs::Step::command_verdict, crate::specs::Replay::marker_asked))]
 pub fn judge_marker_body(table: VoterSlotTable, body: &[u8]) -> Result<Judged, Refusal>
     requires { validate table ≡ Accepted }
@@ -117,44 +122,25 @@ pub fn judge_begin_body(table: VoterSlotTable, body: &[u8]) -> Result<Judged, Re
     }
 }
 
-// an OB, whose ids and counts are read into the lent arrays.
+// an OB, whose ids and counts are read into the room that is lent.
 #[tactic(auto, unfolding(crate::specs::Step::observation_verdict))]
 pub fn judge_observation_body(
     table: VoterSlotTable,
     body: &[u8],
-    ids: &mut [u64; MOST_IDS],
-    counts: &mut [usize; MOST_SETS],
+    room: &mut IdRoom<MOST_IDS>,
 ) -> Result<Observed, Refusal>
-    requires { (validate table ≡ Accepted) × (length body.now ≤ 65535) }
+    requires { length body.now ≤ 65535 }
     ensures { numbered (verdict_of_observed result) ≡ observation_verdict table (asking Ob body.now) }
 {
-    let Some(read) = read_observation(body, ids, counts) else {
-        return Err(Refusal::BadRecord);
-    };
-    weigh_read(table, read, ids, counts)
-}
-
-// What was read, from the front of the ids and of the counts.
-pub fn weigh_read(
-    table: VoterSlotTable,
-    read: ObservationRead,
-    ids: &[u64],
-    counts: &[usize],
-) -> Result<Observed, Refusal>
-    requires { (read.ids + read.nodes ≤ length ids.now) × (read.sets ≤ length counts.now) }
-    ensures { verdict_of_observed result ≡ weighed table (take read.ids ids.now) (take read.sets counts.now) (take read.nodes (drop read.ids ids.now)) read.cut }
-{
-    weigh(
-        table,
-        &ids[..read.ids],
-        &counts[..read.sets],
-        &ids[read.ids..read.ids + read.nodes],
-        read.cut,
-    )
+    let observation = room.read(body).ok_or(Refusal::BadRecord)?;
+    weigh(table, observation)
 }
 
 // The table after the record. Where the table that stands is to be changed, its owner chooses the
-// maker itself, as `play_on` does: what this returns is copied.
+// maker itself, by the same arms, as `play_on` does: what this returns is copied.
+//
+// That what was judged may be made (`Makes`) is a clause: it goes by cases, so that a struct of table,
+// body and `Called` could hold it only truncated, and each maker would have to take it out again.
 pub fn make_record(table: VoterSlotTable, body: &[u8], called: Called) -> VoterSlotTable
     requires { Makes table body.now called }
     ensures { result ≡ made_by table body.now called }
@@ -203,12 +189,17 @@ fn make_observation(
 }
 
 // ---- what a body that was judged holds, read again for a maker
+//
+// What was judged does not carry it: `Called` would need a case for each kind of body, with a value
+// of up to 5 KB that `play_on` and `make_record` take apart again, and a law for each. So a maker's
+// body is read from the bytes. What is returned of bytes that hold none is a default, which nobody
+// looks at.
 
 // The Advance.
 pub fn advance_in(body: &[u8]) -> VoterAdvance
     ensures { HoldsAdvance body.now result }
 {
-    read_advance(body).unwrap_or(blank_advance())
+    read_advance(body).unwrap_or_default()
 }
 
 // The Begin.
@@ -217,7 +208,7 @@ pub fn begin_in(body: &[u8]) -> VoterBegin
 {
     match read_begin(body) {
         Some(Ok(begin)) => begin,
-        _ => blank_begin(),
+        _ => VoterBegin::default(),
     }
 }
 
@@ -229,36 +220,4 @@ pub fn cut_in(body: &[u8]) -> VoterSlotLogId
     Reader::new(body)
         .log_id()
         .unwrap_or_default()
-}
-
-// What is made of no body: a judged one is of its form, so nobody looks at them.
-fn blank_advance() -> VoterAdvance {
-    VoterAdvance {
-        request_id: [0; 16],
-        request_digest: [0; 32],
-        step: VoterReplacementStep {
-            kind: RECORD_SNAPSHOT,
-            snapshot: VoterSnapshotEvidence::default(),
-            caught_up: VoterSlotLogId::default(),
-        },
-        cut: VoterSlotLogId::default(),
-    }
-}
-
-fn blank_begin() -> VoterBegin {
-    VoterBegin {
-        request: VoterReplacementRequest {
-            expected_revision: 0,
-            expected_configuration: ConsensusIdentity {
-                cluster_id: [0; 32],
-                configuration_id: [0; 32],
-                configuration_epoch: 0,
-            },
-            candidate: VoterSlotMember::default(),
-            attestation: LostVoterAttestationV1::default(),
-            supplied_request_digest: [0; 32],
-            supplied_configuration_id: [0; 32],
-        },
-        cut: VoterSlotLogId::default(),
-    }
 }

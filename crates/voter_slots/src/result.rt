@@ -5,8 +5,10 @@ ghost use Rattle.identity.specs.Answer.{Accepted};
 ghost use Rattle.records.specs.Blank.{blank_voter_slot_table};
 ghost use Rattle.records.specs.Validation.{validate};
 ghost use Rattle.codec.specs.Codec.{decoded, decode_voter_slot_table};
-ghost use Rattle.voter_slots.specs.Export.{refused_result, numbers_of, written};
+ghost use Rattle.control.specs.Retired.{retired_number};
+ghost use Rattle.voter_slots.specs.Export.{refused_result, numbers_of, said, written};
 
+use crate::{NOT_RETIRED, RETIRED};
 use identity::answer::{Answer, Refusal, number};
 use layout::put::put_bytes;
 use records::records::VoterSlotTable;
@@ -45,6 +47,27 @@ pub fn refused(answer: Answer) -> VoterSlotsResult
     }
 }
 
+// What a call says, or why it refuses.
+pub fn said(called: Result<VoterSlotsResult, Refusal>) -> VoterSlotsResult
+    ensures { result ≡ said called }
+{
+    match called {
+        Ok(said) => said,
+        Err(refusal) => refused(Err(refusal)),
+    }
+}
+
+// The retired test's no or yes, or the number of a refusal.
+pub fn retired_number(retired: Result<bool, Refusal>) -> u32
+    ensures { result ≡ retired_number retired }
+{
+    match retired {
+        Ok(false) => NOT_RETIRED,
+        Ok(true) => RETIRED,
+        Err(refusal) => refusal as u32,
+    }
+}
+
 // What a service asks of a table, and how many bytes it takes.
 pub fn numbers_of(table: VoterSlotTable, count: usize) -> VoterSlotsResult
     requires { table.count ≤ 9 }
@@ -68,25 +91,29 @@ pub fn numbers_of(table: VoterSlotTable, count: usize) -> VoterSlotsResult
 }
 
 // Writes a valid table, without asking again whether it is one.
-pub fn write_table(table: VoterSlotTable, out: &mut [u8]) -> VoterSlotsResult
+pub fn write_table(table: VoterSlotTable, out: &mut [u8]) -> Result<VoterSlotsResult, Refusal>
     requires { validate table ≡ Accepted }
-    ensures { (result, out.new) ≡ written table out.old }
+    ensures { (said result, out.new) ≡ written table out.old }
 {
     if out.len() < table_size(table) {
-        return refused(Err(Refusal::BufferTooShort));
+        return Err(Refusal::BufferTooShort);
     }
     let count = put_table(out, 0, table);
-    numbers_of(table, count)
+    Ok(numbers_of(table, count))
 }
 
 // Writes the table that these bytes were read as: they are its bytes.
-pub fn write_again(bytes: &[u8], table: VoterSlotTable, out: &mut [u8]) -> VoterSlotsResult
+pub fn write_again(
+    bytes: &[u8],
+    table: VoterSlotTable,
+    out: &mut [u8],
+) -> Result<VoterSlotsResult, Refusal>
     requires { decoded blank_voter_slot_table (decode_voter_slot_table bytes.now) ≡ (0, table) }
-    ensures { (result, out.new) ≡ written table out.old }
+    ensures { (said result, out.new) ≡ written table out.old }
 {
     if out.len() < bytes.len() {
-        return refused(Err(Refusal::BufferTooShort));
+        return Err(Refusal::BufferTooShort);
     }
     let count = put_bytes(out, 0, bytes);
-    numbers_of(table, count)
+    Ok(numbers_of(table, count))
 }
