@@ -9,12 +9,10 @@ ghost use Rattle.identity.specs.Text.{is_utf8, is_name, is_snapshot_id};
 use codec::codec::encode_voter_slot_table;
 use identity::answer::{Answer, Refusal, number};
 use raw::table::table_in;
-use records::blank::blank_voter_slot_table;
+use records::blank::are_blank;
 use records::records::VoterSlotTable;
-use records::representable::is_representable;
 use records::successor::validate_successor_of;
 use records::validation::validate_table;
-use records::zero::zeros;
 
 #[unsafe(no_mangle)]
 pub extern "C" fn bench_is_utf8(bytes: &[u8]) -> bool
@@ -46,7 +44,7 @@ pub extern "C" fn bench_zeros(bytes: &[u8], turns: u64) -> u64 {
     for i in 0..turns {
         let from = (i % 2) as usize;
         if let Some(seen) = bytes.get(from..)
-            && !zeros(seen)
+            && !are_blank(seen)
         {
             refused = 1;
         }
@@ -125,7 +123,7 @@ fn later(table: VoterSlotTable) -> VoterSlotTable {
 }
 
 fn representable_of(table: VoterSlotTable) -> u64 {
-    if is_representable(table) {
+    if table.is_representable() {
         return 0;
     }
     number_of(Err(Refusal::Unrepresentable))
@@ -136,5 +134,5 @@ fn table_of_bytes(bytes: &[u8]) -> VoterSlotTable {
     bytes
         .first_chunk()
         .and_then(table_in)
-        .unwrap_or(blank_voter_slot_table())
+        .unwrap_or_default()
 }

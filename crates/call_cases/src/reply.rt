@@ -4,6 +4,7 @@ use control::apply::apply_control;
 use control::control::VoterSlotControl;
 use control::observe::observe_membership;
 use control::retired::is_retired;
+use control::sets::VoterObservation;
 use identity::answer::{Answer, accepted};
 use questions::question::Question;
 use questions::reply::{Reply, number};
@@ -84,13 +85,13 @@ fn observe(body: &[u8], table: VoterSlotTable) -> Option<Reply> {
     let mut counts = [0; MOST_SETS];
     let mut nodes = [0; MOST_IDS];
     let laid = lay_observation(&mut ids, &mut counts, &mut nodes, body)?;
-    let controlled = observe_membership(
-        table,
-        &ids[..laid.ids],
-        &counts[..laid.sets],
-        &nodes[..laid.nodes],
-        laid.cut,
-    );
+    let observation = VoterObservation {
+        sets: &ids[..laid.ids],
+        counts: &counts[..laid.sets],
+        nodes: &nodes[..laid.nodes],
+        cut: laid.cut,
+    };
+    let controlled = observe_membership(table, observation);
     Some(given_back(controlled.answer, controlled.table))
 }
 

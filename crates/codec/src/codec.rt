@@ -18,9 +18,8 @@ use identity::answer::{Answer, Refusal};
 use layout::parts::MAX_LOST_VOTER_ATTESTATION_BYTES;
 use reader::decode::fill_whole_attestation;
 use reader::reader::Reader;
-use records::blank::{blank_lost_voter_attestation_v1, blank_voter_slot_table};
 use records::records::{LostVoterAttestationV1, VoterSlotTable};
-use records::validation::{validate_representable, validate_table};
+use records::validation::validate_table;
 use writer::encode::{put_table, table_size};
 
 // Hard ceiling for one complete durable slot table, independent of application size.
@@ -48,7 +47,7 @@ pub struct DecodedAttestation {
 pub fn read_voter_slot_table(bytes: &[u8]) -> Result<VoterSlotTable, Refusal>
     ensures { told_whole result (length bytes.now) ≡ decode_voter_slot_table bytes.now }
 {
-    let mut table = blank_voter_slot_table();
+    let mut table = VoterSlotTable::default();
     fill_voter_slot_table(bytes, &mut table)?;
     Ok(table)
 }
@@ -59,7 +58,7 @@ pub fn read_voter_slot_table(bytes: &[u8]) -> Result<VoterSlotTable, Refusal>
 pub fn decode_voter_slot_table(bytes: &[u8]) -> DecodedTable
     ensures { (number_of result.answer, result.table) ≡ decoded blank_voter_slot_table (decode_voter_slot_table bytes.now) }
 {
-    let mut table = blank_voter_slot_table();
+    let mut table = VoterSlotTable::default();
     match fill_voter_slot_table(bytes, &mut table) {
         Ok(()) => DecodedTable {
             answer: Ok(()),
@@ -80,7 +79,7 @@ pub fn fill_voter_slot_table(bytes: &[u8], table: &mut VoterSlotTable) -> Result
     let mut input = Reader::new(bytes);
     input.table(table)?;
     input.finish()?;
-    validate_representable(*table)
+    table.validate()
 }
 
 // A refused reading.
@@ -90,7 +89,7 @@ fn no_table(refusal: Refusal) -> DecodedTable
 {
     DecodedTable {
         answer: Err(refusal),
-        table: blank_voter_slot_table(),
+        table: VoterSlotTable::default(),
     }
 }
 
@@ -99,7 +98,7 @@ fn no_table(refusal: Refusal) -> DecodedTable
 pub fn read_lost_voter_attestation(bytes: &[u8]) -> Result<LostVoterAttestationV1, Refusal>
     ensures { told_whole result (length bytes.now) ≡ decode_lost_voter_attestation bytes.now }
 {
-    let mut attestation = blank_lost_voter_attestation_v1();
+    let mut attestation = LostVoterAttestationV1::default();
     fill_lost_voter_attestation(bytes, &mut attestation)?;
     Ok(attestation)
 }
@@ -108,7 +107,7 @@ pub fn read_lost_voter_attestation(bytes: &[u8]) -> Result<LostVoterAttestationV
 pub fn decode_lost_voter_attestation(bytes: &[u8]) -> DecodedAttestation
     ensures { (number_of result.answer, result.attestation) ≡ decoded blank_lost_voter_attestation_v1 (decode_lost_voter_attestation bytes.now) }
 {
-    let mut attestation = blank_lost_voter_attestation_v1();
+    let mut attestation = LostVoterAttestationV1::default();
     match fill_lost_voter_attestation(bytes, &mut attestation) {
         Ok(()) => DecodedAttestation {
             answer: Ok(()),
@@ -116,7 +115,7 @@ pub fn decode_lost_voter_attestation(bytes: &[u8]) -> DecodedAttestation
         },
         Err(refusal) => DecodedAttestation {
             answer: Err(refusal),
-            attestation: blank_lost_voter_attestation_v1(),
+            attestation: LostVoterAttestationV1::default(),
         },
     }
 }
@@ -130,7 +129,7 @@ pub fn fill_lost_voter_attestation(
 ) -> Result<(), Refusal>
     ensures { told_whole_at result attestation.new (length bytes.now) ≡ decode_lost_voter_attestation bytes.now }
 {
-    *attestation = blank_lost_voter_attestation_v1();
+    *attestation = LostVoterAttestationV1::default();
     if MAX_LOST_VOTER_ATTESTATION_BYTES < bytes.len() {
         return Err(Refusal::TooLarge);
     }

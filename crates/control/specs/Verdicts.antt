@@ -41,17 +41,6 @@ answer_of (refused answer) = answer
 answer_of kept = Accepted
 answer_of (moves m) = Accepted
 
--- the number of the table that is made, 0 for none
-abbrev pub route_of : Verdict Move → ℕ
-route_of (refused answer) = 0
-route_of kept = 0
-route_of (moves records_snapshot) = 1
-route_of (moves records_caught_up) = 2
-route_of (moves continues) = 3
-route_of (moves fences) = 4
-route_of (moves finalizes) = 5
-route_of (moves begins) = 6
-
 -- what a step of an Advance makes
 unfoldable pub step_made : VoterSlotTable → VoterReplacementStep → VoterSlotLogId → Move → VoterSlotTable
 step_made t s cut begins = t

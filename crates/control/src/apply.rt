@@ -21,8 +21,6 @@ use crate::representable::is_representable_control;
 use identity::answer::{Answer, Refusal};
 use records::evidence::is_valid_log_id;
 use records::records::{VoterSlotLogId, VoterSlotTable};
-use records::representable::is_representable;
-use records::validation::validate_representable;
 
 // An answer, and the table: the next one, or the one that was given.
 #[derive(Clone, Copy)]
@@ -49,15 +47,15 @@ pub fn apply_control(
 
 // The tests of the entry point: 30, and 25 for an invalid table or a zero in the cut.
 #[tactic(auto, unfolding(crate::specs::Verdicts::checked_of))]
-fn checked(table: VoterSlotTable, control: VoterSlotControl, cut: VoterSlotLogId) -> Answer
-    ensures { result ≡ checked_of table control cut }
+fn checked(table: &VoterSlotTable, control: VoterSlotControl, cut: VoterSlotLogId) -> Answer
+    ensures { result ≡ checked_of table.now control cut }
 {
-    let fits = is_representable(table);
+    let fits = table.is_representable();
     let command = is_representable_control(control);
     if !(fits & command) {
         return Err(Refusal::Unrepresentable);
     }
-    let valid = validate_representable(table).is_ok();
+    let valid = table.validate().is_ok();
     let nonzero = is_valid_log_id(cut);
     if !(valid & nonzero) {
         return Err(Refusal::InvalidTransition);
@@ -69,7 +67,7 @@ fn checked(table: VoterSlotTable, control: VoterSlotControl, cut: VoterSlotLogId
 pub fn apply_control_in_place(table: &mut VoterSlotTable, command: VoterCommand) -> Answer
     ensures { (result, table.new) ≡ apply_control table.old command.control command.cut }
 {
-    checked(*table, command.control, command.cut)?;
+    checked(table, command.control, command.cut)?;
     apply_in_place(table, command)
 }
 

@@ -21,9 +21,7 @@ use crate::control::{VoterCommand, VoterReplacementRequest};
 use crate::judge::*;
 use crate::request::*;
 use identity::answer::{Answer, Refusal};
-use records::blank::{blank_optional_log_id, blank_voter_snapshot_evidence};
-use records::equality::{same16, same32};
-use records::evidence::{latest_cut, log_id_follows};
+use records::evidence::log_id_follows;
 use records::records::*;
 
 // A Begin with the cut at which it is committed: what its judge, its maker and its thin call take.
@@ -77,10 +75,8 @@ fn judge_known_request(
 {
     let id = request.attestation.request_id;
     let digest = request.attestation.request_digest;
-    let open_id = table.replacement.attestation.request_id;
-    let same_id = same16(open_id, id);
-    let open_digest = table.replacement.attestation.request_digest;
-    let own = same32(open_digest, digest);
+    let same_id = table.replacement.attestation.request_id == id;
+    let own = table.replacement.attestation.request_digest == digest;
     let receipt = find_receipt(table, id, digest);
     let open = table.has_replacement & same_id;
     match open.then_some(own).or(receipt) {
@@ -149,7 +145,7 @@ fn is_later(table: VoterSlotTable, cut: VoterSlotLogId) -> bool
     ensures { result ≡ begin_test table cut }
 {
     let evidence = table.replacement.evidence;
-    let latest = latest_cut(evidence);
+    let latest = evidence.latest();
     let later = log_id_follows(cut, latest, false);
     !table.has_replacement | later
 }
@@ -289,8 +285,8 @@ fn members_of(
 fn prepared_at(cut: VoterSlotLogId) -> VoterReplacementEvidence
     ensures { result ≡ prepared_at cut }
 {
-    let snapshot = blank_voter_snapshot_evidence();
-    let none = blank_optional_log_id();
+    let snapshot = VoterSnapshotEvidence::default();
+    let none = OptionalLogId::default();
     VoterReplacementEvidence {
         prepare: cut,
         has_snapshot: false,

@@ -175,76 +175,76 @@ fn member_index(configuration: &VoterConfiguration, slot: SlotId) -> usize
     member_place(configuration.members_in_use(), slot).unwrap_or(configuration.count)
 }
 
-// The identity is a superseded candidate's: of the slot being replaced, after the predecessor's
-// incarnation, and not after the attested one.
-#[tactic(auto, unfolding(crate::specs::Observation::is_obsolete))]
-fn is_obsolete(operation: &VoterReplacementRecord, identity: VoterSlotIdentity) -> bool
-    requires { operation.now.predecessor.count ≤ 9 }
-    ensures { result ≡ is_obsolete operation.now (Ok identity) }
-{
-    let predecessor = &operation.predecessor;
-    let slot = operation.attestation.slot;
-    let at = member_index(predecessor, slot);
-    if predecessor.count <= at {
-        return false;
-    }
-    let retired = predecessor.members[at].identity.incarnation;
-    (((operation.phase <= SNAPSHOT_INSTALLED) & (identity.slot == slot))
-        & (retired < identity.incarnation))
-        & (identity.incarnation <= operation.attestation.expected_incarnation)
-}
-
-// Whether the node of neither configuration, if there is one, is a superseded candidate.
-#[tactic(auto, unfolding(crate::specs::Observation::is_obsolete))]
-fn may_linger(operation: &VoterReplacementRecord, node: Option<ConsensusNodeId>) -> bool
-    requires { operation.now.predecessor.count ≤ 9 }
-    ensures { result ≡ lingers_as operation.now node }
-{
-    match node.map(VoterSlotIdentity::from_node_id) {
-        None => true,
-        Some(Ok(identity)) => is_obsolete(operation, identity),
-        Some(Err(_)) => false,
-    }
-}
-
 // ---- what an open request is seen to be
 
-// `old` and `new` are the ids of the members of the predecessor and of the successor.
-fn see_ids(
-    operation: &VoterReplacementRecord,
-    old: &[ConsensusNodeId],
-    new: &[ConsensusNodeId],
-    membership: &Membership,
-) -> Seen
-    requires { operation.now.predecessor.count ≤ 9 }
-    ensures { sight_of result ≡ seen_of operation.now old.now new.now membership.now.sets.now membership.now.counts.now membership.now.nodes.now }
-{
-    let outside = first_outside(membership.nodes, old, new);
-    let lingers = may_linger(operation, outside);
-    let tests = test_sets(
-        old,
-        new,
-        membership,
-        operation.phase,
-        outside.is_none(),
-        lingers,
-    );
-    see_by(operation.phase, tests)
+// An open request whose configurations have nine members at most: their counts are gone by.
+#[derive(Clone, Copy)]
+struct OpenRequest<'a> {
+    operation: &'a VoterReplacementRecord,
+    ghost few_before: { operation.now.predecessor.count ≤ 9 },
+    ghost few_after: { operation.now.successor.count ≤ 9 },
 }
 
-// `observe_membership` with a request open: what its arms tell apart.
-fn see(operation: &VoterReplacementRecord, membership: &Membership) -> Seen
-    requires { (operation.now.predecessor.count ≤ 9) × (operation.now.successor.count ≤ 9) }
-    ensures { sight_of result ≡ see operation.now (split_sets membership.now.sets.now membership.now.counts.now) membership.now.nodes.now }
-{
-    let before = ids_of(&operation.predecessor);
-    let after = ids_of(&operation.successor);
-    see_ids(
-        operation,
-        &before[..operation.predecessor.count],
-        &after[..operation.successor.count],
-        membership,
-    )
+impl OpenRequest<'_> {
+    // The identity is a superseded candidate's: of the slot being replaced, after the predecessor's
+    // incarnation, and not after the attested one.
+    #[tactic(auto, unfolding(crate::specs::Observation::is_obsolete))]
+    fn is_obsolete(&self, identity: VoterSlotIdentity) -> bool
+        ensures { result ≡ is_obsolete self.now.operation.now (Ok identity) }
+    {
+        let operation = self.operation;
+        let predecessor = &operation.predecessor;
+        let slot = operation.attestation.slot;
+        let at = member_index(predecessor, slot);
+        if predecessor.count <= at {
+            return false;
+        }
+        let retired = predecessor.members[at].identity.incarnation;
+        (((operation.phase <= SNAPSHOT_INSTALLED) & (identity.slot == slot))
+            & (retired < identity.incarnation))
+            & (identity.incarnation <= operation.attestation.expected_incarnation)
+    }
+
+    // Whether the node of neither configuration, if there is one, is a superseded candidate.
+    #[tactic(auto, unfolding(crate::specs::Observation::is_obsolete))]
+    fn may_linger(&self, node: Option<ConsensusNodeId>) -> bool
+        ensures { result ≡ lingers_as self.now.operation.now node }
+    {
+        match node.map(VoterSlotIdentity::from_node_id) {
+            None => true,
+            Some(Ok(identity)) => self.is_obsolete(identity),
+            Some(Err(_)) => false,
+        }
+    }
+
+    // `old` and `new` are the ids of the members of the predecessor and of the successor.
+    fn see_ids(
+        &self,
+        old: &[ConsensusNodeId],
+        new: &[ConsensusNodeId],
+        membership: &Membership,
+    ) -> Seen
+        ensures { sight_of result ≡ seen_of self.now.operation.now old.now new.now membership.now.sets.now membership.now.counts.now membership.now.nodes.now }
+    {
+        let outside = first_outside(membership.nodes, old, new);
+        let lingers = self.may_linger(outside);
+        let phase = self.operation.phase;
+        let tests = test_sets(old, new, membership, phase, outside.is_none(), lingers);
+        see_by(phase, tests)
+    }
+
+    // `observe_membership` with a request open: what its arms tell apart.
+    fn see(&self, membership: &Membership) -> Seen
+        ensures { sight_of result ≡ see self.now.operation.now (split_sets membership.now.sets.now membership.now.counts.now) membership.now.nodes.now }
+    {
+        let predecessor = &self.operation.predecessor;
+        let successor = &self.operation.successor;
+        let before = ids_of(predecessor);
+        let after = ids_of(successor);
+        let old = &before[..predecessor.count];
+        let new = &after[..successor.count];
+        self.see_ids(old, new, membership)
+    }
 }
 
 // ---- the verdict
@@ -281,23 +281,6 @@ fn is_uniform_cut(evidence: &VoterReplacementEvidence, cut: VoterSlotLogId) -> b
     log_id_follows(cut, evidence.joint.cut, false)
 }
 
-// ---- the slot being replaced
-
-// The place of the first of the slots of that number.
-fn place_of(slots: &[VoterSlotRecord], slot: SlotId) -> Option<usize>
-    ensures { result ≡ position (λ s. eqb s.member.identity.slot slot) slots.now }
-{
-    slots.iter().position(|s| s.member.identity.slot == slot)
-}
-
-// The first slot of that number, or the count.
-fn slot_place(table: &VoterSlotTable, slot: SlotId) -> usize
-    requires { table.now.count ≤ 9 }
-    ensures { result ≡ slot_index table.now slot }
-{
-    place_of(table.slots_in_use(), slot).unwrap_or(table.count)
-}
-
 // ---- the judgement of what is seen
 
 // What is seen of a table that is known to be valid, whose slot being replaced is in this phase.
@@ -329,7 +312,7 @@ fn judge_seen(table: &VoterSlotTable, seen: Seen, cut: VoterSlotLogId) -> Result
     requires { table.now.count ≤ 9 }
     ensures { verdict_of_observed result ≡ judge_seen table.now (sight_of seen) cut }
 {
-    let at = slot_place(table, table.replacement.attestation.slot);
+    let at = table.slot_index(table.replacement.attestation.slot);
     if table.count <= at {
         return Err(Refusal::InvalidTransition);
     }
@@ -370,7 +353,10 @@ fn judge_sets(
     if !table.has_replacement {
         return judge_closed(table, membership);
     }
-    let seen = see(&table.replacement, membership);
+    let open = OpenRequest {
+        operation: &table.replacement,
+    };
+    let seen = open.see(membership);
     judge_seen(table, seen, cut)
 }
 
@@ -386,52 +372,39 @@ fn has_few_members(table: &VoterSlotTable) -> bool
 }
 
 // The verdict. On a table not known to be valid a change still needs `confirm`.
-pub fn weigh(
-    table: VoterSlotTable,
-    sets: &[ConsensusNodeId],
-    counts: &[usize],
-    nodes: &[ConsensusNodeId],
-    cut: VoterSlotLogId,
-) -> Result<Observed, Refusal>
-    ensures { verdict_of_observed result ≡ weighed table sets.now counts.now nodes.now cut }
+pub fn weigh(table: VoterSlotTable, observation: VoterObservation) -> Result<Observed, Refusal>
+    ensures { verdict_of_observed result ≡ weighed table observation.entry.sets.now observation.entry.counts.now observation.entry.nodes.now observation.entry.cut }
 {
-    weigh_lent(&table, sets, counts, nodes, cut)
+    weigh_lent(&table, observation)
 }
 
 // The same on a table that is lent.
-fn weigh_lent(
-    table: &VoterSlotTable,
-    sets: &[ConsensusNodeId],
-    counts: &[usize],
-    nodes: &[ConsensusNodeId],
-    cut: VoterSlotLogId,
-) -> Result<Observed, Refusal>
-    ensures { verdict_of_observed result ≡ weighed table.now sets.now counts.now nodes.now cut }
+fn weigh_lent(table: &VoterSlotTable, observation: VoterObservation) -> Result<Observed, Refusal>
+    ensures { verdict_of_observed result ≡ weighed table.now observation.entry.sets.now observation.entry.counts.now observation.entry.nodes.now observation.entry.cut }
 {
     let few = has_few_members(table);
-    let counted = add_up(counts, sets.len());
-    let held = are_held(sets);
-    let nodes_held = are_held(nodes);
+    let counted = add_up(observation.counts, observation.sets.len());
+    let held = are_held(observation.sets);
+    let nodes_held = are_held(observation.nodes);
     if !(few & ((counted & held) & nodes_held)) {
         return Err(Refusal::Unrepresentable);
     }
-    let rising = sets_rise(sets, counts);
-    let nodes_rise = rises(nodes);
+    let rising = sets_rise(observation.sets, observation.counts);
+    let nodes_rise = rises(observation.nodes);
     if !(rising & nodes_rise) {
         return Err(Refusal::NotRising);
     }
     let membership = Membership {
-        sets,
-        counts,
-        nodes,
+        sets: observation.sets,
+        counts: observation.counts,
+        nodes: observation.nodes,
     };
-    judge_sets(table, &membership, cut)
+    judge_sets(table, &membership, observation.cut)
 }
 
 // The whole validity is asked for only where something is new.
 #[tactic(auto, unfolding(crate::specs::ObserveSight::confirmed))]
 fn confirm(table: &VoterSlotTable, judged: Result<Observed, Refusal>) -> Result<Observed, Refusal>
-    requires { table.now.count ≤ 9 }
     ensures { verdict_of_observed result ≡ confirmed (is_accepted (validity table.now)) (verdict_of_observed judged) }
 {
     let observed = judged?;
@@ -457,7 +430,7 @@ fn enter_phase(table: &mut VoterSlotTable, phase: u8)
     requires { Room table.old }
     ensures { table.new ≡ table_with table.old (table.old.revision + 1) table.old.configuration_epoch (set table.old.slots (target_index table.old) (in_phase (target_slot table.old) (target_phase phase))) true (operation_with table.old.replacement phase table.old.replacement.evidence) }
 {
-    let at = slot_place(table, table.replacement.attestation.slot);
+    let at = table.slot_index(table.replacement.attestation.slot);
     table.slots[at].phase = target_phase(phase);
     table.replacement.phase = phase;
     table.has_replacement = true;
@@ -498,7 +471,7 @@ fn carry_out(table: &mut VoterSlotTable, observed: Observed, cut: VoterSlotLogId
 // The membership with the learner.
 #[tactic(auto, unfolding(crate::specs::Judgement::carried))]
 pub fn learner_table(mut table: VoterSlotTable, cut: VoterSlotLogId) -> VoterSlotTable
-    requires { (table.revision ≡ full → ⊥) × ((table.count ≤ 9) × (target_index table < table.count)) }
+    requires { Room table }
     ensures { result ≡ added table cut adds_learner }
 {
     carry_out(&mut table, Observed::AddLearner, cut);
@@ -508,7 +481,7 @@ pub fn learner_table(mut table: VoterSlotTable, cut: VoterSlotLogId) -> VoterSlo
 // The joint membership.
 #[tactic(auto, unfolding(crate::specs::Judgement::carried))]
 pub fn joint_table(mut table: VoterSlotTable, cut: VoterSlotLogId) -> VoterSlotTable
-    requires { (table.revision ≡ full → ⊥) × ((table.count ≤ 9) × (target_index table < table.count)) }
+    requires { Room table }
     ensures { result ≡ added table cut adds_joint }
 {
     carry_out(&mut table, Observed::AddJoint, cut);
@@ -518,7 +491,7 @@ pub fn joint_table(mut table: VoterSlotTable, cut: VoterSlotLogId) -> VoterSlotT
 // The successor's membership.
 #[tactic(auto, unfolding(crate::specs::Judgement::carried))]
 pub fn uniform_table(mut table: VoterSlotTable, cut: VoterSlotLogId) -> VoterSlotTable
-    requires { (table.revision ≡ full → ⊥) × ((table.count ≤ 9) × (target_index table < table.count)) }
+    requires { Room table }
     ensures { result ≡ added table cut adds_uniform }
 {
     carry_out(&mut table, Observed::AddUniform, cut);
@@ -528,78 +501,53 @@ pub fn uniform_table(mut table: VoterSlotTable, cut: VoterSlotLogId) -> VoterSlo
 // ---- the calls
 
 // An observation of a table that is known to be valid, by value.
-pub fn observe_valid(
-    mut table: VoterSlotTable,
-    sets: &[ConsensusNodeId],
-    counts: &[usize],
-    nodes: &[ConsensusNodeId],
-    cut: VoterSlotLogId,
-) -> Controlled
+pub fn observe_valid(mut table: VoterSlotTable, observation: VoterObservation) -> Controlled
     requires { validate table ≡ Accepted }
-    ensures { (result.answer, result.table) ≡ observe_membership table sets.now counts.now nodes.now cut }
+    ensures { (result.answer, result.table) ≡ observe_membership table observation.entry.sets.now observation.entry.counts.now observation.entry.nodes.now observation.entry.cut }
 {
-    let answer = observe_in_place(&mut table, sets, counts, nodes, cut);
+    let answer = observe_in_place(&mut table, observation);
     Controlled { answer, table }
 }
 
 // `VoterSlotTable::observe_membership`.
-pub fn observe_membership(
-    mut table: VoterSlotTable,
-    sets: &[ConsensusNodeId],
-    counts: &[usize],
-    nodes: &[ConsensusNodeId],
-    cut: VoterSlotLogId,
-) -> Controlled
-    ensures { (result.answer, result.table) ≡ observe_membership table sets.now counts.now nodes.now cut }
+pub fn observe_membership(mut table: VoterSlotTable, observation: VoterObservation) -> Controlled
+    ensures { (result.answer, result.table) ≡ observe_membership table observation.entry.sets.now observation.entry.counts.now observation.entry.nodes.now observation.entry.cut }
 {
-    let answer = observe_membership_in_place(&mut table, sets, counts, nodes, cut);
+    let answer = observe_membership_in_place(&mut table, observation);
     Controlled { answer, table }
 }
 
 // The verdict of the entry point: 30 of the table, and its validity where something is new.
-fn weigh_entry(
-    table: &VoterSlotTable,
-    sets: &[ConsensusNodeId],
-    counts: &[usize],
-    nodes: &[ConsensusNodeId],
-    cut: VoterSlotLogId,
-) -> Result<Observed, Refusal>
-    ensures { verdict_of_observed result ≡ entry_weighed table.now sets.now counts.now nodes.now cut }
+fn weigh_entry(table: &VoterSlotTable, observation: VoterObservation) -> Result<Observed, Refusal>
+    ensures { verdict_of_observed result ≡ entry_weighed table.now observation.entry.sets.now observation.entry.counts.now observation.entry.nodes.now observation.entry.cut }
 {
     if !table.is_representable() {
         return Err(Refusal::Unrepresentable);
     }
-    let judged = weigh_lent(table, sets, counts, nodes, cut);
+    let judged = weigh_lent(table, observation);
     confirm(table, judged)
 }
 
 // `observe_membership` on a table that is lent: any table, any sets, any nodes and any cut.
+#[tactic(auto, using(crate::proofs::Stored::observed_entry), unfolding(crate::specs::Judgement::carried))]
 pub fn observe_membership_in_place(
     table: &mut VoterSlotTable,
-    sets: &[ConsensusNodeId],
-    counts: &[usize],
-    nodes: &[ConsensusNodeId],
-    cut: VoterSlotLogId,
+    observation: VoterObservation,
 ) -> Answer
-    ensures { (result, table.new) ≡ observe_membership table.old sets.now counts.now nodes.now cut }
+    ensures { (result, table.new) ≡ observe_membership table.old observation.entry.sets.now observation.entry.counts.now observation.entry.nodes.now observation.entry.cut }
 {
-    let observed = weigh_entry(table, sets, counts, nodes, cut)?;
-    carry_out(table, observed, cut);
+    let observed = weigh_entry(table, observation)?;
+    carry_out(table, observed, observation.cut);
     Ok(())
 }
 
 // An observation of a table that is lent and known to be valid.
-pub fn observe_in_place(
-    table: &mut VoterSlotTable,
-    sets: &[ConsensusNodeId],
-    counts: &[usize],
-    nodes: &[ConsensusNodeId],
-    cut: VoterSlotLogId,
-) -> Answer
+#[tactic(auto, using(crate::proofs::Stored::observed_valid), unfolding(crate::specs::Judgement::carried))]
+pub fn observe_in_place(table: &mut VoterSlotTable, observation: VoterObservation) -> Answer
     requires { validate table.old ≡ Accepted }
-    ensures { (result, table.new) ≡ observe_membership table.old sets.now counts.now nodes.now cut }
+    ensures { (result, table.new) ≡ observe_membership table.old observation.entry.sets.now observation.entry.counts.now observation.entry.nodes.now observation.entry.cut }
 {
-    let observed = weigh_lent(table, sets, counts, nodes, cut)?;
-    carry_out(table, observed, cut);
+    let observed = weigh_lent(table, observation)?;
+    carry_out(table, observed, observation.cut);
     Ok(())
 }

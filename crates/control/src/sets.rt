@@ -12,8 +12,22 @@ ghost use Rattle.control.specs.ObserveSets.{are_two_sets, first_of, is_one_set, 
 
 use identity::identity::*;
 use records::records::{
-    MAX_FIXED_VOTER_SLOTS, VoterConfiguration, VoterSlotMember, VoterSlotTable,
+    MAX_FIXED_VOTER_SLOTS, VoterConfiguration, VoterSlotLogId, VoterSlotMember, VoterSlotTable,
 };
+
+// An observation as its caller supplies it: ids of sets of voters, one set after another, how many
+// ids each set has, the nodes, and the engine's cut. Nothing is known of them.
+#[derive(Clone, Copy)]
+pub struct VoterObservation<'a> {
+    // The sets, one after another.
+    pub sets: &'a [ConsensusNodeId],
+    // How many ids each of them has.
+    pub counts: &'a [usize],
+    // The nodes.
+    pub nodes: &'a [ConsensusNodeId],
+    // Engine cut of the observation.
+    pub cut: VoterSlotLogId,
+}
 
 // No id of a member or a node: those lie below 2^63.
 pub const NO_ID: ConsensusNodeId = u64::MAX;

@@ -53,7 +53,7 @@ pub struct ConsensusIdentity {
 
 // Incarnation-qualified identity, scoped by the enclosing installation id.
 #[repr(C)]
-#[derive(Clone, Copy, PartialEq, Eq)]
+#[derive(Clone, Copy, Default, PartialEq, Eq)]
 pub struct VoterSlotIdentity {
     // Stable ordinal assigned by the immutable installation manifest, 1 to 65,535.
     pub slot: SlotId,

@@ -17,7 +17,6 @@ use identity::identity::*;
 use identity::text::MAX_VOTER_SNAPSHOT_ID_BYTES;
 use layout::parts::member_of;
 use reader::reader::Reader;
-use records::blank::*;
 use records::records::*;
 
 // Bytes with their size before them. The size has 16 bits, and none is too large here.
@@ -114,8 +113,8 @@ fn step_of(kind: u8) -> VoterReplacementStep
 {
     VoterReplacementStep {
         kind,
-        snapshot: blank_voter_snapshot_evidence(),
-        caught_up: blank_voter_slot_log_id(),
+        snapshot: VoterSnapshotEvidence::default(),
+        caught_up: VoterSlotLogId::default(),
     }
 }
 

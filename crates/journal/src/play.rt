@@ -20,7 +20,6 @@ use control::judge::*;
 use control::make::*;
 use control::observe::{Observed, joint_table, learner_table, uniform_table};
 use identity::answer::{Answer, Refusal};
-use records::blank::blank_voter_slot_table;
 use records::records::VoterSlotTable;
 use records::validation::validate_table;
 
@@ -81,7 +80,7 @@ struct Opened {
 pub fn new_journal() -> Journal
     ensures { result ≡ new_journal }
 {
-    let table = blank_voter_slot_table();
+    let table = VoterSlotTable::default();
     Journal {
         stands: false,
         count: 0,

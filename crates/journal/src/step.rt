@@ -23,9 +23,8 @@ use control::representable::{is_representable_request, is_representable_step};
 use identity::answer::{Answer, Refusal};
 use identity::identity::ConsensusIdentity;
 use reader::reader::Reader;
-use records::blank::*;
 use records::evidence::is_valid_log_id;
-use records::records::{VoterSlotLogId, VoterSlotTable};
+use records::records::{LostVoterAttestationV1, VoterSlotLogId, VoterSlotMember, VoterSlotTable, VoterSnapshotEvidence};
 
 // What a record comes to at a table that stands, before anything is made.
 #[derive(Clone, Copy)]
@@ -229,7 +228,7 @@ pub fn cut_in(body: &[u8]) -> VoterSlotLogId
 {
     Reader::new(body)
         .log_id()
-        .unwrap_or(blank_voter_slot_log_id())
+        .unwrap_or_default()
 }
 
 // What is made of no body: a judged one is of its form, so nobody looks at them.
@@ -239,10 +238,10 @@ fn blank_advance() -> VoterAdvance {
         request_digest: [0; 32],
         step: VoterReplacementStep {
             kind: RECORD_SNAPSHOT,
-            snapshot: blank_voter_snapshot_evidence(),
-            caught_up: blank_voter_slot_log_id(),
+            snapshot: VoterSnapshotEvidence::default(),
+            caught_up: VoterSlotLogId::default(),
         },
-        cut: blank_voter_slot_log_id(),
+        cut: VoterSlotLogId::default(),
     }
 }
 
@@ -255,11 +254,11 @@ fn blank_begin() -> VoterBegin {
                 configuration_id: [0; 32],
                 configuration_epoch: 0,
             },
-            candidate: blank_voter_slot_member(),
-            attestation: blank_lost_voter_attestation_v1(),
+            candidate: VoterSlotMember::default(),
+            attestation: LostVoterAttestationV1::default(),
             supplied_request_digest: [0; 32],
             supplied_configuration_id: [0; 32],
         },
-        cut: blank_voter_slot_log_id(),
+        cut: VoterSlotLogId::default(),
     }
 }

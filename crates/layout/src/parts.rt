@@ -7,10 +7,9 @@
 // crates/opc-consensus/src/voter_slots/records.rs and codec.rs of openpacketcore-sdk, commit
 // 717de332e7, Apache-2.0 (see NOTICE). Changed: the version is a number of 64 bits.
 ghost use Rattle.std.specs.Prelude.{◌≡◌};
-ghost use Rattle.layout.specs.Parts.{blank_voter_slot_members, member_of, result_of, evidence_of, early_cuts, late_cuts};
+ghost use Rattle.layout.specs.Parts.{member_of, result_of, evidence_of, early_cuts, late_cuts};
 
 use identity::identity::*;
-use records::blank::blank_voter_slot_member;
 use records::records::*;
 
 // What follows an identity in a member.
@@ -110,14 +109,6 @@ pub struct TableHead {
     pub manifest_digest: [u8; 32],
     pub revision: u64,
     pub configuration_epoch: ConsensusConfigurationEpoch,
-}
-
-// Nine blank places, which the reader of a configuration fills from the front.
-pub fn blank_voter_slot_members() -> [VoterSlotMember; MAX_FIXED_VOTER_SLOTS]
-    ensures { result ≡ blank_voter_slot_members }
-{
-    let blank = blank_voter_slot_member();
-    [blank; MAX_FIXED_VOTER_SLOTS]
 }
 
 // The records of their parts. Each has two parts or more, so these are functions and no `From`: a

@@ -3,7 +3,6 @@
 // may be invalid in every way.
 use crate::fields::Fields;
 use identity::identity::VoterSlotIdentity;
-use records::blank::{blank_voter_slot_member, blank_voter_slot_record};
 use records::records::*;
 
 // The bytes of the raw form.
@@ -62,7 +61,7 @@ pub fn table_in(raw: &[u8; TABLE_SIZE]) -> Option<VoterSlotTable> {
 }
 
 fn slots(fields: &mut Fields) -> Option<[VoterSlotRecord; MAX_FIXED_VOTER_SLOTS]> {
-    let mut slots = [blank_voter_slot_record(); MAX_FIXED_VOTER_SLOTS];
+    let mut slots = [VoterSlotRecord::default(); MAX_FIXED_VOTER_SLOTS];
     for place in &mut slots {
         *place = slot(fields)?;
     }
@@ -146,7 +145,7 @@ fn configuration(fields: &mut Fields) -> Option<VoterConfiguration> {
 }
 
 fn members(fields: &mut Fields) -> Option<[VoterSlotMember; MAX_FIXED_VOTER_SLOTS]> {
-    let mut members = [blank_voter_slot_member(); MAX_FIXED_VOTER_SLOTS];
+    let mut members = [VoterSlotMember::default(); MAX_FIXED_VOTER_SLOTS];
     for place in &mut members {
         *place = member(fields)?;
     }

@@ -8,7 +8,6 @@ use identity::identity::ConsensusIdentity;
 use identity::text::MAX_VOTER_SNAPSHOT_ID_BYTES;
 use raw::fields::Fields;
 use raw::table::{log_id, member};
-use records::blank::*;
 use records::records::*;
 
 // A command, and the cut at which it comes.
@@ -154,8 +153,8 @@ fn no_request() -> VoterReplacementRequest {
             configuration_id: [0; 32],
             configuration_epoch: 0,
         },
-        candidate: blank_voter_slot_member(),
-        attestation: blank_lost_voter_attestation_v1(),
+        candidate: VoterSlotMember::default(),
+        attestation: LostVoterAttestationV1::default(),
         supplied_request_digest: [0; 32],
         supplied_configuration_id: [0; 32],
     }
@@ -164,8 +163,8 @@ fn no_request() -> VoterReplacementRequest {
 fn no_step() -> VoterReplacementStep {
     VoterReplacementStep {
         kind: 0,
-        snapshot: blank_voter_snapshot_evidence(),
-        caught_up: blank_voter_slot_log_id(),
+        snapshot: VoterSnapshotEvidence::default(),
+        caught_up: VoterSlotLogId::default(),
     }
 }
 

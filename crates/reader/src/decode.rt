@@ -13,12 +13,7 @@ ghost use Rattle.layout.specs.Layout.{binding, member, configuration, result_hea
 use crate::reader::{Decode, Reader};
 use identity::answer::Refusal;
 use layout::parts::*;
-use records::blank::{
-    blank_lost_voter_attestation_v1, blank_voter_replacement_result, blank_voter_slot_table,
-    blank_voter_snapshot_evidence,
-};
 use records::records::*;
-use records::validation::is_valid_attestation;
 
 impl<'a> Reader<'a> {
     // `binding`: what follows an identity.
@@ -40,7 +35,7 @@ impl<'a> Reader<'a> {
     {
         let epoch = self.epoch()?;
         let count = self.count()?;
-        let mut members = blank_voter_slot_members();
+        let mut members = [VoterSlotMember::default(); MAX_FIXED_VOTER_SLOTS];
         self.fill(count, &mut members)?;
         Ok(VoterConfiguration {
             epoch,
@@ -156,7 +151,7 @@ impl<'a> Reader<'a> {
         ensures { told result self.new.bytes.now ≡ reads evidence self.old.bytes.now }
     {
         let prepare = self.log_id()?;
-        let (has_snapshot, snapshot) = self.optional(blank_voter_snapshot_evidence())?;
+        let (has_snapshot, snapshot) = self.optional(VoterSnapshotEvidence::default())?;
         let early = self.three_cuts()?;
         let late = self.three_cuts()?;
         Ok(evidence_of(prepare, has_snapshot, snapshot, early, late))
@@ -198,7 +193,7 @@ impl<'a> Reader<'a> {
         ensures form { told_at result place.new self.new.bytes.now ≡ reads table self.old.bytes.now }
         ensures small { IfOk result (λ nothing. place.new.count ≤ 9) }
     {
-        *place = blank_voter_slot_table();
+        *place = VoterSlotTable::default();
         self.magic_and_version()?;
         let head = self.table_head()?;
         let cluster_instance = head.cluster_instance;
@@ -259,7 +254,7 @@ impl Decode for VoterSlotRecord {
     fn decode(input: &mut Reader) -> Result<VoterSlotRecord, Refusal> {
         let head = input.slot_member()?;
         let phase = input.choice(PENDING, VOTING)?;
-        let (has_last_result, last_result) = input.optional(blank_voter_replacement_result())?;
+        let (has_last_result, last_result) = input.optional(VoterReplacementResult::default())?;
         Ok(VoterSlotRecord {
             member: head.member,
             retired_through: head.retired_through,
@@ -290,7 +285,7 @@ impl Decode for VoterSnapshotEvidence {
 pub fn read_whole_attestation(bytes: &[u8]) -> Result<LostVoterAttestationV1, Refusal>
     ensures { told_whole result (length bytes.now) ≡ whole attestation bytes.now }
 {
-    let mut attestation = blank_lost_voter_attestation_v1();
+    let mut attestation = LostVoterAttestationV1::default();
     fill_whole_attestation(bytes, &mut attestation)?;
     Ok(attestation)
 }
@@ -308,7 +303,7 @@ pub fn fill_whole_attestation(
     let mut input = Reader::new(bytes);
     input.attestation(place)?;
     input.finish()?;
-    if !is_valid_attestation(*place) {
+    if !place.is_valid() {
         return Err(Refusal::InvalidRecord);
     }
     Ok(())

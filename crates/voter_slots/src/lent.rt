@@ -28,7 +28,6 @@ use journal::record::MOST_BODY;
 use journal::replay::Mark;
 use journal::step::*;
 use records::records::VoterSlotTable;
-use records::representable::is_representable;
 use records::validation::validate_table;
 
 // The law of a call on a lent table goes by the order of these fields. A refused call has a table
@@ -84,7 +83,7 @@ pub fn apply_to(table: VoterSlotTable, mark: u32, body: &[u8]) -> Afterwards
 {
     let asks = command_of(mark, body.len());
     if !accepted(validate_table(table)) {
-        return stay(table, refuse_command(is_representable(table), asks, body));
+        return stay(table, refuse_command(table.is_representable(), asks, body));
     }
     let called = judge_body(table, asks, body);
     carry_out_at(table, body, called)

@@ -27,33 +27,33 @@ rises-as sets counts nodes sets-rise nodes-rise = λ i. sets-rise i && nodes-ris
 pub returns-then-not-few-counted : goal.returns-then-not-few-counted
 returns-then-not-few-counted c =
     let a = c.args in
-    let fits = fits-as a.table.now a.sets.now a.counts.now a.nodes.now c.has_few_members-few.ensures c.add_up-counted.ensures c.are_held-held.ensures c.are_held-nodes_held.ensures in
-    sym (weighed-unfit a.table.now a.sets.now a.counts.now a.nodes.now a.cut (sym fits ∙ c.if-not-few-counted.true))
+    let fits = fits-as a.table.now a.observation.sets.now a.observation.counts.now a.observation.nodes.now c.has_few_members-few.ensures c.add_up-counted.ensures c.are_held-held.ensures c.are_held-nodes_held.ensures in
+    sym (weighed-unfit a.table.now a.observation.sets.now a.observation.counts.now a.observation.nodes.now a.observation.cut (sym fits ∙ c.if-not-few-counted.true))
 
 pub sets_rise-rising-requires : goal.sets_rise-rising-requires
 sets_rise-rising-requires c =
     let a = c.args in
-    let fits = fits-as a.table.now a.sets.now a.counts.now a.nodes.now c.has_few_members-few.ensures c.add_up-counted.ensures c.are_held-held.ensures c.are_held-nodes_held.ensures in
-    let e = weighed-counted a.table.now a.sets.now a.counts.now a.nodes.now (sym fits ∙ c.if-not-few-counted.false) in
+    let fits = fits-as a.table.now a.observation.sets.now a.observation.counts.now a.observation.nodes.now c.has_few_members-few.ensures c.add_up-counted.ensures c.are_held-held.ensures c.are_held-nodes_held.ensures in
+    let e = weighed-counted a.table.now a.observation.sets.now a.observation.counts.now a.observation.nodes.now (sym fits ∙ c.if-not-few-counted.false) in
     omega arith
 
 pub returns-then-not-rising-nodes_rise : goal.returns-then-not-rising-nodes_rise
 returns-then-not-rising-nodes_rise c =
     let a = c.args in
-    let fits = fits-as a.table.now a.sets.now a.counts.now a.nodes.now c.has_few_members-few.ensures c.add_up-counted.ensures c.are_held-held.ensures c.are_held-nodes_held.ensures in
-    let rising = rises-as a.sets.now a.counts.now a.nodes.now c.sets_rise-rising.ensures c.rises-nodes_rise.ensures in
-    sym (weighed-unsorted a.table.now a.sets.now a.counts.now a.nodes.now a.cut (sym fits ∙ c.if-not-few-counted.false) (sym rising ∙ c.if-not-rising-nodes_rise.true))
+    let fits = fits-as a.table.now a.observation.sets.now a.observation.counts.now a.observation.nodes.now c.has_few_members-few.ensures c.add_up-counted.ensures c.are_held-held.ensures c.are_held-nodes_held.ensures in
+    let rising = rises-as a.observation.sets.now a.observation.counts.now a.observation.nodes.now c.sets_rise-rising.ensures c.rises-nodes_rise.ensures in
+    sym (weighed-unsorted a.table.now a.observation.sets.now a.observation.counts.now a.observation.nodes.now a.observation.cut (sym fits ∙ c.if-not-few-counted.false) (sym rising ∙ c.if-not-rising-nodes_rise.true))
 
 pub judge_sets-requires : goal.judge_sets-requires
 judge_sets-requires c =
     let a = c.args in
-    let fits = fits-as a.table.now a.sets.now a.counts.now a.nodes.now c.has_few_members-few.ensures c.add_up-counted.ensures c.are_held-held.ensures c.are_held-nodes_held.ensures in
-    let rising = rises-as a.sets.now a.counts.now a.nodes.now c.sets_rise-rising.ensures c.rises-nodes_rise.ensures in
-    (weighed-supplied a.table.now a.sets.now a.counts.now a.nodes.now (sym fits ∙ c.if-not-few-counted.false) (sym rising ∙ c.if-not-rising-nodes_rise.false)).1
+    let fits = fits-as a.table.now a.observation.sets.now a.observation.counts.now a.observation.nodes.now c.has_few_members-few.ensures c.add_up-counted.ensures c.are_held-held.ensures c.are_held-nodes_held.ensures in
+    let rising = rises-as a.observation.sets.now a.observation.counts.now a.observation.nodes.now c.sets_rise-rising.ensures c.rises-nodes_rise.ensures in
+    (weighed-supplied a.table.now a.observation.sets.now a.observation.counts.now a.observation.nodes.now (sym fits ∙ c.if-not-few-counted.false) (sym rising ∙ c.if-not-rising-nodes_rise.false)).1
 
 pub returns : goal.returns
 returns c =
     let a = c.args in
-    let fits = fits-as a.table.now a.sets.now a.counts.now a.nodes.now c.has_few_members-few.ensures c.add_up-counted.ensures c.are_held-held.ensures c.are_held-nodes_held.ensures in
-    let rising = rises-as a.sets.now a.counts.now a.nodes.now c.sets_rise-rising.ensures c.rises-nodes_rise.ensures in
-    c.judge_sets.ensures ∙ sym (weighed-passed a.table.now a.sets.now a.counts.now a.nodes.now a.cut (sym fits ∙ c.if-not-few-counted.false) (sym rising ∙ c.if-not-rising-nodes_rise.false))
+    let fits = fits-as a.table.now a.observation.sets.now a.observation.counts.now a.observation.nodes.now c.has_few_members-few.ensures c.add_up-counted.ensures c.are_held-held.ensures c.are_held-nodes_held.ensures in
+    let rising = rises-as a.observation.sets.now a.observation.counts.now a.observation.nodes.now c.sets_rise-rising.ensures c.rises-nodes_rise.ensures in
+    c.judge_sets.ensures ∙ sym (weighed-passed a.table.now a.observation.sets.now a.observation.counts.now a.observation.nodes.now a.observation.cut (sym fits ∙ c.if-not-few-counted.false) (sym rising ∙ c.if-not-rising-nodes_rise.false))

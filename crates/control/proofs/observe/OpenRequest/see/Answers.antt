@@ -1,11 +1,11 @@
--- `control::observe::see` meets its contract: the ids of the members in use are the front of the nine places, and `see-is` says that
--- this is the definition. Assumes nothing.
+-- `control::observe::OpenRequest::see` meets its contract: the ids of the members in use are the front of the nine places, and `see-is`
+-- says that this is the definition. Assumes nothing.
 use mathlib.Core.Path.{sym, ap, ◌∙◌}
 use lib.ListN.{take}
 use Rattle.control.specs.ObserveSight.{Supplied, seen_of}
 use Rattle.control.specs.ObserveSightLaws.{front-listed, see-is}
-use Rattle.control.proofs.observe.see.Goals as goal
-use Rattle.control.proofs.observe.see.Goals.{After-see_ids}
+use Rattle.control.proofs.observe.OpenRequest.see.Goals as goal
+use Rattle.control.proofs.observe.OpenRequest.see.Goals.{After-see_ids}
 
 supplied : (c : After-see_ids) → Supplied c.args.membership.now.sets.now c.args.membership.now.counts.now c.args.membership.now.nodes.now
 supplied c =
@@ -15,11 +15,11 @@ supplied c =
 pub returns : goal.returns
 returns c =
     let a = c.args in
-    let op = a.operation.now in
+    let op = a.self.now.operation.now in
     let old = op.predecessor in
     let new = op.successor in
-    let e = ap (take old.count) c.ids_of-before.ensures ∙ front-listed old 9 old.count c.requires.0 in
-    let f = ap (take new.count) c.ids_of-after.ensures ∙ front-listed new 9 new.count c.requires.1 in
+    let e = ap (take old.count) c.ids_of-before.ensures ∙ front-listed old 9 old.count a.self.now.few_before in
+    let f = ap (take new.count) c.ids_of-after.ensures ∙ front-listed new 9 new.count a.self.now.few_after in
     let sets = a.membership.now.sets.now in
     let counts = a.membership.now.counts.now in
     let nodes = a.membership.now.nodes.now in
