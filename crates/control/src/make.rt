@@ -8,9 +8,9 @@
 // parts that were taken out first, which the compiler does not copy.
 //
 // What a maker asks of its table stands in a clause of each, also in begin.rt and observe.rt: that
-// the revision is not full, or `Room`, which says of the slot being replaced that it is there, too. As
-// the ghost field of a struct of a table it would be no plainer: a maker is called in 24 places, each
-// with a table that was judged there, so each would put the struct together for the one call; and a
+// the revision is not full, or `Room`, by which the slot being replaced is there too. As the ghost
+// field of a struct of a table it would be no plainer: makers are called in some two dozen places,
+// each with a table that was judged there, so each would put the struct together for one call. And a
 // table that the struct lends must lie in memory, for which a thin call copies it (as in judge.rt).
 ghost use Rattle.std.specs.Prelude.{◌≡◌};
 ghost use Rattle.records.specs.With.{with_snapshot};

@@ -308,6 +308,9 @@ fn judge_known(
 }
 
 // A table without the slot being replaced is refused with 25.
+//
+// This judge and `judge_closed` ask for the count: past the nine places the definitions go on over
+// blanks, which the code has not.
 fn judge_seen(table: &VoterSlotTable, seen: Seen, cut: VoterSlotLogId) -> Result<Observed, Refusal>
     requires { table.now.count ≤ 9 }
     ensures { verdict_of_observed result ≡ judge_seen table.now (sight_of seen) cut }
