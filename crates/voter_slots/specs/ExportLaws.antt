@@ -13,7 +13,6 @@ use Rattle.format.specs.Put.{Put}
 use Rattle.format.specs.Res.{Res}
 use Rattle.format.specs.Res.Res.{ok, no}
 use Rattle.records.specs.Blank.{blank_voter_slot_table}
-use Rattle.records.specs.TestLaws.{cond-true, cond-false}
 use Rattle.records.specs.Validation.{validate}
 use Rattle.records.specs.ValidParts.{valid-parts}
 use Rattle.records.specs.declared.records.VoterSlotTable.{VoterSlotTable}

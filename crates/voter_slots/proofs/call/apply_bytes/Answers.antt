@@ -1,5 +1,5 @@
 -- `voter_slots::call::apply_bytes` meets its contract. Assumes nothing.
-use Rattle.std.specs.Prelude.{◌≡◌, Bool, false, cond, length, Err}
+use Rattle.std.specs.Prelude.{◌≡◌, Bool, cond, length, Err}
 use Rattle.std.proofs.Common.{rules, sym, ap, ◌∙◌}
 use Rattle.identity.specs.Answer.{number_of, number_of_refusal, BadRecord}
 use Rattle.format.specs.Res.Res.{ok, no}
@@ -7,7 +7,7 @@ use Rattle.codec.specs.Codec.{decode_voter_slot_table}
 use Rattle.journal.specs.declared.replay.Mark.{Mark}
 use Rattle.journal.specs.Replay.{asking}
 use Rattle.journal.proofs.StepLaws.{made-valid, makes}
-use Rattle.voter_slots.specs.Calls.{asked_of, is_formed, mark_of}
+use Rattle.voter_slots.specs.Calls.{asked_of, mark_of}
 use Rattle.voter_slots.specs.CallLaws.{asked-ok, formed-refused, refused-is}
 use Rattle.voter_slots.specs.Export.{leaves}
 use Rattle.voter_slots.specs.ExportLaws.{filled_as, read-accepted}

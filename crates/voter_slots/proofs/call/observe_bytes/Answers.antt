@@ -12,7 +12,7 @@ use Rattle.journal.specs.Replay.{Asking, asking}
 use Rattle.journal.specs.Replay.Asking.{bad}
 use Rattle.journal.specs.Step.{numbered, observation_verdict}
 use Rattle.journal.proofs.StepLaws.{made-valid, makes}
-use Rattle.voter_slots.specs.Calls.{asked_of, is_formed}
+use Rattle.voter_slots.specs.Calls.{asked_of}
 use Rattle.voter_slots.specs.CallLaws.{asked-ok, formed-refused, passed-err}
 use Rattle.voter_slots.specs.ExportLaws.{filled_as, read-accepted}
 use Rattle.voter_slots.proofs.Typed.{lent_bytes}

@@ -1,5 +1,5 @@
 -- `voter_slots::lent::observe_body` meets its contract. Assumes nothing.
-use Rattle.std.proofs.Common.{◌≡◌, ◌≤◌, rules, arith, sym, subst, true}
+use Rattle.std.proofs.Common.{◌≡◌, ◌≤◌, rules, sym, subst, true}
 use Rattle.identity.specs.Answer.{is_accepted, Answer}
 use Rattle.records.specs.declared.records.VoterSlotTable.{VoterSlotTable}
 use Rattle.voter_slots.specs.LentLaws.{observed-fits}
