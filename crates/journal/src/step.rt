@@ -228,7 +228,7 @@ pub fn cut_in(body: &[u8]) -> VoterSlotLogId
 {
     Reader::new(body)
         .log_id()
-        .unwrap_or_default()
+        .unwrap_or(VoterSlotLogId::default())
 }
 
 // What is made of no body: a judged one is of its form, so nobody looks at them.
