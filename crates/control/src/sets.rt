@@ -100,7 +100,8 @@ pub fn are_held(ids: &[ConsensusNodeId]) -> bool
     all
 }
 
-// Whether the ids rise strictly. (With `windows(2)` in place of the index as in `are_held`.)
+// Whether the ids rise strictly. (By their index: `windows(2)` with `all` was tried, and so was
+// `is_sorted_by`, of which the proof did not close either.)
 #[tactic(auto, using(crate::specs::ObserveSetsLaws::rising_more, crate::specs::ObserveSetsLaws::rising_one))]
 pub fn rises(ids: &[ConsensusNodeId]) -> bool
     ensures { result ≡ is_rising ids.now }
