@@ -87,8 +87,8 @@ pub fn add_up(counts: &[usize], len: usize) -> bool
 
 // Whether the Rust type can hold every id.
 //
-// `all` is as fast in this loop and those of `rises`, `sets_rise` and `is_subset`, but says what it
-// answers index by index, where the definitions go along the list: the proofs did not close.
+// `all` is as fast in this loop and those of `rises` and `is_subset`, but says what it answers index
+// by index, where the definitions go along the list: the proofs did not close.
 #[tactic(auto, using(identity::specs::TextLaws::all_more), unfolding(identity::specs::Text::every))]
 pub fn are_held(ids: &[ConsensusNodeId]) -> bool
     ensures { result ≡ every is_held_node_id ids.now }
