@@ -3,7 +3,7 @@
 -- From `apply_control` of control.rs, as Judgement cuts it; that the entry point is `apply_control`
 -- is proved by the laws of VerdictLaws.
 -- Assumes nothing.
-use Rattle.std.specs.Prelude.{ℕ, cond, ◌&&◌, Result, Ok, Err}
+use Rattle.std.specs.Prelude.{cond, ◌&&◌, Result, Ok, Err}
 use Rattle.identity.specs.Answer.{is_accepted, Answer, Accepted, InvalidTransition, Unrepresentable}
 use Rattle.identity.specs.declared.answer.Refusal.{Refusal}
 use Rattle.records.specs.Evidence.{valid_log_id}

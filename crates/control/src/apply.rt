@@ -22,7 +22,8 @@ use identity::answer::{Answer, Refusal};
 use records::evidence::is_valid_log_id;
 use records::records::{VoterSlotLogId, VoterSlotTable};
 
-// An answer, and the table: the next one, or the one that was given.
+// An answer, and the table: the next one, or the one that was given. No `Result`: a call that is
+// refused gives the table back too (document 01).
 #[derive(Clone, Copy)]
 pub struct Controlled {
     pub answer: Answer,
@@ -30,6 +31,10 @@ pub struct Controlled {
 }
 
 // `apply_control`: any table, any command and any cut.
+//
+// By value it is the call in place, and the table handed back; so are the other calls by value. One
+// function for all of them would take the call in place as a closure, whose clause says again what
+// the call's own says: it is no shorter than the three lines.
 pub fn apply_control(
     table: VoterSlotTable,
     control: VoterSlotControl,
@@ -64,6 +69,7 @@ fn checked(table: &VoterSlotTable, control: VoterSlotControl, cut: VoterSlotLogI
 }
 
 // `apply_control` on a table that is lent: any table, any command and any cut.
+#[tactic(auto, using(crate::proofs::Stored::entry_refused, crate::proofs::Stored::entry_passed))]
 pub fn apply_control_in_place(table: &mut VoterSlotTable, command: VoterCommand) -> Answer
     ensures { (result, table.new) ≡ apply_control table.old command.control command.cut }
 {
@@ -74,6 +80,11 @@ pub fn apply_control_in_place(table: &mut VoterSlotTable, command: VoterCommand)
 // A command on a table that is known to be valid, by value. The caller has tested that the cut has
 // no zero and that the command is representable (`checked_of` accepted); then the answer is
 // `apply_control`'s (`entry-passed` of VerdictLaws; by the two tests, `valid-applied` of ApplyLaws).
+//
+// That the table is valid is asked by a clause, here and in the seven other calls on such a table. A
+// type of valid tables could not hold what they give back: none tests the cut, and of a Begin at the
+// cut (0, 0), which a closed table accepts, the table that is made is not valid. So the caller would
+// wrap its table anew for each call.
 pub fn apply_to_valid(table: VoterSlotTable, command: VoterCommand) -> Controlled
     requires { validate table ≡ Accepted }
     ensures { (result.answer, result.table) ≡ applied_of table command.control command.cut }
@@ -86,9 +97,9 @@ pub fn apply_to_valid(table: VoterSlotTable, command: VoterCommand) -> Controlle
     }
 }
 
-// `apply_to_valid` on a table that is lent: the same tests. It takes 5 KB: calls by kind are
-// faster.
-#[tactic(auto, unfolding(crate::specs::Judgement::carried, crate::specs::Judgement::made))]
+// `apply_to_valid` on a table that is lent: the same tests. It takes a command of any kind, which has
+// 5 KB; an Advance has a twentieth of that. So each kind has a call of its own besides.
+#[tactic(auto, using(crate::proofs::Stored::applied_begin, crate::proofs::Stored::applied_advance, crate::proofs::Stored::applied_marker))]
 pub fn apply_in_place(table: &mut VoterSlotTable, command: VoterCommand) -> Answer
     requires { validate table.old ≡ Accepted }
     ensures { (result, table.new) ≡ applied_of table.old command.control command.cut }

@@ -23,6 +23,7 @@ use crate::request::*;
 use identity::answer::{Answer, Refusal};
 use records::evidence::log_id_follows;
 use records::records::*;
+use records::successor::place_of;
 
 // A Begin with the cut at which it is committed: what its judge, its maker and its thin call take.
 #[derive(Clone, Copy)]
@@ -53,7 +54,7 @@ pub fn judge_begin(table: VoterSlotTable, begin: VoterBegin) -> Result<Judged, R
 {
     let request = begin.request;
     let cut = begin.cut;
-    let valid = validate_request(request);
+    let valid = validate_request(&begin.request);
     let check = begin_check(table, request, cut, valid);
     let later = is_later(table, cut);
     let change = later
@@ -193,15 +194,10 @@ fn begun_slots(table: VoterSlotTable, begin: VoterBegin) -> [VoterSlotRecord; MA
     ensures { result ≡ begun_slots table begin.request begin.cut }
 {
     let number = begin.request.attestation.slot;
-    let count = table.count;
     let mut slots = table.slots;
-    for i in 0..count {
-        if slots[i].member.identity.slot == number {
-            let old = slots[i];
-            let slot = begun_slot(table, begin, old);
-            slots[i] = slot;
-            return slots;
-        }
+    if let Some(at) = place_of(&slots[..table.count], number) {
+        let old = slots[at];
+        slots[at] = begun_slot(table, begin, old);
     }
     slots
 }

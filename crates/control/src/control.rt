@@ -8,6 +8,9 @@
 use identity::identity::{ConsensusConfigurationId, ConsensusIdentity, ConsensusRequestId};
 use records::records::*;
 
+// The kinds of a command, as numbers: a caller may hand in any number, and gets 30 for another
+// (document 01), which no enum could tell.
+//
 // `VoterSlotControl`: compare and set one slot, retiring its prior incarnation permanently.
 pub const BEGIN: u8 = 0;
 
@@ -17,6 +20,8 @@ pub const ADVANCE: u8 = 1;
 // A current-term committed marker; proof of candidate apply is recorded separately.
 pub const MARKER: u8 = 2;
 
+// The kinds of a step, as numbers for the same reason.
+//
 // `VoterReplacementStep`: retain the exact verified initial snapshot, before adding its learner.
 pub const RECORD_SNAPSHOT: u8 = 0;
 

@@ -6,6 +6,12 @@
 // openpacketcore-sdk, commit 717de332e7, Apache-2.0 (see NOTICE). Changed: apart from the tests, as
 // functions of their own. Numbers are stored where they lie; a record is stored whole, made of
 // parts that were taken out first, which the compiler does not copy.
+//
+// What a maker asks of its table stands in a clause of each, also in begin.rt and observe.rt: that
+// the revision is not full, or `Room`, by which the slot being replaced is there too. As the ghost
+// field of a struct of a table it would be no plainer: makers are called in some two dozen places,
+// each with a table that was judged there, so each would put the struct together for one call. And a
+// table that the struct lends must lie in memory, for which a thin call copies it (as in judge.rt).
 ghost use Rattle.std.specs.Prelude.{◌≡◌};
 ghost use Rattle.records.specs.With.{with_snapshot};
 ghost use Rattle.control.specs.Control.{caught_up_recorded, continued, fenced_at, finalized, full, snapshot_recorded};

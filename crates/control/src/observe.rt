@@ -50,7 +50,7 @@ pub enum Observed {
     AddUniform,
 }
 
-// The tests of the sets and the nodes.
+// The tests of the sets and the nodes. Each is a yes or no with no value beside it.
 #[derive(Clone, Copy)]
 pub struct SetTests {
     // The successor has no id that the predecessor lacks.
@@ -308,6 +308,9 @@ fn judge_known(
 }
 
 // A table without the slot being replaced is refused with 25.
+//
+// This judge and `judge_closed` ask for the count: past the nine places the definitions go on over
+// blanks, which the code has not.
 fn judge_seen(table: &VoterSlotTable, seen: Seen, cut: VoterSlotLogId) -> Result<Observed, Refusal>
     requires { table.now.count ≤ 9 }
     ensures { verdict_of_observed result ≡ judge_seen table.now (sight_of seen) cut }
@@ -379,6 +382,7 @@ pub fn weigh(table: VoterSlotTable, observation: VoterObservation) -> Result<Obs
 }
 
 // The same on a table that is lent.
+#[tactic(auto, unfolding(crate::specs::Observation::representable_sets, crate::specs::ObserveSight::weighed))]
 fn weigh_lent(table: &VoterSlotTable, observation: VoterObservation) -> Result<Observed, Refusal>
     ensures { verdict_of_observed result ≡ weighed table.now observation.entry.sets.now observation.entry.counts.now observation.entry.nodes.now observation.entry.cut }
 {
@@ -529,7 +533,7 @@ fn weigh_entry(table: &VoterSlotTable, observation: VoterObservation) -> Result<
 }
 
 // `observe_membership` on a table that is lent: any table, any sets, any nodes and any cut.
-#[tactic(auto, using(crate::proofs::Stored::observed_entry), unfolding(crate::specs::Judgement::carried))]
+#[tactic(auto, using(crate::proofs::Stored::observed_entry, crate::proofs::Stored::entry_room), unfolding(crate::specs::Judgement::carried))]
 pub fn observe_membership_in_place(
     table: &mut VoterSlotTable,
     observation: VoterObservation,
@@ -542,7 +546,7 @@ pub fn observe_membership_in_place(
 }
 
 // An observation of a table that is lent and known to be valid.
-#[tactic(auto, using(crate::proofs::Stored::observed_valid), unfolding(crate::specs::Judgement::carried))]
+#[tactic(auto, using(crate::proofs::Stored::observed_valid, crate::proofs::Stored::weighed_room), unfolding(crate::specs::Judgement::carried))]
 pub fn observe_in_place(table: &mut VoterSlotTable, observation: VoterObservation) -> Answer
     requires { validate table.old ≡ Accepted }
     ensures { (result, table.new) ≡ observe_membership table.old observation.entry.sets.now observation.entry.counts.now observation.entry.nodes.now observation.entry.cut }

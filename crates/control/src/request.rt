@@ -6,7 +6,8 @@
 // supplies the digest as recomputed and the id of the current configuration. Loops pass all nine
 // places, from the last to the first, and a place found later takes the place of one found before;
 // it is picked by `then_some` and `or`, since after an `if` in the loop the compiler copies the
-// request once more.
+// request once more. So it does where the slots in use are searched by `find`: a repeated Begin takes
+// twice as long, and a fresh one half as long again.
 ghost use Rattle.std.specs.Prelude.{◌≡◌};
 ghost use Rattle.records.specs.Successor.{first_refusal};
 ghost use Rattle.control.specs.Control.{candidate_check, current_configuration, is_expected, request_check, stale_check, valid_request};
@@ -20,8 +21,8 @@ use records::records::*;
 
 // `VoterReplacementRequest::validate`: 12.
 #[tactic(auto, unfolding(crate::specs::Control::request_check))]
-pub fn validate_request(request: VoterReplacementRequest) -> Answer
-    ensures { result ≡ request_check request }
+pub fn validate_request(request: &VoterReplacementRequest) -> Answer
+    ensures { result ≡ request_check request.now }
 {
     let valid = is_valid_request(request);
     let supplied = request.supplied_request_digest;
@@ -36,8 +37,8 @@ pub fn validate_request(request: VoterReplacementRequest) -> Answer
 
 // The claims are valid, and the request says the same as they do.
 #[tactic(auto, unfolding(crate::specs::Control::valid_request))]
-fn is_valid_request(request: VoterReplacementRequest) -> bool
-    ensures { result ≡ valid_request request }
+fn is_valid_request(request: &VoterReplacementRequest) -> bool
+    ensures { result ≡ valid_request request.now }
 {
     let claims = request.attestation.is_valid();
     let cluster = request.expected_configuration.cluster_id;

@@ -87,7 +87,8 @@ pub fn add_up(counts: &[usize], len: usize) -> bool
 
 // Whether the Rust type can hold every id.
 //
-// This loop and that of `rises` have no early exit, so that several ids are compared at a time.
+// `all` is as fast in this loop and those of `rises` and `is_subset`, but says what it answers index
+// by index, where the definitions go along the list: the proofs did not close.
 #[tactic(auto, using(identity::specs::TextLaws::all_more), unfolding(identity::specs::Text::every))]
 pub fn are_held(ids: &[ConsensusNodeId]) -> bool
     ensures { result ≡ every is_held_node_id ids.now }
@@ -99,7 +100,8 @@ pub fn are_held(ids: &[ConsensusNodeId]) -> bool
     all
 }
 
-// Whether the ids rise strictly.
+// Whether the ids rise strictly. (By their index: `windows(2)` with `all` was tried, and so was
+// `is_sorted_by`, of which the proof did not close either.)
 #[tactic(auto, using(crate::specs::ObserveSetsLaws::rising_more, crate::specs::ObserveSetsLaws::rising_one))]
 pub fn rises(ids: &[ConsensusNodeId]) -> bool
     ensures { result ≡ is_rising ids.now }
@@ -136,8 +138,6 @@ pub fn contains(set: &[ConsensusNodeId], id: ConsensusNodeId) -> bool
 }
 
 // Whether every id of the one stands in the other.
-//
-// A loop: that `all` answers what the definition says was tried, and the proof did not close.
 #[tactic(auto, using(identity::specs::TextLaws::all_more), unfolding(identity::specs::Text::every))]
 pub fn is_subset(ids: &[ConsensusNodeId], set: &[ConsensusNodeId]) -> bool
     ensures { result ≡ is_subset ids.now set.now }
@@ -206,7 +206,8 @@ fn id_of(member: &VoterSlotMember) -> ConsensusNodeId
     member.identity.node_id().unwrap_or(0)
 }
 
-// `member_ids` in the order of the nine places; the caller lends those in use.
+// `member_ids` in the order of the nine places; the caller lends those in use. A loop: the closure of
+// a `map` takes a clause of its own, and its proof a lemma more.
 #[tactic(auto, using(crate::specs::ObserveSetsLaws::listed_more), unfolding(crate::specs::ObserveSets::listed))]
 pub fn ids_of(configuration: &VoterConfiguration) -> [ConsensusNodeId; MAX_FIXED_VOTER_SLOTS]
     ensures { result ≡ listed configuration.now 9 }
@@ -218,7 +219,7 @@ pub fn ids_of(configuration: &VoterConfiguration) -> [ConsensusNodeId; MAX_FIXED
     ids
 }
 
-// The same of the slots: one function for both takes a closure, which is no plainer than a loop.
+// The same of the slots. One function for both takes a closure too.
 #[tactic(auto, using(crate::specs::ObserveSetsLaws::listed_more), unfolding(crate::specs::ObserveSets::listed))]
 pub fn ids_of_slots(table: &VoterSlotTable) -> [ConsensusNodeId; MAX_FIXED_VOTER_SLOTS]
     ensures { result ≡ listed (slot_members table.now) 9 }

@@ -184,7 +184,7 @@ fn request_succeeds(new: &VoterReplacementRecord, old: &VoterReplacementRecord) 
 }
 
 // The place of the first slot of that number.
-fn place_of(slots: &[VoterSlotRecord], slot: SlotId) -> Option<usize>
+pub fn place_of(slots: &[VoterSlotRecord], slot: SlotId) -> Option<usize>
     ensures { result ≡ position (λ s. eqb s.member.identity.slot slot) slots.now }
 {
     slots.iter().position(|s| s.member.identity.slot == slot)

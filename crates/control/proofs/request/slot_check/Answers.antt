@@ -3,7 +3,7 @@ use mathlib.Core.Path.{◌≡◌, sym, ◌∙◌}
 use mathlib.Core.Bool.{false, true, cond, ◌&&◌}
 use native.Mathlib.Omega.{arith}
 use lib.Dec.{eqb, leb}
-use Rattle.identity.specs.Answer.{NoSurvivingQuorum, StaleIncarnation, Answer, Accepted, InvalidLossEvidence}
+use Rattle.identity.specs.Answer.{NoSurvivingQuorum, StaleIncarnation, Accepted, InvalidLossEvidence}
 use Rattle.records.proofs.Held.{held-lost-voter-attestation-v1, held-voter-slot-table}
 use Rattle.records.specs.Successor.{first_refusal}
 use Rattle.records.specs.TestLaws.{cond-false, cond-true}
