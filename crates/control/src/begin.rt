@@ -54,7 +54,7 @@ pub fn judge_begin(table: VoterSlotTable, begin: VoterBegin) -> Result<Judged, R
 {
     let request = begin.request;
     let cut = begin.cut;
-    let valid = validate_request(request);
+    let valid = validate_request(&begin.request);
     let check = begin_check(table, request, cut, valid);
     let later = is_later(table, cut);
     let change = later

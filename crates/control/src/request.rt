@@ -21,8 +21,8 @@ use records::records::*;
 
 // `VoterReplacementRequest::validate`: 12.
 #[tactic(auto, unfolding(crate::specs::Control::request_check))]
-pub fn validate_request(request: VoterReplacementRequest) -> Answer
-    ensures { result ≡ request_check request }
+pub fn validate_request(request: &VoterReplacementRequest) -> Answer
+    ensures { result ≡ request_check request.now }
 {
     let valid = is_valid_request(request);
     let supplied = request.supplied_request_digest;
@@ -37,8 +37,8 @@ pub fn validate_request(request: VoterReplacementRequest) -> Answer
 
 // The claims are valid, and the request says the same as they do.
 #[tactic(auto, unfolding(crate::specs::Control::valid_request))]
-fn is_valid_request(request: VoterReplacementRequest) -> bool
-    ensures { result ≡ valid_request request }
+fn is_valid_request(request: &VoterReplacementRequest) -> bool
+    ensures { result ≡ valid_request request.now }
 {
     let claims = request.attestation.is_valid();
     let cluster = request.expected_configuration.cluster_id;

@@ -87,8 +87,8 @@ pub fn add_up(counts: &[usize], len: usize) -> bool
 
 // Whether the Rust type can hold every id.
 //
-// `all` is as fast in this loop and those of `rises`, `sets_rise` and `is_subset`, but says what it
-// answers index by index, where the definitions go along the list: the proofs did not close.
+// `all` is as fast in this loop and those of `rises` and `is_subset`, but says what it answers index
+// by index, where the definitions go along the list: the proofs did not close.
 #[tactic(auto, using(identity::specs::TextLaws::all_more), unfolding(identity::specs::Text::every))]
 pub fn are_held(ids: &[ConsensusNodeId]) -> bool
     ensures { result ≡ every is_held_node_id ids.now }
@@ -100,7 +100,8 @@ pub fn are_held(ids: &[ConsensusNodeId]) -> bool
     all
 }
 
-// Whether the ids rise strictly. (With `windows(2)` in place of the index as in `are_held`.)
+// Whether the ids rise strictly. (By their index: `windows(2)` with `all` was tried, and so was
+// `is_sorted_by`, of which the proof did not close either.)
 #[tactic(auto, using(crate::specs::ObserveSetsLaws::rising_more, crate::specs::ObserveSetsLaws::rising_one))]
 pub fn rises(ids: &[ConsensusNodeId]) -> bool
     ensures { result ≡ is_rising ids.now }

@@ -219,5 +219,5 @@ pub fn cut_in(body: &[u8]) -> VoterSlotLogId
 {
     Reader::new(body)
         .log_id()
-        .unwrap_or_default()
+        .unwrap_or(VoterSlotLogId::default())
 }
