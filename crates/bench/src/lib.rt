@@ -124,8 +124,5 @@ fn representable(table: VoterSlotTable) -> Answer {
 
 // The blank one where the bytes are none of the raw form.
 fn table_of_bytes(bytes: &[u8]) -> VoterSlotTable {
-    bytes
-        .first_chunk()
-        .and_then(table_in)
-        .unwrap_or_default()
+    bytes.first_chunk().and_then(table_in).unwrap_or_default()
 }

@@ -24,7 +24,9 @@ use identity::answer::{Answer, Refusal};
 use identity::identity::ConsensusIdentity;
 use reader::reader::Reader;
 use records::evidence::is_valid_log_id;
-use records::records::{LostVoterAttestationV1, VoterSlotLogId, VoterSlotMember, VoterSlotTable, VoterSnapshotEvidence};
+use records::records::{
+    LostVoterAttestationV1, VoterSlotLogId, VoterSlotMember, VoterSlotTable, VoterSnapshotEvidence,
+};
 
 // What a record comes to at a table that stands, before anything is made.
 #[derive(Clone, Copy)]

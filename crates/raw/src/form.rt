@@ -9,6 +9,7 @@ use records::records::*;
 // written the same way.
 pub trait Raw: Sized {
     fn read(fields: &mut Fields) -> Option<Self>;
+
     fn write(&self, room: &mut Room);
 }
 

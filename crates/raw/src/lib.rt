@@ -7,4 +7,3 @@ pub mod fields;
 pub mod form;
 pub mod room;
 pub mod table;
-
