@@ -1,6 +1,5 @@
 // The replies about bytes: reading a table or an attestation, and writing a table.
 use codec::codec::*;
-use identity::answer::accepted;
 use questions::reply::Reply;
 use raw::crc::crc32;
 use raw::fields::Fields;
@@ -20,7 +19,7 @@ const ATTESTATION_SIZE: usize = 4423;
 // that is checked.
 pub fn read_table(body: &[u8]) -> Option<Reply> {
     let decoded = decode_voter_slot_table(body);
-    if !accepted(decoded.answer) {
+    if decoded.answer.is_err() {
         return Some(decoded.answer.into());
     }
     let table = decoded.table;
@@ -44,7 +43,7 @@ fn raw_checksum(table: VoterSlotTable) -> u64 {
 
 pub fn read_attestation(body: &[u8]) -> Reply {
     let decoded = decode_lost_voter_attestation(body);
-    if !accepted(decoded.answer) {
+    if decoded.answer.is_err() {
         return decoded.answer.into();
     }
     Reply::Pair(0, raw_attestation_checksum(decoded.attestation))
