@@ -1,5 +1,6 @@
 // The raw form of oracle/FORMAT.md, record by record: the fields in the order of the struct, each at
-// its full width.
+// its full width. Each record has its `impl` by hand, field by field: a derive of our own would be a
+// macro that runs at build time, and no crate here has one.
 use crate::fields::Fields;
 use crate::room::Room;
 use identity::identity::VoterSlotIdentity;
@@ -315,7 +316,7 @@ impl Raw for SnapshotId {
     }
 }
 
-// Likewise.
+// A name is read and written as the id of a snapshot is: its length may be more than its place holds.
 impl Raw for SpiffeId {
     fn read(fields: &mut Fields) -> Option<SpiffeId> {
         Some(SpiffeId {

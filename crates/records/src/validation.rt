@@ -40,15 +40,12 @@ pub struct Claims {
     pub prepare: VoterSlotLogId,
 }
 
-// `require`: a no is `InvalidRecord`.
+// `require`: a no is `InvalidRecord`. It and `kept` of successor.rt have a name each, since the
+// definitions do (`require_of`, `or_regression`), and the original says `require(..)?`.
 fn require(valid: bool) -> Answer
     ensures { result ≡ require_of valid Accepted }
 {
-    if valid {
-        Ok(())
-    } else {
-        Err(Refusal::InvalidRecord)
-    }
+    valid.then_some(()).ok_or(Refusal::InvalidRecord)
 }
 
 // `validate_count`.
@@ -302,7 +299,9 @@ impl VoterSlotTable {
 
     // The first refusal, slot by slot: 3 in an earlier slot comes before 6 in a later one.
     //
-    // It asks for the count, since the definition would go on past the nine places.
+    // It asks for the count, since the definition would go on past the nine places. The members are
+    // taken by the slot's place: three iterators side by side would be two `zip`, for which no proof
+    // was found in `results_distinct` either.
     #[tactic(auto, unfolding(crate::specs::Validation::validate_members))]
     fn validate_members(&self) -> Answer
         requires { self.now.count ≤ 9 }
@@ -360,7 +359,8 @@ fn is_valid_result(
 }
 
 impl Claims {
-    // What the open request claims.
+    // What the open request claims. It is no `From`: the clause is of what the reference shows, and
+    // `from_gives` would be of the reference.
     fn of(operation: &VoterReplacementRecord) -> Claims
         ensures { result ≡ claims_of operation.now }
     {
