@@ -89,6 +89,6 @@ fn observe(body: &[u8], table: VoterSlotTable) -> Option<Reply> {
 
 // The answer, and of the table its revision and the checksum of its raw form.
 fn given_back(answer: Answer, table: VoterSlotTable) -> Reply {
-    let checksum = raw_checksum::<VoterSlotTable, TABLE_SIZE>(&table);
+    let checksum = raw_checksum(&table, &mut [0; TABLE_SIZE]);
     Reply::Triple(number(answer), table.revision, checksum)
 }

@@ -4,7 +4,6 @@ use questions::reply::Reply;
 use raw::crc::crc32;
 use raw::fields::Fields;
 use raw::table::{TABLE_SIZE, last_table, raw_checksum};
-use records::records::{LostVoterAttestationV1, VoterSlotTable};
 
 // The bytes of the largest table (`ends`).
 const LARGEST_TABLE: usize = 8072;
@@ -32,7 +31,7 @@ pub fn read_table(body: &[u8]) -> Option<Reply> {
         table.revision,
         count as u64,
         u64::from(checksum),
-        raw_checksum::<VoterSlotTable, TABLE_SIZE>(&again.table),
+        raw_checksum(&again.table, &mut [0; TABLE_SIZE]),
     ))
 }
 
@@ -42,8 +41,7 @@ pub fn read_attestation(body: &[u8]) -> Reply {
     if decoded.answer.is_err() {
         return decoded.answer.into();
     }
-    let checksum =
-        raw_checksum::<LostVoterAttestationV1, ATTESTATION_SIZE>(&decoded.attestation);
+    let checksum = raw_checksum(&decoded.attestation, &mut [0; ATTESTATION_SIZE]);
     Reply::Pair(0, checksum)
 }
 

@@ -52,9 +52,9 @@ pub fn table_in(raw: &[u8; TABLE_SIZE]) -> Option<VoterSlotTable> {
     Raw::read(&mut Fields::of(raw))
 }
 
-// The checksum of a value's raw form, which takes so many bytes: it stands for the value in a reply.
-pub fn raw_checksum<T: Raw, const SIZE: usize>(value: &T) -> u64 {
-    let mut raw = [0; SIZE];
-    value.write(&mut Room::of(&mut raw));
-    u64::from(crc32(&raw))
+// The checksum of a value's raw form, which is laid to the start of `raw`: it stands for the value in
+// a reply.
+pub fn raw_checksum<T: Raw>(value: &T, raw: &mut [u8]) -> u64 {
+    value.write(&mut Room::of(raw));
+    u64::from(crc32(raw))
 }
