@@ -122,8 +122,9 @@ impl VoterSlotTable {
     }
 }
 
-// Each slot, against the old one at its place. The places are counted in a loop: the check found no
-// proof for `all` after `zip` (`results_distinct` of validation.rt).
+// Each slot, against the old one at its place. The old one is taken by the place, which the invariant
+// counts: in a `for` over a `zip` of the two the proof has iterators and no place, and it did not
+// close. Nor did one for `all` after `zip` (`results_distinct` of validation.rt).
 #[tactic(auto, unfolding(crate::specs::Records::all_below))]
 fn slots_succeed(new: &[VoterSlotRecord], old: &[VoterSlotRecord; MAX_FIXED_VOTER_SLOTS]) -> bool
     requires { length new.now ≤ 9 }

@@ -300,14 +300,14 @@ impl VoterSlotTable {
     // The first refusal, slot by slot: 3 in an earlier slot comes before 6 in a later one.
     //
     // It asks for the count, since the definition would go on past the nine places. The members are
-    // taken by the slot's place: three iterators side by side would be two `zip`, for which no proof
-    // was found in `results_distinct` either.
+    // taken by the slot's place, which the invariant counts: in a `for` over a `zip` of the three the
+    // proof has iterators and no place, and it did not close.
     #[tactic(auto, unfolding(crate::specs::Validation::validate_members))]
     fn validate_members(&self) -> Answer
         requires { self.now.count ≤ 9 }
         ensures { result ≡ validate_members self.now self.now.count }
     {
-        let claims = Claims::of(&self.replacement);
+        let claims = Claims::from(&self.replacement);
         let predecessor = &self.replacement.predecessor.members;
         let successor = &self.replacement.successor.members;
         for (i, slot) in self.slots_in_use().iter().enumerate() {
@@ -358,12 +358,11 @@ fn is_valid_result(
                     | ((slot.phase == VOTING) & (result.kind == COMPLETED)))))
 }
 
-impl Claims {
-    // What the open request claims. It is no `From`: the clause is of what the reference shows, and
-    // `from_gives` would be of the reference.
-    fn of(operation: &VoterReplacementRecord) -> Claims
-        ensures { result ≡ claims_of operation.now }
-    {
+// What the open request claims.
+impl From<&VoterReplacementRecord> for Claims {
+    ghost from_gives = { λ operation claims. claims ≡ claims_of operation.now };
+
+    fn from(operation: &VoterReplacementRecord) -> Claims {
         Claims {
             request_id: operation.attestation.request_id,
             slot: operation.attestation.slot,
@@ -375,7 +374,9 @@ impl Claims {
             prepare: operation.evidence.prepare,
         }
     }
+}
 
+impl Claims {
     // One slot and its two members.
     #[tactic(auto, unfolding(crate::specs::Equality::all_true, crate::specs::Equality::same_voter_slot_member, crate::specs::Equality::same_voter_slot_identity, crate::specs::Validation::validate_member))]
     fn validate_member(
