@@ -3,7 +3,7 @@
 #![tactic(auto)]
 
 use codec::codec::{DecodedTable, decode_voter_slot_table};
-use identity::answer::{Answer, Refusal, accepted, number};
+use identity::answer::{Refusal, accepted, number};
 use records::records::VoterSlotTable;
 
 // Reading a table's bytes, so many times. The last table is asked for the phase of a slot, 0 to 2,
@@ -14,7 +14,7 @@ pub extern "C" fn bench_decode(bytes: &[u8], turns: u64) -> u64 {
     let mut answers = 0;
     for _ in 0..turns {
         let decoded = decode_voter_slot_table(bytes);
-        answers |= number_of(decoded.answer);
+        answers |= u64::from(number(decoded.answer));
         kept = decoded.table;
     }
     let place = (turns % 9) as usize;
@@ -53,8 +53,4 @@ fn returned(revision: u64) -> DecodedTable {
 
 fn third(x: u8) -> u64 {
     u64::from(x / 3)
-}
-
-fn number_of(answer: Answer) -> u64 {
-    u64::from(number(answer))
 }

@@ -26,8 +26,11 @@ use writer::encode::{put_table, table_size};
 pub const MAX_VOTER_SLOT_TABLE_BYTES: usize = 65536;
 
 // An answer, and the table that was read. The answer stands beside the table and is no `Result` with
-// it, since document 01 has a refused reading give the blank table, all zero: callers of the C
-// interface are handed it.
+// it, since document 01 has a refused reading give the blank table, all zero.
+//
+// What was read of an attestation is a struct of its own, and each of the two has a reader of each
+// form (`read_..`, `decode_..`, `fill_..`): the field's name says what was read, and document 01 has
+// an entry point for each of the two.
 #[derive(Clone, Copy)]
 pub struct DecodedTable {
     pub answer: Answer,
@@ -52,8 +55,8 @@ pub fn read_voter_slot_table(bytes: &[u8]) -> Result<VoterSlotTable, Refusal>
     Ok(table)
 }
 
-// The table is read where it stands, and not taken out of the answer of `read_voter_slot_table`:
-// that copies its 8 KB once more, and an idle table takes 8 percent longer.
+// The reading that answers with a table in every case. The table is read where it stands, and not
+// taken out of the answer of `read_voter_slot_table`: that copies its 8 KB once more, and an idle table takes 8 percent longer.
 #[tactic(auto, unfolding(crate::specs::Codec::decoded))]
 pub fn decode_voter_slot_table(bytes: &[u8]) -> DecodedTable
     ensures { (number_of result.answer, result.table) ≡ decoded blank_voter_slot_table (decode_voter_slot_table bytes.now) }
@@ -68,7 +71,8 @@ pub fn decode_voter_slot_table(bytes: &[u8]) -> DecodedTable
     }
 }
 
-// The reading of both, into a place whose content does not matter.
+// What `read_voter_slot_table` and `decode_voter_slot_table` share: the table is read into a place
+// whose content does not matter.
 #[tactic(auto, using(format::specs::ReadsMore::reads_whole, crate::specs::EntryLaws::gate_accepts, crate::specs::EntryLaws::gate_refuses), unfolding(crate::specs::Codec::decode_voter_slot_table, crate::specs::Codec::bounded, format::specs::Num::pick, format::specs::Res::and_then))]
 pub fn fill_voter_slot_table(bytes: &[u8], table: &mut VoterSlotTable) -> Result<(), Refusal>
     ensures { told_whole_at result table.new (length bytes.now) ≡ decode_voter_slot_table bytes.now }
@@ -82,7 +86,7 @@ pub fn fill_voter_slot_table(bytes: &[u8], table: &mut VoterSlotTable) -> Result
     table.validate()
 }
 
-// A refused reading.
+// What a refused reading answers: the refusal, with the blank table.
 #[tactic(auto, unfolding(crate::specs::Codec::decoded))]
 fn no_table(refusal: Refusal) -> DecodedTable
     ensures { (number_of result.answer, result.table) ≡ decoded blank_voter_slot_table (no (number_of_refusal refusal)) }
@@ -103,6 +107,7 @@ pub fn read_lost_voter_attestation(bytes: &[u8]) -> Result<LostVoterAttestationV
     Ok(attestation)
 }
 
+// The reading that answers with an attestation in every case, the blank one with a refusal.
 #[tactic(auto, unfolding(crate::specs::Codec::decoded))]
 pub fn decode_lost_voter_attestation(bytes: &[u8]) -> DecodedAttestation
     ensures { (number_of result.answer, result.attestation) ≡ decoded blank_lost_voter_attestation_v1 (decode_lost_voter_attestation bytes.now) }
@@ -120,7 +125,8 @@ pub fn decode_lost_voter_attestation(bytes: &[u8]) -> DecodedAttestation
     }
 }
 
-// The reading of both, into a place whose content does not matter. It is blanked before the bound is
+// What `read_lost_voter_attestation` and `decode_lost_voter_attestation` share: the attestation is read
+// into a place whose content does not matter. It is blanked before the bound is
 // tested: so it is not blanked twice where the caller has just made it.
 #[tactic(auto, unfolding(crate::specs::Codec::decode_lost_voter_attestation, crate::specs::Codec::bounded, format::specs::Num::pick))]
 pub fn fill_lost_voter_attestation(

@@ -157,7 +157,7 @@ fn all_allowed(bytes: &[u8], rule: Allowed) -> bool
     all_chars(bytes, rule)
 }
 
-// The ASCII characters that the rule allows lie from here ..
+// The least ASCII character that the rule allows. It allows all of them from here to `last_ascii`.
 fn first_ascii(rule: Allowed) -> u8
     ensures { result ≡ first_ascii rule }
 {
@@ -168,7 +168,7 @@ fn first_ascii(rule: Allowed) -> u8
     }
 }
 
-// .. to here.
+// The greatest ASCII character that the rule allows.
 fn last_ascii(rule: Allowed) -> u8
     ensures { result ≡ last_ascii rule }
 {

@@ -45,6 +45,10 @@ fn is_tail(b: u8) -> bool
 
 // The bits of a byte that belong to the code point are taken by a remainder: of the lead of two,
 // three or four bytes the low five, four or three, and of each byte after it the low six.
+//
+// There is a function for each count of bytes, since each has its own bits of the lead, its own bounds
+// and its own sum: one for all counts would be a loop with three cases in it, and read less like
+// RFC 3629.
 
 // The lead of two bytes was read.
 fn decode_two(bytes: &[u8]) -> Option<(u32, usize)>

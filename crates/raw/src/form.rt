@@ -1,5 +1,6 @@
 // The raw form of oracle/FORMAT.md, record by record: the fields in the order of the struct, each at
-// its full width.
+// its full width. Each record has its `impl` by hand, field by field: `rt verdict` refuses one that a
+// macro or a derive of this repository writes.
 use crate::fields::Fields;
 use crate::room::Room;
 use identity::identity::VoterSlotIdentity;
@@ -13,6 +14,7 @@ pub trait Raw: Sized {
     fn write(&self, room: &mut Room);
 }
 
+// There is an `impl` for each type of number, since the library has no trait of all of them.
 impl Raw for u8 {
     fn read(fields: &mut Fields) -> Option<u8> {
         fields.u8()
@@ -53,7 +55,8 @@ impl Raw for bool {
     }
 }
 
-// One place after another. There is a first one: no array of these records is empty.
+// One place after another. There is a first one: no array of these records is empty. The array is
+// filled by hand, since a closure that the library makes one by cannot pass on the `?` of a field.
 impl<T: Raw + Copy, const N: usize> Raw for [T; N] {
     fn read(fields: &mut Fields) -> Option<[T; N]> {
         let mut places = [T::read(fields)?; N];
@@ -315,7 +318,7 @@ impl Raw for SnapshotId {
     }
 }
 
-// Likewise.
+// A name is read and written as the id of a snapshot is: its length may be more than its place holds.
 impl Raw for SpiffeId {
     fn read(fields: &mut Fields) -> Option<SpiffeId> {
         Some(SpiffeId {

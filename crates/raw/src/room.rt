@@ -6,10 +6,12 @@ pub struct Room<'a> {
 }
 
 impl<'a> Room<'a> {
+    // The room that a lent place has, all of it.
     pub fn of(place: &'a mut [u8]) -> Room<'a> {
         Room { left: place }
     }
 
+    // Writes the bytes to the front of what is left, where they have room.
     pub fn bytes(&mut self, bytes: &[u8]) {
         if let Some(place) = self.left.split_off_mut(..bytes.len()) {
             place.copy_from_slice(bytes);

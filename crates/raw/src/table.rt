@@ -1,10 +1,11 @@
 // Table values in the bodies of questions: the raw form of oracle/FORMAT.md, 8,062 bytes that are
 // carried as pieces, and the table that they stand for. Every field has its place, so that a table
 // may be invalid in every way.
+use crate::crc::crc32;
 use crate::fields::Fields;
 use crate::form::Raw;
 use crate::room::Room;
-use records::records::{LostVoterAttestationV1, VoterSlotTable};
+use records::records::VoterSlotTable;
 
 // The bytes of the raw form.
 pub const TABLE_SIZE: usize = 8062;
@@ -15,7 +16,7 @@ pub fn sparse_table(fields: &mut Fields) -> Option<VoterSlotTable> {
     table_in(&raw)
 }
 
-// Likewise, where nothing comes after it.
+// The table that the pieces of a body make, where nothing comes after them.
 pub fn last_table(mut fields: Fields) -> Option<VoterSlotTable> {
     let table = sparse_table(&mut fields)?;
     fields.end()?;
@@ -51,12 +52,9 @@ pub fn table_in(raw: &[u8; TABLE_SIZE]) -> Option<VoterSlotTable> {
     Raw::read(&mut Fields::of(raw))
 }
 
-// The raw form of a table,
-pub fn put_table(raw: &mut [u8], table: VoterSlotTable) {
-    table.write(&mut Room::of(raw));
-}
-
-// and of an attestation.
-pub fn put_attestation(raw: &mut [u8], attestation: LostVoterAttestationV1) {
-    attestation.write(&mut Room::of(raw));
+// The checksum of a value's raw form, which is laid to the start of `raw`: it stands for the value in
+// a reply.
+pub fn raw_checksum<T: Raw>(value: &T, raw: &mut [u8]) -> u64 {
+    value.write(&mut Room::of(raw));
+    u64::from(crc32(raw))
 }

@@ -1,6 +1,11 @@
 // Commands and observations in the bodies of questions: the records that document 01 has in "Replay
 // program". Each reader gives none where a record's body is not of its form: a value that it gives
 // may still be one that the call refuses.
+//
+// The crate journal reads the same four bodies, by functions with a proof. These are the test
+// programs' own, so that a fault of one of the two shows as a difference from the original.
+//
+// The line at a reader lists the fields of what it reads, in their order, each with its size in bytes.
 ghost use Rattle.std.specs.Prelude.{◌≤◌, length, IfSome};
 
 use control::control::*;
@@ -11,7 +16,7 @@ use raw::fields::Fields;
 use raw::form::Raw;
 use records::records::*;
 
-// cut 16, request_id 16, request_digest 32.
+// A Marker: cut 16, request_id 16, request_digest 32.
 pub fn marker_in(body: &[u8]) -> Option<VoterCommand> {
     let mut fields = Fields::of(body);
     let marker = named(MARKER, &mut fields)?;
@@ -33,7 +38,7 @@ fn named(kind: u8, fields: &mut Fields) -> Option<VoterCommand> {
     })
 }
 
-// cut 16, request_id 16, request_digest 32, step.
+// An Advance: cut 16, request_id 16, request_digest 32, and the step.
 pub fn advance_in(body: &[u8]) -> Option<VoterCommand> {
     let mut fields = Fields::of(body);
     let mut advance = named(ADVANCE, &mut fields)?;
@@ -42,7 +47,7 @@ pub fn advance_in(body: &[u8]) -> Option<VoterCommand> {
     Some(advance)
 }
 
-// kind 1; of a snapshot the snapshot, of a caught-up mark its cut 16.
+// A step: kind 1; after that of a snapshot the snapshot, after that of a caught-up mark its cut 16.
 fn step(fields: &mut Fields) -> Option<VoterReplacementStep> {
     let kind = fields.u8()?;
     let mut step = VoterReplacementStep::default();
@@ -56,7 +61,7 @@ fn step(fields: &mut Fields) -> Option<VoterReplacementStep> {
     Some(step)
 }
 
-// cut 16, id with its size of 2, digest 32.
+// A snapshot: cut 16, the id with its size of 2 before it, digest 32.
 fn snapshot(fields: &mut Fields) -> Option<VoterSnapshotEvidence> {
     Some(VoterSnapshotEvidence {
         cut: Raw::read(fields)?,
@@ -68,10 +73,10 @@ fn snapshot(fields: &mut Fields) -> Option<VoterSnapshotEvidence> {
 // The id may be longer than its field: then the value has its length, and gets 30.
 fn snapshot_id(fields: &mut Fields) -> Option<SnapshotId> {
     let len = usize::from(fields.u16()?);
+    let part = fields.part(len)?;
+    let held = len.min(MAX_VOTER_SNAPSHOT_ID_BYTES);
     let mut bytes = [0; MAX_VOTER_SNAPSHOT_ID_BYTES];
-    for (to, from) in bytes.iter_mut().zip(fields.part(len)?) {
-        *to = *from;
-    }
+    bytes[..held].copy_from_slice(&part[..held]);
     Some(SnapshotId { len, bytes })
 }
 
@@ -87,8 +92,8 @@ pub struct Begin<'a> {
     supplied_configuration_id: [u8; 32],
 }
 
-// cut 16, expected_revision 8, expected_configuration 72, candidate 82, attestation with its size
-// of 2, supplied_request_digest 32, supplied_configuration_id 32.
+// A Begin: cut 16, expected_revision 8, expected_configuration 72, candidate 82, the attestation with
+// its size of 2 before it, supplied_request_digest 32, supplied_configuration_id 32.
 pub fn begin_in(body: &[u8]) -> Option<Begin<'_>> {
     let mut fields = Fields::of(body);
     let begin = Begin {
@@ -110,6 +115,7 @@ fn sized<'a>(fields: &mut Fields<'a>) -> Option<&'a [u8]> {
     fields.part(size)
 }
 
+// The scope of a configuration: cluster_id 32, configuration_id 32, configuration_epoch 8.
 fn configuration(fields: &mut Fields) -> Option<ConsensusIdentity> {
     Some(ConsensusIdentity {
         cluster_id: fields.array()?,
@@ -141,8 +147,8 @@ impl Begin<'_> {
     }
 }
 
-// cut 16, count of sets 1, the sets, the nodes. Lays the sets one after another into `ids`, with
-// the count of each, and the nodes, a set more.
+// An observation: cut 16, the count of sets 1, the sets, and the nodes, which are a set too. It lays the
+// sets one after another into `ids`, with the count of each in `counts`, and the nodes into `nodes`.
 pub fn observation_in<'a>(
     ids: &'a mut [u64],
     counts: &'a mut [usize],

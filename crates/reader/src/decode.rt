@@ -6,7 +6,7 @@
 ghost use Rattle.std.specs.Prelude.{◌≡◌, ◌≤◌, length, IfOk};
 ghost use Rattle.format.specs.Through.{whole};
 ghost use Rattle.format.specs.Reads.{reads};
-ghost use Rattle.records.specs.Blank.{blank_voter_slot_member, blank_voter_replacement_result, blank_voter_slot_record, blank_voter_snapshot_evidence, blank_lost_voter_attestation_v1, blank_voter_replacement_record};
+ghost use Rattle.records.specs.Blank.{blank_lost_voter_attestation_v1, blank_voter_replacement_record};
 ghost use Rattle.layout.specs.Told.{told, told_at, told_whole, told_whole_at};
 ghost use Rattle.layout.specs.Layout.{binding, member, configuration, result_head, replacement_result, slot_member, slot, claims_request, claims_slot, claims_end, claims, attestation, snapshot, evidence, replacement, table_head, table};
 
@@ -71,7 +71,7 @@ impl<'a> Reader<'a> {
         })
     }
 
-    // The groups of an attestation.
+    // The version of an attestation and the first of its groups: which request it is of.
     #[tactic(auto, using(format::specs::Reads::reads_three), unfolding(layout::specs::Layout::claims_request))]
     fn claims_request(&mut self) -> Result<ClaimsRequest, Refusal>
         ensures { told result self.new.bytes.now ≡ reads claims_request self.old.bytes.now }
@@ -83,6 +83,7 @@ impl<'a> Reader<'a> {
         })
     }
 
+    // The second group of an attestation: of which slot it is, and for which candidate.
     #[tactic(auto, using(format::specs::Reads::reads_four), unfolding(layout::specs::Layout::claims_slot))]
     fn claims_slot(&mut self) -> Result<ClaimsSlot, Refusal>
         ensures { told result self.new.bytes.now ≡ reads claims_slot self.old.bytes.now }
@@ -95,6 +96,7 @@ impl<'a> Reader<'a> {
         })
     }
 
+    // The last group of an attestation: why and when the candidate is admitted, and the signature.
     #[tactic(auto, using(format::specs::Reads::reads_four), unfolding(layout::specs::Layout::claims_end))]
     fn claims_end(&mut self) -> Result<ClaimsEnd, Refusal>
         ensures { told result self.new.bytes.now ≡ reads claims_end self.old.bytes.now }
@@ -273,7 +275,8 @@ impl Decode for VoterSnapshotEvidence {
     }
 }
 
-// All of the bytes are one attestation, of the rule of validation.rs.
+// All of the bytes are one attestation, of the rule of validation.rs. No code here calls it: it stays
+// for callers in Rust, since what this layer has promised stays promised.
 pub fn read_whole_attestation(bytes: &[u8]) -> Result<LostVoterAttestationV1, Refusal>
     ensures { told_whole result (length bytes.now) ≡ whole attestation bytes.now }
 {

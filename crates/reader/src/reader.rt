@@ -75,7 +75,8 @@ impl<'a> Reader<'a> {
         Ok(*front)
     }
 
-    // `u8`
+    // `u8`. There is a method for each width, since the library has no trait of all numbers: each is
+    // made by its own `from_be_bytes`, and has a lemma of its own.
     #[tactic(auto, using(format::specs::Reads::reads_uint, format::specs::Reads::number_of_1))]
     pub fn u8(&mut self) -> Result<u8, Refusal>
         ensures { told result self.new.bytes.now ≡ reads (uint 1) self.old.bytes.now }
@@ -190,7 +191,8 @@ impl<'a> Reader<'a> {
         })
     }
 
-    // `optional`: a part that may be absent, with the blank that stands for it then.
+    // `optional`: a part that may be absent, with the blank that stands for it then. It gives no
+    // `Option`: the records have the flag beside the value (document 01).
     #[tactic(auto, using(format::specs::Reads::reads_opt))]
     pub fn optional<T: Decode + Copy>(&mut self, blank: T) -> Result<(bool, T), Refusal>
         ensures { told result self.new.bytes.now ≡ reads (opt T.form blank) self.old.bytes.now }
@@ -202,8 +204,9 @@ impl<'a> Reader<'a> {
     }
 
     // The first so many of the nine places, which are blank; the others stay so. It takes the count
-    // beside them: of a part, `&mut places[..count]`, that is lent, each exit of its callers needed an
-    // answer of its own to say that the part and the blanks behind it are the form's nine.
+    // beside them: where the callers lent a part, `&mut places[..count]`, a proof had to be written by
+    // hand for each `?` and each return in them, that the part and the blanks behind it are the form's
+    // nine. The loop goes by the place, since its invariant (`Filled`) counts the places that are read.
     #[tactic(auto, using(format::specs::ReadsMore::filled_none, format::specs::ReadsMore::padded_refused))]
     pub fn fill<T: Decode + Blank + Copy>(
         &mut self,
@@ -225,7 +228,7 @@ impl<'a> Reader<'a> {
     fn optional_log_id(&mut self) -> Result<OptionalLogId, Refusal>
         ensures { told result self.new.bytes.now ≡ reads optional_log_id self.old.bytes.now }
     {
-        let (is_some, cut) = self.optional(VoterSlotLogId { term: 0, index: 0 })?;
+        let (is_some, cut) = self.optional(VoterSlotLogId::default())?;
         Ok(OptionalLogId { is_some, cut })
     }
 

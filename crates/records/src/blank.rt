@@ -29,6 +29,7 @@ impl Blank for bool {
     }
 }
 
+// There is an `impl` for each type of number, since the library has no trait of all of them.
 impl Blank for u8 {
     ghost blank = { 0 };
 

@@ -18,7 +18,8 @@ pub fn is_valid_log_id(cut: VoterSlotLogId) -> bool
     (0 < cut.term) & (0 < cut.index)
 }
 
-// `VoterSlotLogId::follows`.
+// `VoterSlotLogId::follows`. It is no `PartialOrd`: it takes a third argument, whether equal cuts are
+// allowed, and of two cuts of one index neither follows the other where their terms differ.
 #[tactic(auto, unfolding(crate::specs::Equality::all_true, crate::specs::Equality::same_voter_slot_log_id, crate::specs::Evidence::follows))]
 pub fn log_id_follows(cut: VoterSlotLogId, older: VoterSlotLogId, allow_equal: bool) -> bool
     ensures { result ≡ follows cut older allow_equal }

@@ -5,9 +5,9 @@
 // bytes and a length, an `Option` is a yes or no next to the record; what is after a count or a
 // length and what is absent is zero; enums that a table holds are numbers with names.
 //
-// Each of these is so since document 01 has it, and a C caller lends tables in this layout: there is
-// no heap for a `Vec` or a `String`, and a caller may hand in any count, length or number, and gets
-// 30 where the Rust types hold none such.
+// Each of these is so since document 01 has it ("What must change shape"): there is no heap for a
+// `Vec` or a `String`, and a caller may hand in any count, length or number, and gets 30 where the
+// Rust types hold none such.
 ghost use Rattle.std.specs.Prelude.{◌≡◌, ◌≤◌, length};
 ghost use Rattle.records.specs.Records.{slots_in_use, members_in_use};
 
@@ -65,6 +65,11 @@ pub const STORAGE_LOST: u8 = 1;
 pub const TIME_BOUND_LOSS: u8 = 2;
 
 // The name of a controller or a candidate: so many bytes, zero after them.
+//
+// It and `SnapshotId` differ in their size alone. They are two structs, each with its own checks,
+// blank and bytes, since the definitions of specs/ name each (`blank_spiffe_id`,
+// `same_snapshot_id`, ..): with one struct of any size each of these would be a case of a more general
+// definition, and the original has two names for the two texts.
 #[repr(C)]
 #[derive(Clone, Copy, PartialEq, Eq)]
 pub struct SpiffeId {
@@ -286,6 +291,10 @@ pub struct VoterSlotTable {
 
 impl VoterConfiguration {
     // Its members, without the blanks; all nine places where the count is above nine.
+    //
+    // What is done for the members of a configuration and for the slots of a table is one call of the
+    // library each, here and in the other files: one function for both would need a trait of what has
+    // a slot number, with its laws.
     pub fn members_in_use(&self) -> &[VoterSlotMember]
         ensures members { result.now ≡ members_in_use self.now }
         ensures count { self.now.count ≤ 9 → length result.now ≡ self.now.count }

@@ -11,7 +11,7 @@ ghost use Rattle.records.specs.Representable.{is_zero, representable_spiffe_id, 
 
 use crate::blank::{Blank, are_blank};
 use crate::records::*;
-use identity::identity::{MAX_VOTER_INCARNATION, VoterIncarnation};
+use identity::identity::{VoterIncarnation, is_configuration_epoch, validate_voter_incarnation};
 use identity::text::{MAX_VOTER_SNAPSHOT_ID_BYTES, MAX_VOTER_SPIFFE_ID_BYTES, is_utf8};
 
 impl VoterSlotTable {
@@ -20,7 +20,7 @@ impl VoterSlotTable {
     pub fn is_representable(&self) -> bool
         ensures { result ≡ representable self.now }
     {
-        if self.configuration_epoch < 1 {
+        if !is_configuration_epoch(self.configuration_epoch) {
             return false;
         }
         if MAX_FIXED_VOTER_SLOTS < self.count {
@@ -38,7 +38,8 @@ impl VoterSlotTable {
     // The nine places: a slot in each below the count, and a blank in each after it.
     //
     // By `split_at`, with `all` of the slots in use and `are_blank` of the rest, the check of an idle
-    // table took up to 6 percent longer than by this loop.
+    // table took up to 6 percent longer than by this loop. A configuration has the same loop over its
+    // members, whose records have another definition (`slot_place`, `member_place`).
     #[tactic(auto, unfolding(crate::specs::Records::all_below))]
     fn slot_places(&self) -> bool
         ensures { result ≡ all_below (λ i. slot_place (leb self.now.count i) (slot_at self.now i)) 9 }
@@ -84,7 +85,8 @@ impl VoterSlotMember {
         (1 <= self.identity.slot) & is_incarnation(self.identity.incarnation)
     }
 
-    // A place past the count is blank.
+    // A place past the count is blank. The flag is that of the definition's `cond`; this is its one
+    // caller's test of a place, in a function that has the definition's clause.
     fn is_place(&self, past: bool) -> bool
         ensures { result ≡ member_place past self.now }
     {
@@ -96,10 +98,11 @@ impl VoterSlotMember {
 }
 
 // Whether the number is an incarnation.
+#[tactic(auto, unfolding(identity::specs::Identity::validate_voter_incarnation))]
 fn is_incarnation(value: VoterIncarnation) -> bool
     ensures { result ≡ is_voter_incarnation value }
 {
-    (1 <= value) & (value <= MAX_VOTER_INCARNATION)
+    validate_voter_incarnation(value).is_ok()
 }
 
 impl VoterReplacementResult {
@@ -109,7 +112,7 @@ impl VoterReplacementResult {
         ensures { result ≡ representable_result self.now }
     {
         is_incarnation(self.incarnation)
-            & ((1 <= self.configuration_epoch) & (self.kind <= SUPERSEDED))
+            & (is_configuration_epoch(self.configuration_epoch) & (self.kind <= SUPERSEDED))
     }
 }
 
@@ -193,7 +196,7 @@ impl VoterConfiguration {
     fn is_representable(&self) -> bool
         ensures { result ≡ representable_configuration self.now }
     {
-        if self.epoch < 1 {
+        if !is_configuration_epoch(self.epoch) {
             return false;
         }
         if MAX_FIXED_VOTER_SLOTS < self.count {

@@ -40,15 +40,12 @@ pub struct Claims {
     pub prepare: VoterSlotLogId,
 }
 
-// `require`: a no is `InvalidRecord`.
+// `require`: a no is `InvalidRecord`. It and `kept` of successor.rt have a name each, since the
+// definitions do (`require_of`, `or_regression`), and the original says `require(..)?`.
 fn require(valid: bool) -> Answer
     ensures { result ≡ require_of valid Accepted }
 {
-    if valid {
-        Ok(())
-    } else {
-        Err(Refusal::InvalidRecord)
-    }
+    valid.then_some(()).ok_or(Refusal::InvalidRecord)
 }
 
 // `validate_count`.
@@ -302,13 +299,15 @@ impl VoterSlotTable {
 
     // The first refusal, slot by slot: 3 in an earlier slot comes before 6 in a later one.
     //
-    // It asks for the count, since the definition would go on past the nine places.
+    // It asks for the count, since the definition would go on past the nine places. The members are
+    // taken by the slot's place, which the invariant counts: in a `for` over a `zip` of the three the
+    // proof has iterators and no place, and it did not close.
     #[tactic(auto, unfolding(crate::specs::Validation::validate_members))]
     fn validate_members(&self) -> Answer
         requires { self.now.count ≤ 9 }
         ensures { result ≡ validate_members self.now self.now.count }
     {
-        let claims = Claims::of(&self.replacement);
+        let claims = Claims::from(&self.replacement);
         let predecessor = &self.replacement.predecessor.members;
         let successor = &self.replacement.successor.members;
         for (i, slot) in self.slots_in_use().iter().enumerate() {
@@ -359,11 +358,11 @@ fn is_valid_result(
                     | ((slot.phase == VOTING) & (result.kind == COMPLETED)))))
 }
 
-impl Claims {
-    // What the open request claims.
-    fn of(operation: &VoterReplacementRecord) -> Claims
-        ensures { result ≡ claims_of operation.now }
-    {
+// What the open request claims.
+impl From<&VoterReplacementRecord> for Claims {
+    ghost from_gives = { λ operation claims. claims ≡ claims_of operation.now };
+
+    fn from(operation: &VoterReplacementRecord) -> Claims {
         Claims {
             request_id: operation.attestation.request_id,
             slot: operation.attestation.slot,
@@ -375,7 +374,9 @@ impl Claims {
             prepare: operation.evidence.prepare,
         }
     }
+}
 
+impl Claims {
     // One slot and its two members.
     #[tactic(auto, unfolding(crate::specs::Equality::all_true, crate::specs::Equality::same_voter_slot_member, crate::specs::Equality::same_voter_slot_identity, crate::specs::Validation::validate_member))]
     fn validate_member(

@@ -97,8 +97,9 @@ impl<'a> Writer<'a> {
         self.u64(member.admission_generation);
     }
 
-    // The front of a receipt: its proof and the receipt's are each within the search's limits, those of
-    // one for both are not.
+    // The front of a receipt. It is a function of its own, since the search for a proof gives up at a
+    // limit of steps: it finds one for this half and one for the whole receipt that calls it, and none
+    // for both in one function.
     #[tactic(auto, using(crate::specs::PutLaws::writing), unfolding(layout::specs::Layout::result_head))]
     fn result_head(&mut self, res: &VoterReplacementResult)
         requires { HasRoom ((layout.result_head).enc (result_head_of res.now)) self.old }
@@ -110,7 +111,8 @@ impl<'a> Writer<'a> {
         self.u64(res.revision);
     }
 
-    // `unsigned_claims` and the signature, in three groups and the names.
+    // `unsigned_claims`, and the signature after it, are written in three groups and the names. This is
+    // the first group: which request the attestation is of.
     #[tactic(auto, using(crate::specs::PutLaws::writing), unfolding(layout::specs::Layout::claims_request))]
     fn claims_request(&mut self, claims: &LostVoterAttestationV1)
         requires { HasRoom ((layout.claims_request).enc (claims_request_of claims.now)) self.old }
@@ -121,6 +123,7 @@ impl<'a> Writer<'a> {
         self.bytes(&claims.request_digest);
     }
 
+    // The second group: of which slot the attestation is, and for which candidate.
     #[tactic(auto, using(crate::specs::PutLaws::writing), unfolding(layout::specs::Layout::claims_slot))]
     fn claims_slot(&mut self, claims: &LostVoterAttestationV1)
         requires { HasRoom ((layout.claims_slot).enc (claims_slot_of claims.now)) self.old }
@@ -136,6 +139,7 @@ impl<'a> Writer<'a> {
         self.bytes(&claims.candidate_key_digest);
     }
 
+    // The last group: why and when the candidate is admitted, and the signature.
     #[tactic(auto, using(crate::specs::PutLaws::writing), unfolding(layout::specs::Layout::claims_end))]
     fn claims_end(&mut self, claims: &LostVoterAttestationV1)
         requires { HasRoom ((layout.claims_end).enc (claims_end_of claims.now)) self.old }
@@ -295,7 +299,8 @@ impl Encode for VoterSlotTable {
     }
 }
 
-// `encode_voter_slot_table`, of a table that is valid. It and `table_size` take the table by value: of
+// `encode_voter_slot_table`, of a table that is valid. It takes the place in the buffer as `put_bytes`
+// does, which all that is written goes through. It and `table_size` take the table by value: of
 // one that lies behind a `&` the check does not know that its arrays have their lengths, and so not
 // how many bytes they take.
 pub fn put_table(buffer: &mut [u8], at: usize, table: VoterSlotTable) -> usize
@@ -307,7 +312,11 @@ pub fn put_table(buffer: &mut [u8], at: usize, table: VoterSlotTable) -> usize
     output.at
 }
 
-// How many bytes each takes (Size.antt): an attestation,
+// The functions from here on say how many bytes a value takes, as Size.antt does. Each has a size of
+// its own, and is called once or twice: as a method of `Encode` there would be a size, with its clause,
+// of the other writers too, which nobody asks for.
+//
+// How many bytes an attestation takes.
 fn attestation_size(claims: &LostVoterAttestationV1) -> usize
     requires { NamesFit claims.now }
     ensures { result ≡ attestation_size claims.now }
@@ -315,7 +324,8 @@ fn attestation_size(claims: &LostVoterAttestationV1) -> usize
     ATTESTATION_SIZE + claims.candidate_spiffe_id.len + claims.controller_spiffe_id.len
 }
 
-// the slots in use,
+// How many bytes the slots in use take. The definition is a sum over the places below a count, and so
+// is the loop's.
 #[tactic(auto, using(crate::specs::SizeLaws::sizes), unfolding(crate::specs::Size::slots_size))]
 fn slots_size(slots: &[VoterSlotRecord]) -> usize
     requires { length slots.now ≤ 9 }
@@ -332,7 +342,7 @@ fn slots_size(slots: &[VoterSlotRecord]) -> usize
     size
 }
 
-// a cut, with its flag,
+// How many bytes a cut takes, with its flag.
 fn cut_size(optional: OptionalLogId) -> usize
     ensures { result ≡ cut_size optional }
 {
@@ -343,7 +353,7 @@ fn cut_size(optional: OptionalLogId) -> usize
     }
 }
 
-// three of them,
+// How many bytes three cuts take.
 #[tactic(auto, using(crate::specs::SizeLaws::sizes))]
 fn three_cuts_size(cuts: ThreeCuts) -> usize
     ensures { result ≡ three_cuts_size cuts }
@@ -351,7 +361,7 @@ fn three_cuts_size(cuts: ThreeCuts) -> usize
     cut_size(cuts.first) + cut_size(cuts.second) + cut_size(cuts.third)
 }
 
-// a configuration,
+// How many bytes a configuration takes.
 fn configuration_size(configuration: &VoterConfiguration) -> usize
     requires { configuration.now.count ≤ 9 }
     ensures { result ≡ configuration_size configuration.now }
@@ -359,7 +369,7 @@ fn configuration_size(configuration: &VoterConfiguration) -> usize
     CONFIGURATION_SIZE + MEMBER_SIZE * configuration.count
 }
 
-// the evidence of a replacement,
+// How many bytes the evidence of a replacement takes.
 #[tactic(auto, using(crate::specs::SizeLaws::sizes), unfolding(crate::specs::Size::evidence_size))]
 fn evidence_size(evidence: &VoterReplacementEvidence) -> usize
     requires { evidence.now.snapshot.snapshot_id.len ≤ 256 }
@@ -372,7 +382,7 @@ fn evidence_size(evidence: &VoterReplacementEvidence) -> usize
     EVIDENCE_SIZE + cuts
 }
 
-// an open request,
+// How many bytes an open request takes.
 #[tactic(auto, using(crate::specs::SizeLaws::sizes), unfolding(crate::specs::Size::replacement_size))]
 fn replacement_size(operation: &VoterReplacementRecord) -> usize
     requires { ReplacementFits operation.now }
@@ -386,7 +396,7 @@ fn replacement_size(operation: &VoterReplacementRecord) -> usize
         + evidence_size(&operation.evidence)
 }
 
-// and a table.
+// How many bytes a table takes.
 #[tactic(auto, using(crate::specs::SizeLaws::sizes))]
 pub fn table_size(table: VoterSlotTable) -> usize
     requires { TableFits table }

@@ -59,7 +59,8 @@ impl<'a> Writer<'a> {
         self.at = put_bytes(self.buffer, self.at, bytes);
     }
 
-    // `u8`
+    // `u8`. There is a method for each width, since the library has no trait of all numbers; the bytes
+    // of each are given by its own `to_be_bytes`, and have a lemma of their own.
     #[tactic(auto, using(format::specs::Put::bytes_of_1))]
     pub fn u8(&mut self, value: u8)
         requires { HasRoom ((uint 1).enc value) self.old }
@@ -149,7 +150,8 @@ impl<'a> Writer<'a> {
         }
     }
 
-    // A part that may be absent.
+    // A part that may be absent. It is no `Option`: the records have the flag beside the value
+    // (document 01).
     #[tactic(auto, using(crate::specs::PutLaws::optional))]
     pub fn optional<T: Encode>(&mut self, is_some: bool, value: &T)
         requires room { HasRoom (optional_bytes T.bytes is_some value.now) self.old }
