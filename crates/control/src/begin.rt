@@ -298,16 +298,12 @@ fn prepared_at(cut: VoterSlotLogId) -> VoterReplacementEvidence
 
 // A Begin, by value. The caller has tested that the cut has no zero and that the command is
 // representable (`checked_of` accepted); then the answer is `apply_control`'s (`valid-begin`).
-pub fn begin(table: VoterSlotTable, begin: VoterBegin) -> Controlled
+pub fn begin(mut table: VoterSlotTable, begin: VoterBegin) -> Controlled
     requires { validate table ≡ Accepted }
     ensures { (result.answer, result.table) ≡ begin_outcome table begin }
 {
-    let mut next = table;
-    let answer = begin_in_place(&mut next, begin);
-    Controlled {
-        answer,
-        table: next,
-    }
+    let answer = begin_in_place(&mut table, begin);
+    Controlled { answer, table }
 }
 
 // `begin` on a table that is lent: the caller has made the same tests.

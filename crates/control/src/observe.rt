@@ -136,23 +136,24 @@ fn test_sets(
     known: bool,
     lingers: bool,
 ) -> SetTests
-    ensures { result ≡ tests_of phase old.now new.now membership.now.sets.now membership.now.counts.now membership.now.nodes.now known lingers }
+    ensures { result ≡ tests_of phase old.now new.now membership.now.observation.sets.now membership.now.observation.counts.now membership.now.observation.nodes.now known lingers }
 {
-    let nodes = membership.nodes;
+    let observation = &membership.observation;
+    let nodes = observation.nodes;
     let candidate = least_new(old, new);
     let has_old = is_subset(old, nodes);
     let has_new = is_subset(new, nodes);
     let only_new = is_subset(nodes, new);
     // Asked only where the one set is the predecessor's: then its length is the `old.len()` of the
     // Rust.
-    let one_more = is_one_more(nodes.len(), membership.sets.len());
+    let one_more = is_one_more(nodes.len(), observation.sets.len());
     SetTests {
         no_candidate: candidate == NO_ID,
-        is_old: membership.is_one_set(old),
+        is_old: observation.is_one_set(old),
         fits_old: (((phase < JOINT) & has_old) & one_more) & lingers,
         has_candidate: contains(nodes, candidate),
-        is_joint: membership.are_two_sets(old, new) & (known & (has_old & has_new)),
-        is_new: membership.is_one_set(new) & (only_new & has_new),
+        is_joint: observation.are_two_sets(old, new) & (known & (has_old & has_new)),
+        is_new: observation.is_one_set(new) & (only_new & has_new),
     }
 }
 
@@ -224,9 +225,9 @@ impl OpenRequest<'_> {
         new: &[ConsensusNodeId],
         membership: &Membership,
     ) -> Seen
-        ensures { sight_of result ≡ seen_of self.now.operation.now old.now new.now membership.now.sets.now membership.now.counts.now membership.now.nodes.now }
+        ensures { sight_of result ≡ seen_of self.now.operation.now old.now new.now membership.now.observation.sets.now membership.now.observation.counts.now membership.now.observation.nodes.now }
     {
-        let outside = first_outside(membership.nodes, old, new);
+        let outside = first_outside(membership.observation.nodes, old, new);
         let lingers = self.may_linger(outside);
         let phase = self.operation.phase;
         let tests = test_sets(old, new, membership, phase, outside.is_none(), lingers);
@@ -235,7 +236,7 @@ impl OpenRequest<'_> {
 
     // `observe_membership` with a request open: what its arms tell apart.
     fn see(&self, membership: &Membership) -> Seen
-        ensures { sight_of result ≡ see self.now.operation.now (split_sets membership.now.sets.now membership.now.counts.now) membership.now.nodes.now }
+        ensures { sight_of result ≡ see self.now.operation.now (split_sets membership.now.observation.sets.now membership.now.observation.counts.now) membership.now.observation.nodes.now }
     {
         let predecessor = &self.operation.predecessor;
         let successor = &self.operation.successor;
@@ -324,17 +325,17 @@ fn judge_seen(table: &VoterSlotTable, seen: Seen, cut: VoterSlotLogId) -> Result
 
 // No request is open: `members` are the ids of the slots.
 fn judge_members(members: &[ConsensusNodeId], membership: &Membership) -> Result<Observed, Refusal>
-    ensures { verdict_of_observed result ≡ judge_members members.now membership.now.sets.now membership.now.counts.now membership.now.nodes.now }
+    ensures { verdict_of_observed result ≡ judge_members members.now membership.now.observation.sets.now membership.now.observation.counts.now membership.now.observation.nodes.now }
 {
-    let one = membership.is_one_set(members);
-    let same = is_same(membership.nodes, members);
+    let one = membership.observation.is_one_set(members);
+    let same = is_same(membership.observation.nodes, members);
     accept_if(one & same, Observed::Keep)
 }
 
 // `observe_membership` with no request open.
 fn judge_closed(table: &VoterSlotTable, membership: &Membership) -> Result<Observed, Refusal>
     requires { (table.now.count ≤ 9) × (table.now.has_replacement ≡ false) }
-    ensures { verdict_of_observed result ≡ judge_closed table.now (split_sets membership.now.sets.now membership.now.counts.now) membership.now.nodes.now }
+    ensures { verdict_of_observed result ≡ judge_closed table.now (split_sets membership.now.observation.sets.now membership.now.observation.counts.now) membership.now.observation.nodes.now }
 {
     let ids = ids_of_slots(table);
     judge_members(&ids[..table.count], membership)
@@ -348,7 +349,7 @@ fn judge_sets(
     cut: VoterSlotLogId,
 ) -> Result<Observed, Refusal>
     requires { few_members table.now ≡ true }
-    ensures { verdict_of_observed result ≡ judge_sets table.now (split_sets membership.now.sets.now membership.now.counts.now) membership.now.nodes.now cut }
+    ensures { verdict_of_observed result ≡ judge_sets table.now (split_sets membership.now.observation.sets.now membership.now.observation.counts.now) membership.now.observation.nodes.now cut }
 {
     if table.revision == u64::MAX {
         return Err(Refusal::RevisionExhausted);
@@ -398,11 +399,7 @@ fn weigh_lent(table: &VoterSlotTable, observation: VoterObservation) -> Result<O
     if !(rising & nodes_rise) {
         return Err(Refusal::NotRising);
     }
-    let membership = Membership {
-        sets: observation.sets,
-        counts: observation.counts,
-        nodes: observation.nodes,
-    };
+    let membership = Membership { observation };
     judge_sets(table, &membership, observation.cut)
 }
 

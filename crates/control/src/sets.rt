@@ -29,25 +29,7 @@ pub struct VoterObservation<'a> {
     pub cut: VoterSlotLogId,
 }
 
-// No id of a member or a node: those lie below 2^63.
-pub const NO_ID: ConsensusNodeId = u64::MAX;
-
-// An observed membership: sets of voters, and nodes. Each set rises, and so do the nodes.
-#[derive(Clone, Copy)]
-pub struct Membership<'a> {
-    // The sets, one after another.
-    pub sets: &'a [ConsensusNodeId],
-    // How many ids each of them has.
-    pub counts: &'a [usize],
-    // The nodes.
-    pub nodes: &'a [ConsensusNodeId],
-    pub ghost counted: { total counts.now ≡ length sets.now },
-    pub ghost held: { every is_held_node_id nodes.now ≡ true },
-    pub ghost rising: { all_rising (split_sets sets.now counts.now) ≡ true },
-    pub ghost nodes_rise: { is_rising nodes.now ≡ true },
-}
-
-impl Membership<'_> {
+impl VoterObservation<'_> {
     // Whether the sets are this one alone. Their number is tested first: ids are compared each with
     // each.
     pub fn is_one_set(&self, ids: &[ConsensusNodeId]) -> bool
@@ -59,6 +41,7 @@ impl Membership<'_> {
     // Whether the sets are these two.
     #[tactic(auto, using(crate::specs::ObserveSetsLaws::first_count))]
     pub fn are_two_sets(&self, old: &[ConsensusNodeId], new: &[ConsensusNodeId]) -> bool
+        requires { total self.now.counts.now ≤ length self.now.sets.now }
         ensures { result ≡ are_two_sets self.now.sets.now self.now.counts.now old.now new.now }
     {
         if self.counts.len() != 2 {
@@ -68,6 +51,19 @@ impl Membership<'_> {
         is_same(before, old) & is_same(after, new)
     }
 }
+
+// An observed membership: an observation whose sets rise, and so do the nodes.
+#[derive(Clone, Copy)]
+pub struct Membership<'a> {
+    pub observation: VoterObservation<'a>,
+    pub ghost counted: { total observation.counts.now ≡ length observation.sets.now },
+    pub ghost held: { every is_held_node_id observation.nodes.now ≡ true },
+    pub ghost rising: { all_rising (split_sets observation.sets.now observation.counts.now) ≡ true },
+    pub ghost nodes_rise: { is_rising observation.nodes.now ≡ true },
+}
+
+// No id of a member or a node: those lie below 2^63.
+pub const NO_ID: ConsensusNodeId = u64::MAX;
 
 // Whether the counts add up to the length. What is left of it is counted down, so that no sum
 // wraps.
