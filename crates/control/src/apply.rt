@@ -32,9 +32,10 @@ pub struct Controlled {
 
 // `apply_control`: any table, any command and any cut.
 //
-// By value it is the call in place, and the table handed back; so are the other calls by value. One
-// function for all of them would take the call in place as a closure, whose clause says again what
-// the call's own says: it is no shorter than the three lines.
+// By value it is the call in place, and the table handed back; so are the other calls by value, which
+// are for a Rust caller that holds its table so. One function for all of them would take the call in
+// place as a closure, whose clause says again what the call's own says: it is no shorter than the two
+// lines.
 pub fn apply_control(
     mut table: VoterSlotTable,
     control: VoterSlotControl,

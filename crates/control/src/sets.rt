@@ -16,7 +16,8 @@ use records::records::{
 };
 
 // An observation as its caller supplies it: ids of sets of voters, one set after another, how many
-// ids each set has, the nodes, and the engine's cut. Nothing is known of them.
+// ids each set has, the nodes, and the engine's cut. Nothing is known of them. Document 01 has the sets
+// one behind another in one slice, with their counts beside it, since no set is on a heap.
 #[derive(Clone, Copy)]
 pub struct VoterObservation<'a> {
     // The sets, one after another.
@@ -52,7 +53,8 @@ impl VoterObservation<'_> {
     }
 }
 
-// An observed membership: an observation whose sets rise, and so do the nodes.
+// An observed membership: an observation whose counts add up to its ids, whose sets and nodes rise,
+// and whose nodes are ids that the Rust type can hold.
 #[derive(Clone, Copy)]
 pub struct Membership<'a> {
     pub observation: VoterObservation<'a>,
@@ -84,7 +86,8 @@ pub fn add_up(counts: &[usize], len: usize) -> bool
 // Whether the Rust type can hold every id.
 //
 // `all` is as fast in this loop and those of `rises` and `is_subset`, but says what it answers index
-// by index, where the definitions go along the list: the proofs did not close.
+// by index, where the definitions go along the list: the proofs did not close. `sets_rise` takes one
+// set after another off the front of a slice, which an iterator of the counts does not have.
 #[tactic(auto, using(identity::specs::TextLaws::all_more), unfolding(identity::specs::Text::every))]
 pub fn are_held(ids: &[ConsensusNodeId]) -> bool
     ensures { result ≡ every is_held_node_id ids.now }
@@ -152,7 +155,13 @@ pub fn is_same(set: &[ConsensusNodeId], ids: &[ConsensusNodeId]) -> bool
     is_subset(set, ids) & is_subset(ids, set)
 }
 
-// The first id of the set that neither of the others has, if there is one.
+// The first id of the set that neither of the others has, if there is one. A `find` in place of the
+// loop would take a closure with a clause of its own and give a reference that is copied out again, so
+// that it is no shorter.
+//
+// `old` and `new`, here and in observe.rt, are the ids of an open request's two configurations. A
+// struct of the two would be put together in one place (`see`), and each function that is given them
+// would take both out again.
 #[tactic(auto, using(crate::specs::ObserveSetsLaws::outside_passed, crate::specs::ObserveSetsLaws::outside_found, crate::specs::ObserveSetsLaws::outside_none), unfolding(crate::specs::ObserveSets::first_of))]
 pub fn first_outside(
     set: &[ConsensusNodeId],
@@ -169,9 +178,10 @@ pub fn first_outside(
     None
 }
 
-// The least of the new ids that is not an old one, or none.
+// The least of the new ids that is not an old one, or `NO_ID` where there is none.
 //
-// The least so far begins at the greatest number: with an `Option` each turn has one test more.
+// The least so far begins at the greatest number: with an `Option` each turn has one test more. The
+// result is that number too and no `Option`, since the definition `least_new` gives it.
 #[tactic(auto, using(crate::specs::ObserveSetsLaws::least_more, crate::specs::ObserveSetsLaws::least_end))]
 pub fn least_new(old: &[ConsensusNodeId], new: &[ConsensusNodeId]) -> ConsensusNodeId
     ensures { result ≡ least_new old.now new.now no_id }
@@ -202,8 +212,11 @@ fn id_of(member: &VoterSlotMember) -> ConsensusNodeId
     member.identity.node_id().unwrap_or(0)
 }
 
-// `member_ids` in the order of the nine places; the caller lends those in use. A loop: the closure of
-// a `map` takes a clause of its own, and its proof a lemma more.
+// `member_ids` in the order of the nine places; the caller lends those in use.
+//
+// A loop over the places and no `map`, here and in `ids_of_slots`: the definition `listed` goes by the
+// place, so that one lemma of a turn (`listed_more`) proves both. The closure of a `map` would take a
+// clause of its own, and its list would have to be proved to be `listed` besides.
 #[tactic(auto, using(crate::specs::ObserveSetsLaws::listed_more), unfolding(crate::specs::ObserveSets::listed))]
 pub fn ids_of(configuration: &VoterConfiguration) -> [ConsensusNodeId; MAX_FIXED_VOTER_SLOTS]
     ensures { result ≡ listed configuration.now 9 }
@@ -215,7 +228,8 @@ pub fn ids_of(configuration: &VoterConfiguration) -> [ConsensusNodeId; MAX_FIXED
     ids
 }
 
-// The same of the slots. One function for both takes a closure too.
+// The ids of the slots' members in the order of the nine places. It is not one function with `ids_of`:
+// a place would have to be read by a closure, which takes a clause of its own.
 #[tactic(auto, using(crate::specs::ObserveSetsLaws::listed_more), unfolding(crate::specs::ObserveSets::listed))]
 pub fn ids_of_slots(table: &VoterSlotTable) -> [ConsensusNodeId; MAX_FIXED_VOTER_SLOTS]
     ensures { result ≡ listed (slot_members table.now) 9 }
