@@ -297,8 +297,9 @@ fn prepared_at(cut: VoterSlotLogId) -> VoterReplacementEvidence
     }
 }
 
-// A Begin, by value, for a Rust caller that holds its table so. The caller has tested that the cut has no zero and that the command is
-// representable (`checked_of` accepted); then the answer is `apply_control`'s (`valid-begin`).
+// A Begin, by value, for a Rust caller that holds its table so. The caller has tested that the cut has
+// no zero and that the command is representable (`checked_of` accepted); then the answer is
+// `apply_control`'s (`valid-begin`).
 pub fn begin(mut table: VoterSlotTable, begin: VoterBegin) -> Controlled
     requires { validate table ≡ Accepted }
     ensures { (result.answer, result.table) ≡ begin_outcome table begin }
