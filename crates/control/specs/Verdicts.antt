@@ -3,7 +3,7 @@
 -- From `apply_control` of control.rs, as Judgement cuts it; that the entry point is `apply_control`
 -- is proved by the laws of VerdictLaws.
 -- Assumes nothing.
-use Rattle.std.specs.Prelude.{cond, ◌&&◌, Result, Ok, Err}
+use Rattle.std.specs.Prelude.{ℕ, cond, ◌&&◌, Result, Ok, Err}
 use Rattle.identity.specs.Answer.{is_accepted, Answer, Accepted, InvalidTransition, Unrepresentable}
 use Rattle.identity.specs.declared.answer.Refusal.{Refusal}
 use Rattle.records.specs.Evidence.{valid_log_id}
@@ -40,6 +40,18 @@ abbrev pub answer_of : Verdict Move → Answer
 answer_of (refused answer) = answer
 answer_of kept = Accepted
 answer_of (moves m) = Accepted
+
+-- Nothing cites this but two laws of VerdictLaws; docs named it, and it stands: which table is made, as a number,
+-- 0 for none
+abbrev pub route_of : Verdict Move → ℕ
+route_of (refused answer) = 0
+route_of kept = 0
+route_of (moves records_snapshot) = 1
+route_of (moves records_caught_up) = 2
+route_of (moves continues) = 3
+route_of (moves fences) = 4
+route_of (moves finalizes) = 5
+route_of (moves begins) = 6
 
 -- what a step of an Advance makes
 unfoldable pub step_made : VoterSlotTable → VoterReplacementStep → VoterSlotLogId → Move → VoterSlotTable

@@ -32,22 +32,19 @@ pub struct Controlled {
 
 // `apply_control`: any table, any command and any cut.
 //
-// By value it is the call in place, and the table handed back; so are the other calls by value. One
-// function for all of them would take the call in place as a closure, whose clause says again what
-// the call's own says: it is no shorter than the three lines.
+// By value it is the call in place, and the table handed back; so are the other calls by value, which
+// are for a Rust caller that holds its table so. One function for all of them would take the call in
+// place as a closure, whose clause says again what the call's own says: it is no shorter than the two
+// lines.
 pub fn apply_control(
-    table: VoterSlotTable,
+    mut table: VoterSlotTable,
     control: VoterSlotControl,
     cut: VoterSlotLogId,
 ) -> Controlled
     ensures { (result.answer, result.table) ≡ apply_control table control cut }
 {
-    let mut next = table;
-    let answer = apply_control_in_place(&mut next, VoterCommand { control, cut });
-    Controlled {
-        answer,
-        table: next,
-    }
+    let answer = apply_control_in_place(&mut table, VoterCommand { control, cut });
+    Controlled { answer, table }
 }
 
 // The tests of the entry point: 30, and 25 for an invalid table or a zero in the cut.
@@ -85,16 +82,12 @@ pub fn apply_control_in_place(table: &mut VoterSlotTable, command: VoterCommand)
 // type of valid tables could not hold what they give back: none tests the cut, and of a Begin at the
 // cut (0, 0), which a closed table accepts, the table that is made is not valid. So the caller would
 // wrap its table anew for each call.
-pub fn apply_to_valid(table: VoterSlotTable, command: VoterCommand) -> Controlled
+pub fn apply_to_valid(mut table: VoterSlotTable, command: VoterCommand) -> Controlled
     requires { validate table ≡ Accepted }
     ensures { (result.answer, result.table) ≡ applied_of table command.control command.cut }
 {
-    let mut next = table;
-    let answer = apply_in_place(&mut next, command);
-    Controlled {
-        answer,
-        table: next,
-    }
+    let answer = apply_in_place(&mut table, command);
+    Controlled { answer, table }
 }
 
 // `apply_to_valid` on a table that is lent: the same tests. It takes a command of any kind, which has
@@ -123,16 +116,12 @@ fn mark(table: VoterSlotTable, command: VoterCommand) -> Answer
 
 // An Advance, by value. The caller has made the tests that `apply_to_valid` names
 // (`valid-advance`).
-pub fn advance(table: VoterSlotTable, advance: VoterAdvance) -> Controlled
+pub fn advance(mut table: VoterSlotTable, advance: VoterAdvance) -> Controlled
     requires { validate table ≡ Accepted }
     ensures { (result.answer, result.table) ≡ advance_outcome table advance }
 {
-    let mut next = table;
-    let answer = advance_in_place(&mut next, advance);
-    Controlled {
-        answer,
-        table: next,
-    }
+    let answer = advance_in_place(&mut table, advance);
+    Controlled { answer, table }
 }
 
 // `advance` on a table that is lent: the caller has made the same tests.

@@ -87,7 +87,7 @@ fn judge_known_request(
     }
 }
 
-// The tests of a fresh request, in the order of the Rust, with the request check as it was
+// The tests of a fresh request, in the order of the original, with the request check as it was
 // answered.
 fn begin_check(
     table: VoterSlotTable,
@@ -152,7 +152,8 @@ fn is_later(table: VoterSlotTable, cut: VoterSlotLogId) -> bool
 }
 
 // The table with the request opened. No test is made again. The request is put together here: made
-// by a call of its own, the whole table would be copied once more.
+// by a call of its own, the whole table would be copied once more. What it asks of the table, the count
+// too, stands in a clause here and in `begun_slots`, for the reason that make.rt gives.
 #[tactic(auto, unfolding(crate::specs::Control::begun_operation, crate::specs::BeginJudge::prepared_at))]
 pub fn begin_table(table: VoterSlotTable, begin: VoterBegin) -> VoterSlotTable
     requires { (table.revision ≡ full → ⊥) × (((current_configuration table).epoch ≡ full → ⊥) × ((table.count ≤ 9) × (named_index table begin.request < table.count))) }
@@ -296,18 +297,15 @@ fn prepared_at(cut: VoterSlotLogId) -> VoterReplacementEvidence
     }
 }
 
-// A Begin, by value. The caller has tested that the cut has no zero and that the command is
-// representable (`checked_of` accepted); then the answer is `apply_control`'s (`valid-begin`).
-pub fn begin(table: VoterSlotTable, begin: VoterBegin) -> Controlled
+// A Begin, by value, for a Rust caller that holds its table so. The caller has tested that the cut has
+// no zero and that the command is representable (`checked_of` accepted); then the answer is
+// `apply_control`'s (`valid-begin`).
+pub fn begin(mut table: VoterSlotTable, begin: VoterBegin) -> Controlled
     requires { validate table ≡ Accepted }
     ensures { (result.answer, result.table) ≡ begin_outcome table begin }
 {
-    let mut next = table;
-    let answer = begin_in_place(&mut next, begin);
-    Controlled {
-        answer,
-        table: next,
-    }
+    let answer = begin_in_place(&mut table, begin);
+    Controlled { answer, table }
 }
 
 // `begin` on a table that is lent: the caller has made the same tests.

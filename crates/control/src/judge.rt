@@ -36,7 +36,8 @@ pub enum Judged {
     Finalize,
 }
 
-// The answer of a call that was so judged.
+// The answer of a call that was so judged. It is not one function with `answer_of_observed` of
+// observe.rt: both are public, each with the clause of its own definition.
 pub fn answer_of(judged: Result<Judged, Refusal>) -> Answer
     ensures { result ≡ answer_of (verdict_of judged) }
 {
@@ -44,6 +45,10 @@ pub fn answer_of(judged: Result<Judged, Refusal>) -> Answer
 }
 
 // The arm `Marker` of `apply_control`. A full revision is not tested: nothing is changed.
+//
+// The id and the digest by which a command names its request are two parameters, here and in
+// request.rt. Document 01's records have them as two fields, so that a struct of the two would be put
+// together for each call.
 #[tactic(auto, unfolding(crate::specs::Judgement::judge_marker, crate::specs::Control::is_open_request))]
 pub fn judge_marker(
     table: VoterSlotTable,

@@ -5,7 +5,8 @@
 // Ported from crates/opc-consensus/src/voter_slots/control.rs (the arms of `advance`) of
 // openpacketcore-sdk, commit 717de332e7, Apache-2.0 (see NOTICE). Changed: apart from the tests, as
 // functions of their own. Numbers are stored where they lie; a record is stored whole, made of
-// parts that were taken out first, which the compiler does not copy.
+// parts that were taken out first, which the compiler does not copy. So a record names each of its
+// parts and has no `..base`, which would be taken out where the record is made.
 //
 // What a maker asks of its table stands in a clause of each, also in begin.rt and observe.rt: that
 // the revision is not full, or `Room`, by which the slot being replaced is there too. As the ghost

@@ -10,7 +10,7 @@ ghost use Rattle.identity.specs.Answer.{Accepted, InvalidTransition, is_accepted
 ghost use Rattle.records.specs.Successor.{slot_index};
 ghost use Rattle.records.specs.Validation.{target_phase, validate, validity};
 ghost use Rattle.records.specs.With.{in_phase, operation_with, present, table_with};
-ghost use Rattle.control.specs.Control.{full, target_index, target_slot};
+ghost use Rattle.control.specs.Control.{target_index, target_slot};
 ghost use Rattle.control.specs.Judgement.{added, carried, joint_test, learner_test, uniform_test};
 ghost use Rattle.control.specs.Judgement.Addition.{adds_joint, adds_learner, adds_uniform};
 ghost use Rattle.control.specs.Judgement.Verdict.{refused};
@@ -136,23 +136,24 @@ fn test_sets(
     known: bool,
     lingers: bool,
 ) -> SetTests
-    ensures { result ≡ tests_of phase old.now new.now membership.now.sets.now membership.now.counts.now membership.now.nodes.now known lingers }
+    ensures { result ≡ tests_of phase old.now new.now membership.now.observation.sets.now membership.now.observation.counts.now membership.now.observation.nodes.now known lingers }
 {
-    let nodes = membership.nodes;
+    let observation = &membership.observation;
+    let nodes = observation.nodes;
     let candidate = least_new(old, new);
     let has_old = is_subset(old, nodes);
     let has_new = is_subset(new, nodes);
     let only_new = is_subset(nodes, new);
     // Asked only where the one set is the predecessor's: then its length is the `old.len()` of the
-    // Rust.
-    let one_more = is_one_more(nodes.len(), membership.sets.len());
+    // original.
+    let one_more = is_one_more(nodes.len(), observation.sets.len());
     SetTests {
         no_candidate: candidate == NO_ID,
-        is_old: membership.is_one_set(old),
+        is_old: observation.is_one_set(old),
         fits_old: (((phase < JOINT) & has_old) & one_more) & lingers,
         has_candidate: contains(nodes, candidate),
-        is_joint: membership.are_two_sets(old, new) & (known & (has_old & has_new)),
-        is_new: membership.is_one_set(new) & (only_new & has_new),
+        is_joint: observation.are_two_sets(old, new) & (known & (has_old & has_new)),
+        is_new: observation.is_one_set(new) & (only_new & has_new),
     }
 }
 
@@ -167,7 +168,9 @@ fn member_place(members: &[VoterSlotMember], slot: SlotId) -> Option<usize>
         .position(|member| member.identity.slot == slot)
 }
 
-// The place of the member of that slot, or the count.
+// The place of the member of that slot, or the count: the definition `member_index` gives the count
+// where there is none, and `is_obsolete` compares it with the count. That it counts nine members at most
+// is what an `OpenRequest` knows.
 fn member_index(configuration: &VoterConfiguration, slot: SlotId) -> usize
     requires { configuration.now.count ≤ 9 }
     ensures { result ≡ member_index configuration.now slot }
@@ -177,7 +180,8 @@ fn member_index(configuration: &VoterConfiguration, slot: SlotId) -> usize
 
 // ---- what an open request is seen to be
 
-// An open request whose configurations have nine members at most: their counts are gone by.
+// An open request whose two configurations count nine members at most, so that the code may go by
+// their counts.
 #[derive(Clone, Copy)]
 struct OpenRequest<'a> {
     operation: &'a VoterReplacementRecord,
@@ -224,9 +228,9 @@ impl OpenRequest<'_> {
         new: &[ConsensusNodeId],
         membership: &Membership,
     ) -> Seen
-        ensures { sight_of result ≡ seen_of self.now.operation.now old.now new.now membership.now.sets.now membership.now.counts.now membership.now.nodes.now }
+        ensures { sight_of result ≡ seen_of self.now.operation.now old.now new.now membership.now.observation.sets.now membership.now.observation.counts.now membership.now.observation.nodes.now }
     {
-        let outside = first_outside(membership.nodes, old, new);
+        let outside = first_outside(membership.observation.nodes, old, new);
         let lingers = self.may_linger(outside);
         let phase = self.operation.phase;
         let tests = test_sets(old, new, membership, phase, outside.is_none(), lingers);
@@ -235,7 +239,7 @@ impl OpenRequest<'_> {
 
     // `observe_membership` with a request open: what its arms tell apart.
     fn see(&self, membership: &Membership) -> Seen
-        ensures { sight_of result ≡ see self.now.operation.now (split_sets membership.now.sets.now membership.now.counts.now) membership.now.nodes.now }
+        ensures { sight_of result ≡ see self.now.operation.now (split_sets membership.now.observation.sets.now membership.now.observation.counts.now) membership.now.observation.nodes.now }
     {
         let predecessor = &self.operation.predecessor;
         let successor = &self.operation.successor;
@@ -259,7 +263,9 @@ fn accept_if(test: bool, accepted: Observed) -> Result<Observed, Refusal>
     Err(Refusal::InvalidTransition)
 }
 
-// Whether the cut comes next in the evidence, as that of the learner,
+// Whether the cut comes next in the evidence as that of the learner. This test and the two after it
+// are a definition each (`learner_test`, `joint_test`, `uniform_test`), with another part of the
+// evidence before it.
 fn is_learner_cut(evidence: &VoterReplacementEvidence, cut: VoterSlotLogId) -> bool
     ensures { result ≡ learner_test evidence.now cut }
 {
@@ -267,14 +273,14 @@ fn is_learner_cut(evidence: &VoterReplacementEvidence, cut: VoterSlotLogId) -> b
     later & fits_continuation(evidence.continuation, cut, false)
 }
 
-// of the joint membership,
+// Whether the cut comes next in the evidence as that of the joint membership.
 fn is_joint_cut(evidence: &VoterReplacementEvidence, cut: VoterSlotLogId) -> bool
     ensures { result ≡ joint_test evidence.now cut }
 {
     log_id_follows(cut, evidence.fence.cut, false)
 }
 
-// or of the uniform one.
+// Whether the cut comes next in the evidence as that of the uniform membership.
 fn is_uniform_cut(evidence: &VoterReplacementEvidence, cut: VoterSlotLogId) -> bool
     ensures { result ≡ uniform_test evidence.now cut }
 {
@@ -307,7 +313,8 @@ fn judge_known(
     }
 }
 
-// A table without the slot being replaced is refused with 25.
+// A table without the slot being replaced is refused with 25. The place is that of the definition
+// `target_index`, which gives the count where there is no such slot.
 //
 // This judge and `judge_closed` ask for the count: past the nine places the definitions go on over
 // blanks, which the code has not.
@@ -324,17 +331,17 @@ fn judge_seen(table: &VoterSlotTable, seen: Seen, cut: VoterSlotLogId) -> Result
 
 // No request is open: `members` are the ids of the slots.
 fn judge_members(members: &[ConsensusNodeId], membership: &Membership) -> Result<Observed, Refusal>
-    ensures { verdict_of_observed result ≡ judge_members members.now membership.now.sets.now membership.now.counts.now membership.now.nodes.now }
+    ensures { verdict_of_observed result ≡ judge_members members.now membership.now.observation.sets.now membership.now.observation.counts.now membership.now.observation.nodes.now }
 {
-    let one = membership.is_one_set(members);
-    let same = is_same(membership.nodes, members);
+    let one = membership.observation.is_one_set(members);
+    let same = is_same(membership.observation.nodes, members);
     accept_if(one & same, Observed::Keep)
 }
 
 // `observe_membership` with no request open.
 fn judge_closed(table: &VoterSlotTable, membership: &Membership) -> Result<Observed, Refusal>
     requires { (table.now.count ≤ 9) × (table.now.has_replacement ≡ false) }
-    ensures { verdict_of_observed result ≡ judge_closed table.now (split_sets membership.now.sets.now membership.now.counts.now) membership.now.nodes.now }
+    ensures { verdict_of_observed result ≡ judge_closed table.now (split_sets membership.now.observation.sets.now membership.now.observation.counts.now) membership.now.observation.nodes.now }
 {
     let ids = ids_of_slots(table);
     judge_members(&ids[..table.count], membership)
@@ -348,7 +355,7 @@ fn judge_sets(
     cut: VoterSlotLogId,
 ) -> Result<Observed, Refusal>
     requires { few_members table.now ≡ true }
-    ensures { verdict_of_observed result ≡ judge_sets table.now (split_sets membership.now.sets.now membership.now.counts.now) membership.now.nodes.now cut }
+    ensures { verdict_of_observed result ≡ judge_sets table.now (split_sets membership.now.observation.sets.now membership.now.observation.counts.now) membership.now.observation.nodes.now cut }
 {
     if table.revision == u64::MAX {
         return Err(Refusal::RevisionExhausted);
@@ -374,7 +381,8 @@ fn has_few_members(table: &VoterSlotTable) -> bool
             | ((old <= MAX_FIXED_VOTER_SLOTS) & (new <= MAX_FIXED_VOTER_SLOTS)))
 }
 
-// The verdict. On a table not known to be valid a change still needs `confirm`.
+// The verdict. On a table not known to be valid a change still needs `confirm`. It is public and takes
+// the table by value, as before; what is judged is the table that is lent (`weigh_lent`).
 pub fn weigh(table: VoterSlotTable, observation: VoterObservation) -> Result<Observed, Refusal>
     ensures { verdict_of_observed result ≡ weighed table observation.entry.sets.now observation.entry.counts.now observation.entry.nodes.now observation.entry.cut }
 {
@@ -398,11 +406,7 @@ fn weigh_lent(table: &VoterSlotTable, observation: VoterObservation) -> Result<O
     if !(rising & nodes_rise) {
         return Err(Refusal::NotRising);
     }
-    let membership = Membership {
-        sets: observation.sets,
-        counts: observation.counts,
-        nodes: observation.nodes,
-    };
+    let membership = Membership { observation };
     judge_sets(table, &membership, observation.cut)
 }
 
@@ -419,7 +423,8 @@ fn confirm(table: &VoterSlotTable, judged: Result<Observed, Refusal>) -> Result<
     accept_if(valid, observed)
 }
 
-// The answer of an observation that was so judged.
+// The answer of an observation that was so judged. It is not one function with `answer_of` of
+// judge.rt: both are public, each with the clause of its own definition.
 pub fn answer_of_observed(judged: Result<Observed, Refusal>) -> Answer
     ensures { result ≡ answer_of_observed (verdict_of_observed judged) }
 {
@@ -441,7 +446,8 @@ fn enter_phase(table: &mut VoterSlotTable, phase: u8)
     table.revision += 1;
 }
 
-// A cut that is present.
+// A cut that is present. Its clause names the definition `present`. A `From` in `records` would be an
+// impl with a clause of its own for this file and one line of judge.rt, and no shorter.
 fn present(cut: VoterSlotLogId) -> OptionalLogId
     ensures { result ≡ present cut }
 {
@@ -473,6 +479,9 @@ fn carry_out(table: &mut VoterSlotTable, observed: Observed, cut: VoterSlotLogId
 }
 
 // The membership with the learner.
+//
+// This maker and the two after it are public, and each has a clause with no case in it. One maker that
+// is given what was observed would have a case for `Keep`, at which no maker is called.
 #[tactic(auto, unfolding(crate::specs::Judgement::carried))]
 pub fn learner_table(mut table: VoterSlotTable, cut: VoterSlotLogId) -> VoterSlotTable
     requires { Room table }
@@ -503,6 +512,9 @@ pub fn uniform_table(mut table: VoterSlotTable, cut: VoterSlotLogId) -> VoterSlo
 }
 
 // ---- the calls
+//
+// The definition `observe_membership` has the four parts of an observation as four parameters, so that
+// each clause takes them out. The calls by value are for a Rust caller that holds its table so.
 
 // An observation of a table that is known to be valid, by value.
 pub fn observe_valid(mut table: VoterSlotTable, observation: VoterObservation) -> Controlled

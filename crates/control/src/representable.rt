@@ -28,6 +28,9 @@ pub fn is_representable_control(control: VoterSlotControl) -> bool
 }
 
 // A Begin has a request and no name; any other command names a request and has none.
+//
+// The flag, here and in `is_step_part` and `is_snapshot_part`, is the test of the definition's `cond`.
+// Each of the three has one caller, so that a closure in place of the flag would serve no second use.
 fn is_request_part(is_begin: bool, control: VoterSlotControl) -> bool
     ensures { result ≡ cond is_begin (representable_request control.request && is_blank_name control) (is_blank_request control.request) }
 {
@@ -58,7 +61,7 @@ pub fn is_representable_request(request: VoterReplacementRequest) -> bool
 }
 
 // No request. The expected configuration is looked at here: its type is of `identity`, which cannot
-// be given the trait in this crate.
+// be given the trait in this crate. `records`, which could, has no record that holds one.
 impl Blank for VoterReplacementRequest {
     ghost blank = { blank_voter_replacement_request };
 

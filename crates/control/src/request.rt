@@ -121,7 +121,8 @@ pub fn slot_check(table: VoterSlotTable, request: VoterReplacementRequest) -> An
     }
 }
 
-// `position(..)` and the member there.
+// The member of the first slot in use of that number, or none. The original has its place from
+// `position(..)`.
 fn named_member(table: VoterSlotTable, number: SlotId) -> Option<VoterSlotMember>
     ensures { result ≡ named_of table number }
 {

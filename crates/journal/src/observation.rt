@@ -1,7 +1,7 @@
 // The body of an observation: OB.
 //
 // Document 01, section "Replay program". No part of the original has it.
-ghost use Rattle.std.specs.Prelude.{◌+◌, ◌*◌, ◌≤◌, ◌≡◌, length};
+ghost use Rattle.std.specs.Prelude.{◌+◌, ◌*◌, ◌≤◌, ◌≡◌, length, IfSome};
 ghost use Rattle.journal.specs.declared.replay.Mark.TheVariants.{Ob};
 ghost use Rattle.journal.specs.Bodies.{observation_asking};
 ghost use Rattle.journal.specs.Replay.{asking};
@@ -19,7 +19,8 @@ pub const MOST_IDS: usize = 8192;
 // Most sets: their count has 8 bits.
 pub const MOST_SETS: usize = 255;
 
-// Room for the ids of a body, and for the counts of its sets. Nobody reads what it holds at first.
+// Room for the ids of a body, and for the counts of its sets: with no heap there is no `Vec` of sets.
+// Nobody reads what it holds at first.
 #[derive(Drop)]
 pub struct IdRoom<const N: usize> {
     // The ids of the sets, and after them the nodes.
@@ -37,11 +38,13 @@ impl<const N: usize> IdRoom<N> {
     }
 
     // Reads a body into the room; none: it is not of the form, to its last byte. There is room for all
-    // that it can hold, so that no test for it is needed: an id takes eight bytes of the body.
+    // that it can hold, so that no test for it is needed: an id takes eight bytes of the body. That it
+    // has this room is a clause, since the room is made before a body is looked at.
     #[tactic(auto, using(crate::specs::SetBodyLaws::observation_cutless, crate::specs::SetBodyLaws::observation_countless, crate::specs::SetBodyLaws::observation_setless, crate::specs::SetBodyLaws::observation_nodeless, crate::specs::SetBodyLaws::observation_end), unfolding(format::specs::Num::pick))]
     pub fn read<'a>(&'a mut self, body: &[u8]) -> Option<VoterObservation<'a>>
         requires { length body.now ≤ 8 * N }
-        ensures { observation_asking result ≡ asking Ob body.now }
+        ensures gives { observation_asking result ≡ asking Ob body.now }
+        ensures few { IfSome result (λ o. (8 * (length o.sets.now + length o.nodes.now) ≤ length body.now) × (length o.counts.now ≤ 255)) }
     {
         let mut input = Reader::new(body);
         let cut = input.log_id().ok()?;
@@ -61,7 +64,8 @@ impl<const N: usize> IdRoom<N> {
 }
 
 // So many sets: their ids one after another, the count of each, and how many ids they have
-// together.
+// together. The loop is by index, here and in `lay_set`: what it keeps is said of the first so many
+// counts or ids, and ids go on in the middle of their array.
 #[tactic(auto, using(crate::specs::SetBodyLaws::sets_start, crate::specs::SetBodyLaws::sets_more, crate::specs::SetBodyLaws::sets_refused))]
 fn lay_sets(
     input: &mut Reader,

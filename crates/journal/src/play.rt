@@ -78,7 +78,8 @@ struct Opened {
     table: VoterSlotTable,
 }
 
-// No table, and nothing read.
+// No table, and nothing read. It is a function and no `Default`, whose clause would be a definition of
+// the impl: this one names the definition `new_journal`.
 pub fn new_journal() -> Journal
     ensures { result ≡ new_journal }
 {
@@ -200,13 +201,7 @@ fn put_turn(out: &mut [u8], place: Place, found: Record, answer: Answer, revisio
     ensures { PutTurn place found answer revision out.old out.new result }
 {
     if found.end == place.read {
-        return Place {
-            read: place.read,
-            written: place.written,
-            count: place.count,
-            turns: 0,
-            ended: place.ended,
-        };
+        return Place { turns: 0, ..place };
     }
     let mark = found.mark;
     let count = place.count + 1;

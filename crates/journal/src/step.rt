@@ -21,12 +21,9 @@ use control::make::*;
 use control::observe::*;
 use control::representable::{is_representable_request, is_representable_step};
 use identity::answer::{Answer, Refusal};
-use identity::identity::ConsensusIdentity;
 use reader::reader::Reader;
 use records::evidence::is_valid_log_id;
-use records::records::{
-    LostVoterAttestationV1, VoterSlotLogId, VoterSlotMember, VoterSlotTable, VoterSnapshotEvidence,
-};
+use records::records::{VoterSlotLogId, VoterSlotTable};
 
 // What a record comes to at a table that stands, before anything is made.
 #[derive(Clone, Copy)]
@@ -73,12 +70,13 @@ fn check_call(
     judged
 }
 
-// The judges of the bodies: 33 for one that is not of its form, and then as the calls. An MK;
+// The verdict of an MK's body: 33 where it is not of its form, and else as the call.
 //
 // That the table is valid is a clause, here and in the calls on these. A type of its own, which lends
-// the table, was tried: the judges of `control` take it by value, and copy what is lent. A marker then
-// took 30 percent more instructions and an advance 16, and replacements fell from 2.2 to 2.8 times the
-// original's rate to 1.8 to 2.1, where the bar is 2. By value, as a field, it is copied as well.
+// the table, was tried: the judges of `control` take it by value, and copy what is lent. By the count of
+// instructions a marker then took 30 percent more, an advance 16, and a replacement 8. On a loaded
+// machine the rate of replacements of nine slots was 1.8 - 2.1 times the original's, where it had been
+// 2.2 - 2.8 times; the bar is 2. By value, as a field, the table is copied as well.
 #[tactic(auto, using(crate::proofs::StepLaws::marker_entry), unfolding(crate::specs::Step::command_verdict, crate::specs::Replay::marker_asked))]
 pub fn judge_marker_body(table: VoterSlotTable, body: &[u8]) -> Result<Judged, Refusal>
     requires { validate table ≡ Accepted }
@@ -93,7 +91,7 @@ pub fn judge_marker_body(table: VoterSlotTable, body: &[u8]) -> Result<Judged, R
     check_call(true, marker.cut, judged)
 }
 
-// an AD;
+// The verdict of an AD's body: 33 where it is not of its form, and else as the call.
 #[tactic(auto, using(crate::proofs::StepLaws::advance_entry), unfolding(crate::specs::Step::command_verdict))]
 pub fn judge_advance_body(table: VoterSlotTable, body: &[u8]) -> Result<Judged, Refusal>
     requires { validate table ≡ Accepted }
@@ -107,7 +105,8 @@ pub fn judge_advance_body(table: VoterSlotTable, body: &[u8]) -> Result<Judged, 
     check_call(fits, advance.cut, judged)
 }
 
-// a BG, with its attestation's own number before 30;
+// The verdict of a BG's body: 33 where it is not of its form, the number of its attestation's reader
+// where that refuses it, and else as the call.
 #[tactic(auto, using(crate::proofs::StepLaws::begin_entry), unfolding(crate::specs::Step::command_verdict))]
 pub fn judge_begin_body(table: VoterSlotTable, body: &[u8]) -> Result<Judged, Refusal>
     requires { validate table ≡ Accepted }
@@ -124,7 +123,8 @@ pub fn judge_begin_body(table: VoterSlotTable, body: &[u8]) -> Result<Judged, Re
     }
 }
 
-// an OB, whose ids and counts are read into the room that is lent.
+// The verdict of an OB's body, whose ids and counts are read into the room that is lent: 33 where it is
+// not of its form, and else as the call.
 #[tactic(auto, unfolding(crate::specs::Step::observation_verdict))]
 pub fn judge_observation_body(
     table: VoterSlotTable,
@@ -141,8 +141,9 @@ pub fn judge_observation_body(
 // The table after the record. Where the table that stands is to be changed, its owner chooses the
 // maker itself, by the same arms, as `play_on` does: what this returns is copied.
 //
-// That what was judged may be made (`Makes`) is a clause: it goes by cases, so that a struct of table,
-// body and `Called` could hold it only truncated, and each maker would have to take it out again.
+// That what was judged may be made (`Makes`) is a clause. It is a statement by the cases of `Called`, and
+// of such a one the ghost field of a struct of table, body and `Called` keeps only that there is a proof.
+// Each maker would have to take the proof out of it again.
 pub fn make_record(table: VoterSlotTable, body: &[u8], called: Called) -> VoterSlotTable
     requires { Makes table body.now called }
     ensures { result ≡ made_by table body.now called }
@@ -153,6 +154,7 @@ pub fn make_record(table: VoterSlotTable, body: &[u8], called: Called) -> VoterS
     }
 }
 
+// The table after a command: its maker is given the body that was judged, read again.
 #[tactic(auto, unfolding(crate::specs::Step::made_by_command))]
 fn make_command(
     table: VoterSlotTable,
@@ -173,6 +175,8 @@ fn make_command(
     }
 }
 
+// The table after an observation, of which its maker is given the cut. Its three arms are one maker
+// each, since each maker has a clause of its own (observe.rt).
 #[tactic(auto, unfolding(crate::specs::Step::made_by_observation))]
 fn make_observation(
     table: VoterSlotTable,
@@ -214,7 +218,8 @@ pub fn begin_in(body: &[u8]) -> VoterBegin
     }
 }
 
-// The cut that a body begins with.
+// The cut that a body begins with. The value in place of none is named: the law of this cut
+// (`cut_taken`) is of `unwrap_or`, which is given it.
 #[tactic(auto, using(crate::proofs::MakerLaws::cut_taken))]
 pub fn cut_in(body: &[u8]) -> VoterSlotLogId
     ensures { result ≡ cut_at body.now }

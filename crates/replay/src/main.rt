@@ -13,7 +13,11 @@ ghost use Rattle.journal.specs.Play.{play_of};
 use journal::play::*;
 use std::io::{ErrorKind, Read};
 
-// The bytes that are read and not played yet lie from `start` to `held`; `last`: no more will come.
+// The bytes that are read and not played yet lie from `start` to `held`; `last`: no more will come. They
+// are two places and no slice: a slice that is lent would keep the buffer from being read into.
+//
+// The buffer and this are passed on as two parameters. In one struct the buffer of 128 KB would be moved
+// with it, or a struct that lends the buffer be made anew for each turn.
 #[derive(Clone, Copy)]
 struct Input {
     start: usize,
@@ -117,8 +121,8 @@ fn refill(
     })
 }
 
-// How many bytes a read brought, or none: it was interrupted. None at all where it failed, which is
-// said.
+// How many bytes a read brought: the inner `Option` is none where the read was interrupted. The outer one
+// is none where the read failed, and then that is written to standard error.
 fn read_more(
     input: &mut [u8],
     held: usize,

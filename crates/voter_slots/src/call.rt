@@ -1,6 +1,6 @@
 // The calls on a table's bytes. A command by its mark, or an observation, is judged at the table that was
 // read; what was judged is made, and written.
-ghost use Rattle.std.specs.Prelude.{◌*◌, ◌≤◌, ◌≡◌, length};
+ghost use Rattle.std.specs.Prelude.{◌*◌, ◌≤◌, ◌≡◌, length, IfOk};
 ghost use Rattle.identity.specs.Answer.{Accepted};
 ghost use Rattle.records.specs.Validation.{validate};
 ghost use Rattle.journal.specs.declared.replay.Mark.TheVariants.{Ob};
@@ -21,7 +21,8 @@ use journal::record::MOST_BODY;
 use journal::step::*;
 use records::records::VoterSlotTable;
 
-// The marks of commands, each as the 16-bit number that its two bytes are.
+// The marks of commands, each as the 16-bit number that its two bytes are. They are numbers, since C
+// hands in a mark as one, and any other number is refused with 33.
 pub const MARKER_MARK: u32 = 19787;
 
 pub const ADVANCE_MARK: u32 = 16708;
@@ -35,7 +36,8 @@ pub const USUAL_IDS: usize = 128;
 // A body of so many bytes has no more ids: each takes eight.
 pub const USUAL_BODY: usize = 8 * USUAL_IDS;
 
-// A command that a service may ask for.
+// A command that a service may ask for. It is a type beside `Mark` of `journal`, which has three marks
+// more: those have no arm here.
 #[derive(Clone, Copy)]
 pub enum CommandKind {
     Marker,
@@ -60,6 +62,9 @@ pub fn command_of(mark: u32, len: usize) -> Option<CommandKind>
 }
 
 // Whether the body is of its form; one whose attestation is refused is.
+//
+// What is asked and the body are two parameters, here and where either is passed on. They are two
+// values of the C call, and each function that is given both takes a `match` on the one alone.
 #[tactic(auto, unfolding(journal::specs::Replay::asking))]
 pub fn is_formed(asks: Option<CommandKind>, body: &[u8]) -> bool
     ensures { result ≡ is_formed (asking (mark_of asks) body.now) }
@@ -93,7 +98,8 @@ pub fn judge_body(table: VoterSlotTable, asks: Option<CommandKind>, body: &[u8])
 // What a service asks of the table.
 #[tactic(auto, unfolding(crate::specs::Export::read_by))]
 pub fn read_bytes(table: &[u8]) -> Result<VoterSlotsResult, Refusal>
-    ensures { said result ≡ read_of table.now }
+    ensures gives { said result ≡ read_of table.now }
+    ensures good { IfOk result (λ r. r.answer ≡ 0) }
 {
     let mut read = VoterSlotTable::default();
     fill_voter_slot_table(table, &mut read)?;
@@ -103,22 +109,24 @@ pub fn read_bytes(table: &[u8]) -> Result<VoterSlotsResult, Refusal>
 // The table is written again: the bytes of a table that was read are those that were read.
 #[tactic(auto, using(crate::specs::ExportLaws::filled_as), unfolding(crate::specs::Export::with_table))]
 pub fn write_bytes(table: &[u8], out: &mut [u8]) -> Result<VoterSlotsResult, Refusal>
-    ensures { (said result, out.new) ≡ write_of table.now out.old }
+    ensures gives { (said result, out.new) ≡ write_of table.now out.old }
+    ensures good { IfOk result (λ r. r.answer ≡ 0) }
 {
     let mut read = VoterSlotTable::default();
     fill_voter_slot_table(table, &mut read)?;
     write_again(table, read, out)
 }
 
-// A command. That a body is of its form is asked where the table is refused, since 33 comes before any
-// other refusal: where it is not, the judge of the body asks it.
+// A command. Where the table is refused, it is asked whether the body is of its form, since 33 comes
+// before any other refusal. Where the table is read, `judge_body` finds that out.
 pub fn apply_bytes(
     table: &[u8],
     mark: u32,
     body: &[u8],
     out: &mut [u8],
 ) -> Result<VoterSlotsResult, Refusal>
-    ensures { (said result, out.new) ≡ apply_of table.now mark body.now out.old }
+    ensures gives { (said result, out.new) ≡ apply_of table.now mark body.now out.old }
+    ensures good { IfOk result (λ r. r.answer ≡ 0) }
 {
     let asks = command_of(mark, body.len());
     let mut before = VoterSlotTable::default();
@@ -138,7 +146,8 @@ pub fn observe_bytes<const N: usize>(
     out: &mut [u8],
 ) -> Result<VoterSlotsResult, Refusal>
     requires { (N ≤ 8192) × (length body.now ≤ 8 * N) }
-    ensures { (said result, out.new) ≡ asked_of (asking Ob body.now) table.now out.old }
+    ensures gives { (said result, out.new) ≡ asked_of (asking Ob body.now) table.now out.old }
+    ensures good { IfOk result (λ r. r.answer ≡ 0) }
 {
     let mut room = IdRoom::<N>::new();
     let observation = room.read(body).ok_or(Refusal::BadRecord)?;
@@ -168,7 +177,8 @@ pub fn finish(
     out: &mut [u8],
 ) -> Result<VoterSlotsResult, Refusal>
     requires { (ReadAs bytes.now table) × ((Makes table body.now called) × (validate (made_by table body.now called) ≡ Accepted)) }
-    ensures { (said result, out.new) ≡ settled (answer_of_called called, made_by table body.now called) out.old }
+    ensures gives { (said result, out.new) ≡ settled (answer_of_called called, made_by table body.now called) out.old }
+    ensures good { IfOk result (λ r. r.answer ≡ 0) }
 {
     answer_of_called(called)?;
     if is_change(called) {

@@ -4,7 +4,7 @@
 // Nobody has read a table that is lent, so it may be any value. A command asks first whether it is
 // valid: a valid one goes the way of the calls over bytes, and of any other only the refusal is left to
 // find. An observation and the retired test are document 01's entry points.
-ghost use Rattle.std.specs.Prelude.{◌*◌, ◌≤◌, cond, ◌≡◌, length};
+ghost use Rattle.std.specs.Prelude.{◌*◌, ◌≤◌, cond, ◌≡◌, length, IfOk};
 ghost use Rattle.identity.specs.Answer.{Accepted, InvalidTransition, Unrepresentable};
 ghost use Rattle.identity.specs.Answer.{number_of, number_of_refusal};
 ghost use Rattle.records.specs.Validation.{validate};
@@ -31,9 +31,11 @@ use records::validation::validate_table;
 
 // ---- reading and writing
 
+// Reads a table into the one that is lent.
 #[tactic(auto, unfolding(crate::specs::Lent::read_over))]
 pub fn read_over(table: &mut VoterSlotTable, bytes: &[u8]) -> Result<VoterSlotsResult, Refusal>
-    ensures { (said result, table.new) ≡ table_read_of table.old bytes.now }
+    ensures gives { (said result, table.new) ≡ table_read_of table.old bytes.now }
+    ensures good { IfOk result (λ r. r.answer ≡ 0) }
 {
     let mut read = VoterSlotTable::default();
     fill_voter_slot_table(bytes, &mut read)?;
@@ -41,8 +43,10 @@ pub fn read_over(table: &mut VoterSlotTable, bytes: &[u8]) -> Result<VoterSlotsR
     Ok(numbers_of(read, bytes.len()))
 }
 
+// Writes the table that is lent: its validity is asked first.
 pub fn write_lent(table: VoterSlotTable, out: &mut [u8]) -> Result<VoterSlotsResult, Refusal>
-    ensures { (said result, out.new) ≡ table_write_of table out.old }
+    ensures gives { (said result, out.new) ≡ table_write_of table out.old }
+    ensures good { IfOk result (λ r. r.answer ≡ 0) }
 {
     validate_table(table)?;
     write_table(table, out)
@@ -50,12 +54,14 @@ pub fn write_lent(table: VoterSlotTable, out: &mut [u8]) -> Result<VoterSlotsRes
 
 // ---- commands
 
+// Applies a command to the table that is lent.
 pub fn apply_to(
     table: &mut VoterSlotTable,
     mark: u32,
     body: &[u8],
 ) -> Result<VoterSlotsResult, Refusal>
-    ensures { (said result, table.new) ≡ table_apply_of table.old mark body.now }
+    ensures gives { (said result, table.new) ≡ table_apply_of table.old mark body.now }
+    ensures good { IfOk result (λ r. r.answer ≡ 0) }
 {
     let asks = command_of(mark, body.len());
     if validate_table(*table).is_err() {
@@ -65,14 +71,15 @@ pub fn apply_to(
     carry_out_at(table, body, called)
 }
 
-// What was judged of a valid table is made.
+// What was judged of a valid table is made. That it is valid is a clause, as of `judge_body`.
 fn carry_out_at(
     valid: &mut VoterSlotTable,
     body: &[u8],
     called: Called,
 ) -> Result<VoterSlotsResult, Refusal>
     requires { (Makes valid.old body.now called) × ((validate valid.old ≡ Accepted) × (validate (made_by valid.old body.now called) ≡ Accepted)) }
-    ensures { (said result, valid.new) ≡ told (answer_of_called called, made_by valid.old body.now called) }
+    ensures gives { (said result, valid.new) ≡ told (answer_of_called called, made_by valid.old body.now called) }
+    ensures good { IfOk result (λ r. r.answer ≡ 0) }
 {
     answer_of_called(called)?;
     if is_change(called) {
@@ -94,6 +101,7 @@ fn refuse_command(fits: bool, asks: Option<CommandKind>, body: &[u8]) -> Refusal
     }
 }
 
+// The refusal of a marker at a table that is not valid.
 #[tactic(auto, using(crate::specs::LentLaws::marker_fits), unfolding(crate::specs::Lent::refusal_at, journal::specs::Replay::marker_asked))]
 fn refuse_marker(fits: bool, body: &[u8]) -> Refusal
     ensures { number_of_refusal result ≡ refusal_at fits (asking Mk body.now) }
@@ -104,6 +112,7 @@ fn refuse_marker(fits: bool, body: &[u8]) -> Refusal
     invalid(fits)
 }
 
+// The refusal of an Advance at a table that is not valid.
 #[tactic(auto, using(journal::proofs::StepLaws::fits_advance), unfolding(crate::specs::Lent::refusal_at))]
 fn refuse_advance(fits: bool, body: &[u8]) -> Refusal
     ensures { number_of_refusal result ≡ refusal_at fits (asking Ad body.now) }
@@ -114,6 +123,7 @@ fn refuse_advance(fits: bool, body: &[u8]) -> Refusal
     invalid(fits & is_representable_step(advance.step))
 }
 
+// The refusal of a Begin at a table that is not valid: that of its attestation's reader comes first.
 #[tactic(auto, using(journal::proofs::StepLaws::fits_begin), unfolding(crate::specs::Lent::refusal_at))]
 fn refuse_begin(fits: bool, body: &[u8]) -> Refusal
     ensures { number_of_refusal result ≡ refusal_at fits (asking Bg body.now) }
@@ -137,8 +147,11 @@ fn invalid(fits: bool) -> Refusal
 
 // ---- observations
 
+// Applies an observation to the table that is lent: a usual body has a small room, which is cleared in
+// less time.
 pub fn observe_at(table: &mut VoterSlotTable, body: &[u8]) -> Result<VoterSlotsResult, Refusal>
-    ensures { (said result, table.new) ≡ table_observe_of table.old body.now }
+    ensures gives { (said result, table.new) ≡ table_observe_of table.old body.now }
+    ensures good { IfOk result (λ r. r.answer ≡ 0) }
 {
     if MOST_BODY < body.len() {
         return Err(Refusal::BadRecord);
@@ -156,7 +169,8 @@ fn observe_body<const N: usize>(
     body: &[u8],
 ) -> Result<VoterSlotsResult, Refusal>
     requires { (N ≤ 8192) × (length body.now ≤ 8 * N) }
-    ensures { (said result, table.new) ≡ asked_at (asking Ob body.now) table.old }
+    ensures gives { (said result, table.new) ≡ asked_at (asking Ob body.now) table.old }
+    ensures good { IfOk result (λ r. r.answer ≡ 0) }
 {
     let mut room = IdRoom::<N>::new();
     let observation = room.read(body).ok_or(Refusal::BadRecord)?;
@@ -166,6 +180,7 @@ fn observe_body<const N: usize>(
 
 // ---- the retired test
 
+// Whether the table says that a node must not count any more, as a number.
 pub fn retired_in(table: VoterSlotTable, node: u64) -> u32
     ensures { result ≡ table_retired_of table node }
 {

@@ -20,9 +20,13 @@ returns-then-not-is_formed c =
     let m = c.command_of-asks in
     let e = c.in-Err.refusal in
     let h : no (number_of_refusal e) ≡ decode_voter_slot_table s.table.now = search rules in
-    ap (λ (b : Bool). leaves (number_of (cond b (Err e) BadRecord)) s.out.now) (sym c.if-not-is_formed.true ∙ c.is_formed.ensures)
-    ∙ refused-is (asking (mark_of m.result) s.body.now) s.table.now s.out.now (Err e) (sym h)
-    ∙ ap (λ (k : Mark). asked_of (asking k s.body.now) s.table.now s.out.now) m.ensures
+    record {
+      gives =
+          ap (λ (b : Bool). leaves (number_of (cond b (Err e) BadRecord)) s.out.now) (sym c.if-not-is_formed.true ∙ c.is_formed.ensures)
+          ∙ refused-is (asking (mark_of m.result) s.body.now) s.table.now s.out.now (Err e) (sym h)
+          ∙ ap (λ (k : Mark). asked_of (asking k s.body.now) s.table.now s.out.now) m.ensures;
+      good = tt;
+    }
 
 pub returns-in-Err : goal.returns-in-Err
 returns-in-Err c =
@@ -30,8 +34,12 @@ returns-in-Err c =
     let m = c.command_of-asks in
     let e = c.in-Err.refusal in
     let h : no (number_of_refusal e) ≡ decode_voter_slot_table s.table.now = search rules in
-    formed-refused (asking (mark_of m.result) s.body.now) s.table.now s.out.now (Err e) (sym c.is_formed.ensures ∙ c.if-not-is_formed.false) (sym h)
-    ∙ ap (λ (k : Mark). asked_of (asking k s.body.now) s.table.now s.out.now) m.ensures
+    record {
+      gives =
+          formed-refused (asking (mark_of m.result) s.body.now) s.table.now s.out.now (Err e) (sym c.is_formed.ensures ∙ c.if-not-is_formed.false) (sym h)
+          ∙ ap (λ (k : Mark). asked_of (asking k s.body.now) s.table.now s.out.now) m.ensures;
+      good = tt;
+    }
 
 pub judge_body-requires : goal.judge_body-requires
 judge_body-requires c =
@@ -56,6 +64,10 @@ returns c =
     let t = c.fill_voter_slot_table.new.table in
     let j = c.judge_body in
     let e : ok t (length bs) ≡ decode_voter_slot_table bs = search rules in
-    c.finish.ensures
-    ∙ asked-ok bs t _ s.body.now s.out.now j.result (lent_bytes bs c.type_inv.table) (filled_as bs t (length bs) e) j.ensures
-    ∙ ap (λ (k : Mark). asked_of (asking k s.body.now) bs s.out.now) c.command_of-asks.ensures
+    record {
+      gives =
+          c.finish.ensures.gives
+          ∙ asked-ok bs t _ s.body.now s.out.now j.result (lent_bytes bs c.type_inv.table) (filled_as bs t (length bs) e) j.ensures
+          ∙ ap (λ (k : Mark). asked_of (asking k s.body.now) bs s.out.now) c.command_of-asks.ensures;
+      good = c.finish.ensures.good;
+    }

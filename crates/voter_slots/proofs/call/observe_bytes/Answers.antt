@@ -23,15 +23,23 @@ unfolding asked_of
 returns-in_err-observation g c =
     let s = c.args in
     let b : bad ≡ asking Ob s.body.now = search rules in
-    passed-err c.from_residual.result refusal.BadRecord s.out.now (search rules) ∙ ap (λ (x : Asking). asked_of x s.table.now s.out.now) b
+    record {
+      gives =
+          passed-err c.from_residual.result refusal.BadRecord s.out.now (search rules) ∙ ap (λ (x : Asking). asked_of x s.table.now s.out.now) b;
+      good = search rules;
+    }
 
 pub returns-in_err-fill_voter_slot_table : goal.returns-in_err-fill_voter_slot_table
 returns-in_err-fill_voter_slot_table g c =
     let s = c.args in
     let e = c.in_err-fill_voter_slot_table.field-0.0 in
     let h : no (number_of_refusal e) ≡ decode_voter_slot_table s.table.now = search rules in
-    passed-err c.from_residual-in_err-fill_voter_slot_table.result e s.out.now (search rules)
-    ∙ formed-refused (asking Ob s.body.now) s.table.now s.out.now (Err e) (search rules) (sym h)
+    record {
+      gives =
+          passed-err c.from_residual-in_err-fill_voter_slot_table.result e s.out.now (search rules)
+          ∙ formed-refused (asking Ob s.body.now) s.table.now s.out.now (Err e) (search rules) (sym h);
+      good = search rules;
+    }
 
 pub finish-requires : goal.finish-requires
 unfolding observation_verdict
@@ -55,5 +63,9 @@ returns g c =
     let w = c.weigh-observed in
     let e : ok t (length bs) ≡ decode_voter_slot_table bs = search rules in
     let j : numbered (verdict_of_observed w.result) ≡ observation_verdict t (asking Ob body) = search rules in
-    c.finish.ensures
-    ∙ asked-ok bs t Ob body c.args.out.now (Observation w.result) (lent_bytes bs c.type_inv.table) (filled_as bs t (length bs) e) (refl, j)
+    record {
+      gives =
+          c.finish.ensures.gives
+          ∙ asked-ok bs t Ob body c.args.out.now (Observation w.result) (lent_bytes bs c.type_inv.table) (filled_as bs t (length bs) e) (refl, j);
+      good = c.finish.ensures.good;
+    }

@@ -17,9 +17,13 @@ returns-then-is_err c =
     let body = c.args.body.now in
     let m = c.command_of-asks in
     let invalid : is_accepted (validate t) ≡ false = search rules in
-    ap (λ (k : ℕ). stays k t) (c.refuse_command.ensures ∙ ap (λ (b : Bool). refusal_at b (asking (mark_of m.result) body)) c.is_representable.ensures)
-    ∙ (refusal_is t invalid (mark_of m.result) body (λ e. command-only c.args.mark (length body) (sym m.ensures ∙ e))
-    ∙ ap (λ (k : Mark). asked_at (asking k body) t) m.ensures)
+    record {
+      gives =
+          ap (λ (k : ℕ). stays k t) (c.refuse_command.ensures ∙ ap (λ (b : Bool). refusal_at b (asking (mark_of m.result) body)) c.is_representable.ensures)
+          ∙ (refusal_is t invalid (mark_of m.result) body (λ e. command-only c.args.mark (length body) (sym m.ensures ∙ e))
+          ∙ ap (λ (k : Mark). asked_at (asking k body) t) m.ensures);
+      good = tt;
+    }
 
 pub carry_out_at-requires : goal.carry_out_at-requires
 carry_out_at-requires c =
@@ -34,5 +38,9 @@ returns c =
     let body = c.args.body.now in
     let j = c.judge_body-called in
     let v : validate t ≡ Accepted = search rules in
-    c.carry_out_at.ensures
-    ∙ (carried t _ body j.result v j.ensures ∙ ap (λ (k : Mark). asked_at (asking k body) t) c.command_of-asks.ensures)
+    record {
+      gives =
+          c.carry_out_at.ensures.gives
+          ∙ (carried t _ body j.result v j.ensures ∙ ap (λ (k : Mark). asked_at (asking k body) t) c.command_of-asks.ensures);
+      good = c.carry_out_at.ensures.good;
+    }

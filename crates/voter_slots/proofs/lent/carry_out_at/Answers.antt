@@ -16,8 +16,12 @@ returns-in_err-answer_of_called c =
     let s = c.args in
     let e = c.in_err-answer_of_called.field-0.0 in
     let h : Err e ≡ answer_of_called s.called = search rules in
-    told-err c.from_residual.result e (answer_of_called s.called) s.valid.now (made_by s.valid.now s.body.now s.called) (search rules) h
-    (unchanged s.valid.now s.body.now s.called (refused-stays s.called e h))
+    record {
+      gives =
+          told-err c.from_residual.result e (answer_of_called s.called) s.valid.now (made_by s.valid.now s.body.now s.called) (search rules) h
+          (unchanged s.valid.now s.body.now s.called (refused-stays s.called e h));
+      good = search rules;
+    }
 
 pub numbers_of-requires : goal.numbers_of-requires
 numbers_of-requires c =
@@ -36,4 +40,7 @@ returns c =
       | then-is_change w ↦ w.valid-is ∙ w.make_record.ensures
       | else-is_change w ↦ w.valid-is ∙ unchanged s.valid.now s.body.now s.called (sym c.is_change.ensures ∙ w.if-is_change.false)
     ] in
-    ap (λ (r : VoterSlotsResult). (r, c.if-is_change.valid)) c.numbers_of.ensures ∙ (λ i. told (h i, u i))
+    record {
+      gives = ap (λ (r : VoterSlotsResult). (r, c.if-is_change.valid)) c.numbers_of.ensures ∙ (λ i. told (h i, u i));
+      good = ap (λ (r : VoterSlotsResult). r.answer) c.numbers_of.ensures;
+    }

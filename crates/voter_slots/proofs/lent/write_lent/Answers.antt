@@ -13,6 +13,10 @@ returns-in_err-validate_table c =
     let s = c.args in
     let e = c.in_err-validate_table.field-0.0 in
     let h : Err e ≡ validate s.table = search rules in
-    passed-err c.from_residual.result e s.out.now (search rules)
-    ∙ ap (λ (a : Answer). leaves (number_of a) s.out.now) h
-    ∙ unwritten s.table s.out.now (ap is_accepted (sym h))
+    record {
+      gives =
+          passed-err c.from_residual.result e s.out.now (search rules)
+          ∙ ap (λ (a : Answer). leaves (number_of a) s.out.now) h
+          ∙ unwritten s.table s.out.now (ap is_accepted (sym h));
+      good = search rules;
+    }

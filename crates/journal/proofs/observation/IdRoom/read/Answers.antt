@@ -45,7 +45,10 @@ returns-in_err-ok g c =
     let l : LaidSet (Ok c.in_ok-nodes.nodes) c.lay_sets.new.input.bytes.now c.lay_set.new.input.bytes.now c.in_ok-held.held c.lay_sets.new.ids c.lay_set.new.ids = search rules in
     let q : eqb (length c.lay_set.new.input.bytes.now) 0 ≡ false = search rules in
     let w = observation_end c.args.body.now _ h _ e _ _ _ so _ _ _ l in
-    search (rules, w, q)
+    record {
+      gives = search (rules, w, q);
+      few = search rules;
+    }
 
 pub returns : goal.returns
 unfolding pick
@@ -56,4 +59,10 @@ returns g c =
     let l : LaidSet (Ok c.in_ok-nodes.nodes) c.lay_sets.new.input.bytes.now c.lay_set.new.input.bytes.now c.in_ok-held.held c.lay_sets.new.ids c.lay_set.new.ids = search rules in
     let q : eqb (length c.lay_set.new.input.bytes.now) 0 ≡ true = search rules in
     let w = observation_end c.args.body.now _ h _ e _ _ _ so _ _ _ l in
-    rw (c.split_at.ensures.front, c.split_at.ensures.back, sym w, q)
+    let within = held_within _ _ h _ e _ _ _ so in
+    let nodes = length-take-le c.in_ok-nodes.nodes c.split_at.result.1.now (omega (arith, c.requires, within, l.few, c.split_at.ensures.back_len)) in
+    let counts = length-take-le c.in_ok-sets.field-0 c.lay_sets.new.counts (omega arith) in
+    record {
+      gives = rw (c.split_at.ensures.front, c.split_at.ensures.back, sym w, q);
+      few = (omega (arith, within, l.few, nodes, c.split_at.ensures.front_len), omega (arith, counts));
+    }
