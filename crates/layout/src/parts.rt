@@ -51,7 +51,8 @@ pub const MAX_LOST_VOTER_ATTESTATION_BYTES: usize = 8192;
 // that may hold any number, and there is no other version.
 pub const VERSION: u64 = 1;
 
-// The first of the four groups of an attestation: which request it is of.
+// The first of the four groups of an attestation: which request it is of. The records and the calls
+// have its two parts as fields of their own, as the original has.
 #[derive(Clone, Copy)]
 pub struct ClaimsRequest {
     pub request_id: ConsensusRequestId,

@@ -361,7 +361,8 @@ fn three_cuts_size(cuts: ThreeCuts) -> usize
     cut_size(cuts.first) + cut_size(cuts.second) + cut_size(cuts.third)
 }
 
-// How many bytes a configuration takes.
+// How many bytes a configuration takes. It asks for the count, as `slots_size` does, so that the sum
+// is no more than a number holds; where a table is written `TableFits` has it.
 fn configuration_size(configuration: &VoterConfiguration) -> usize
     requires { configuration.now.count ≤ 9 }
     ensures { result ≡ configuration_size configuration.now }
