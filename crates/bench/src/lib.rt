@@ -76,7 +76,7 @@ pub extern "C" fn bench_successor(new: &[u8], old: &[u8], turns: u64) -> u64 {
     for i in 0..turns {
         // The revision and the next, in turn.
         table.revision = revision.saturating_add(i % 2);
-        answers |= u64::from(number(validate_successor_of(table, older)));
+        answers |= number_of(validate_successor_of(table, older));
     }
     answers
 }
@@ -98,10 +98,14 @@ fn in_turns<F: FnMut(VoterSlotTable) -> Answer>(raw: &[u8], turns: u64, mut call
     let odd = later(even);
     let mut answers = 0;
     for i in 0..turns {
-        let answer = call(if i % 2 == 0 { even } else { odd });
-        answers |= u64::from(number(answer));
+        answers |= number_of(call(if i % 2 == 0 { even } else { odd }));
     }
     answers
+}
+
+// The answer's number, as wide as the results that it is joined with.
+fn number_of(answer: Answer) -> u64 {
+    u64::from(number(answer))
 }
 
 // The table with the next revision.
