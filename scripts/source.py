@@ -48,6 +48,10 @@ def implemented(tokens, i):
         if depth == 0 and tokens[i].text == 'for':
             trait = names[-1] + ''.join(inner)
             names = []
+        elif depth == 0 and tokens[i].text == '[':
+            # an array, `[T; N]`, is named so by the check
+            names.append('Array')
+            i = closing(tokens, i)
         elif depth == 0 and tokens[i].kind == 'name' and tokens[i].text != 'impl':
             names.append(tokens[i].text)
             inner = []
