@@ -1,6 +1,6 @@
 #!/usr/bin/env python3
-"""Writes what each struct of crates/records/src/records.rt needs: equality, a blank, a test for it,
-and what its values hold.
+"""Writes what each struct of crates/records/src/records.rt needs: what equality says of it, its blank
+with a test for it, and what its values hold.
 
 Run it from the root of the repository, after a change to a struct:
 
@@ -8,18 +8,16 @@ Run it from the root of the repository, after a change to a struct:
 
 It writes, in crates/records:
 
-    specs/Equality.antt, specs/EqualityLaws.antt, src/equality.rt
-    specs/Blank.antt, src/blank.rt
-    src/zero.rt, proofs/zero/
+    specs/Equality.antt, specs/EqualityLaws.antt
+    specs/Blank.antt, src/blanks.rt
     specs/Held.antt, proofs/Held.antt
 
 It ends with `rt fmt`, which lays out the code. The files src/lib.rt, specs/Lib.antt and
-proofs/Lib.antt are written by hand. A function needs no proof file where the check finds the proof
-with the definitions that the function's attribute names.
+proofs/Lib.antt are written by hand. A function needs no proof file: the check finds its proof with
+the definitions that the function's attribute names.
 """
 import os
 import re
-import shutil
 import subprocess
 
 CRATE = 'crates/records'
@@ -87,24 +85,16 @@ class Field:
 
     def say(self, templates):
         """The template of its kind. In it {name} is the field's name, {a} and {b} are the field of a
-        and of b, {snake} is its struct in the names of functions and definitions, {size} is an
+        and of b, {struct} is its struct and {snake} the same in the names of definitions, {size} is an
         array's length and {length} the same as the source writes it."""
         return templates[self.kind].format(
-            name=self.name, a=self.of('a'), b=self.of('b'), snake=snake(self.struct), size=self.size, length=self.length, places=PLACES, places_name=PLACES_NAME)
+            name=self.name, a=self.of('a'), b=self.of('b'), struct=self.struct, snake=snake(self.struct), size=self.size, length=self.length, places=PLACES, places_name=PLACES_NAME)
 
 
 RECORDS = {}
 for struct, fields in FROM_BELOW + FROM_HERE:
     RECORDS[struct] = [Field(name, written, RECORDS) for name, written in fields]
 NAMES = list(RECORDS)
-NINES = []
-# What the crates above compare by name: arrays of so many bytes, and records.
-SIZES = [16, 32]
-COMPARED_ABOVE = ['VoterSlotLogId', 'VoterSnapshotEvidence']
-for fields in RECORDS.values():
-    for field in fields:
-        if field.kind == 'nine' and field.struct not in NINES:
-            NINES.append(field.struct)
 
 
 # ---- names
@@ -226,21 +216,21 @@ same_{0} a b =
 
 # That the fields are the same where that test holds
 FROM_TRUE = {
-    'number': 'eqb-true _ _',
-    'bool': 'beq-true _ _',
-    'bytes': 'eq_bytes-true _ _',
-    'nine': 'eq_list-true same_{snake} same_{snake}-true _ _',
-    'struct': 'same_{snake}-true _ _',
+    'number': 'eqb-true {a} {b}',
+    'bool': 'beq-true {a} {b}',
+    'bytes': 'eq_bytes-true {a} {b}',
+    'nine': 'eq_list-true same_{snake} same_{snake}-true {a} {b}',
+    'struct': 'same_{snake}-true {a} {b}',
 }
 
 
-# That a field of a is the same as itself
+# That each field of such a kind is the same as itself
 OF_ITSELF = {
-    'number': 'eqb_refl {a}',
-    'bool': 'beq-refl {a}',
-    'bytes': 'eq_bytes-refl {a}',
-    'nine': 'eq_list-refl same_{snake} same_{snake}-refl {a}',
-    'struct': 'same_{snake}-refl {a}',
+    'number': 'eqb_refl',
+    'bool': 'beq-refl',
+    'bytes': 'eq_bytes-refl',
+    'nine': 'eq_list-refl same_{snake} same_{snake}-refl',
+    'struct': 'same_{snake}-refl',
 }
 
 
@@ -366,131 +356,25 @@ pub same_{0}-true : (a b : {1}) → same_{0} a b ≡ true → a ≡ b
 unfolding same_{0}
 same_{0}-true a b h =
     let e = all-each _ h in
-{2}{3}
+{2}
 
 pub same_{0}-refl : (a : {1}) → same_{0} a a ≡ true
 unfolding all_true same_{0}
-{4}
+{3}
 '''
 
 
 def record_laws(name, fields):
     """That a test of a record that holds is a path, and that each value is the same as itself."""
-    lets, path = '', 'e'
-    for i, field in enumerate(fields):
-        lets += '    let e%d : %s ≡ %s = %s %s.0 in\n' % (i, field.of('a'), field.of('b'), field.say(FROM_TRUE), path)
-        path += '.1'
-    paths = record(['%s = e%d i' % (field.name, i) for i, field in enumerate(fields)], 'λ i. ')
-    selves = listed('rw', [field.say(OF_ITSELF) for field in fields])
-    return RECORD_LAWS.format(snake(name), name, lets, paths, clause('same_%s-refl a' % snake(name), selves))
+    paths = ['%s = %s e%s.0 i' % (field.name, field.say(FROM_TRUE), '.1' * i) for i, field in enumerate(fields)]
+    selves = list(dict.fromkeys(field.say(OF_ITSELF) for field in fields))
+    return RECORD_LAWS.format(snake(name), name, record(paths, 'λ i. '), clause('same_%s-refl a' % snake(name), listed('simp', selves)))
 
 
 def equality_laws():
     head = LAWS_HEAD % (BY, all_of('same_'), DECLARED)
     records = [record_laws(name, fields) for name, fields in RECORDS.items()]
     write('specs/EqualityLaws.antt', head, ANY_TEST_LAWS, TEST_LAWS, LIST_LAWS, BYTES_LAWS, '-- ---- the records', *records)
-
-
-# ---- equality: code
-
-
-def is_apart(fields):
-    """Whether the first field is tested by itself: three arrays stand in front. LLVM would make one
-    test of them, of 80 bytes, and take it apart byte by byte."""
-    return [field.kind for field in fields[:3]] == ['bytes'] * 3
-
-
-EQUALITY_HEAD = '''
-// Equality by name, for the crates above. %s
-//
-// Records are compared by `==`, which records.rt derives as openpacketcore-sdk does in
-// crates/opc-consensus/src/voter_slots/records.rs and identity.rs, commit 717de332e7, Apache-2.0
-// (see NOTICE). What it answers is the definition of specs/Equality.antt: a function that compares
-// names that definition, and those below it, in its attribute.
-ghost use Rattle.std.specs.Prelude.{◌≡◌};
-ghost use Rattle.records.specs.Equality.{eq_bytes, %s};
-%s'''
-
-SAME_SIZE = '''
-pub fn same{0}(a: [u8; {0}], b: [u8; {0}]) -> bool
-    ensures {{ result ≡ eq_bytes a b }}
-{{
-    a == b
-}}
-'''
-
-SAME_RECORD = '''
-{2}
-pub fn same_{0}(a: {1}, b: {1}) -> bool
-    ensures {{ result ≡ same_{0} a b }}
-{{
-    a == b
-}}
-'''
-
-
-def joined(tests):
-    """The tests with `&` between them, in brackets from the right."""
-    whole = tests[-1]
-    for one in reversed(tests[:-1]):
-        whole = ('%s & (%s)' if ' & ' in whole else '%s & %s') % (one, whole)
-    return whole
-
-
-ALL_TRUE = ('Equality', 'all_true')
-
-
-def parts_of(name):
-    """A record's name, and the names of the records in it, each once."""
-    found = [name]
-    for field in RECORDS[name]:
-        if field.struct:
-            found += [part for part in parts_of(field.struct) if part not in found]
-    return found
-
-
-def equality_code():
-    code = [EQUALITY_HEAD % (BY, all_of('same_', COMPARED_ABOVE), use_rattle(COMPARED_ABOVE))]
-    code += [SAME_SIZE.format(size) for size in SIZES]
-    for name in COMPARED_ABOVE:
-        definitions = [('Equality', 'same_' + snake(part)) for part in parts_of(name)]
-        code.append(SAME_RECORD.format(snake(name), name, found_with(ALL_TRUE, *definitions)))
-    write('src/equality.rt', *code)
-
-
-# ---- proofs
-
-
-# The first lines of a proof file
-PROOF_HEAD = '''
--- `records::{module}::{function}` meets its contract: {how}. {by} Assumes nothing.
-{uses}use Rattle.records.proofs.{module}.{function}.{of} as goal
-'''
-
-LOOP_HOW = 'the answer so far is that of the %s passed'
-
-# The invariant of a loop over the elements of something, of the loop's variables l
-INVARIANT = '''
-abbrev pub invariant-loop-{0} : goal.invariant-loop-{0}
-invariant-loop-{0} l = {1}
-'''
-
-
-def write_answers(module, function, how, uses, *answers):
-    """The answers to the goals of a function that the check does not find."""
-    head = PROOF_HEAD.format(module=module, function=function, how=how, by=BY, uses=''.join('use %s\n' % use for use in uses), of='Goals')
-    write('proofs/%s/%s/Answers.antt' % (module, function), head, *answers)
-
-
-def write_invariants(module, function, how, uses, element, invariant):
-    """The invariant of a function's loop over elements of that name."""
-    head = PROOF_HEAD.format(module=module, function=function, how=how, by=BY, uses=''.join('use %s\n' % use for use in uses), of='Given')
-    write('proofs/%s/%s/Invariants.antt' % (module, function), head, INVARIANT.format(element, invariant))
-
-
-def answer(goal, value, of='c'):
-    """An answer to a goal, from what is known there; of a generic function g says its parameters."""
-    return 'pub {0} : goal.{0}\n{1}'.format(goal, clause('%s %s' % (goal, of), '    ' + value.strip()))
 
 
 # ---- blanks
@@ -511,9 +395,78 @@ BLANK_CODE = {
     'number': '0',
     'bool': 'false',
     'bytes': '[0; {length}]',
-    'nine': '[{snake}; {places_name}]',
-    'struct': '{snake}',
+    'nine': '[{struct}::default(); {places_name}]',
+    'struct': '{struct}::default()',
 }
+
+
+BLANKS_HEAD = '''
+// The blank of each record, all zero: what stands where a record is absent or was refused. And
+// whether a record is blank, field by field. %s
+//
+// `Default` is not derived: it would be as fast, but of an array it would say only that each element
+// is a default. The layers above rest on the whole value, which `is_default` names here.
+//
+// Where three arrays stand in front, the first is tested by itself: LLVM would make one test of them
+// and take it apart byte by byte.
+ghost use Rattle.std.specs.Prelude.{◌≡◌};
+ghost use Rattle.records.specs.Blank.{%s};
+ghost use Rattle.records.specs.Equality.{%s};
+
+use crate::blank::Blank;
+%s%s'''
+
+DEFAULT = '''
+impl Default for {1} {{
+    ghost is_default = {{ λ x. x ≡ blank_{0} }};
+
+    {2}
+    fn default() -> {1} {{
+        {1} {{
+{3}        }}
+    }}
+}}
+'''
+
+IS_BLANK = '''
+impl Blank for {1} {{
+    ghost blank = {{ blank_{0} }};
+
+    ghost same = {{ same_{0} }};
+
+    {2}
+    fn is_blank(&self) -> bool {{
+        {3}{4}
+    }}
+}}
+'''
+
+
+def is_apart(fields):
+    """Whether the first field is tested by itself: three arrays stand in front. LLVM would make one
+    test of them, of 80 bytes, and take it apart byte by byte."""
+    return [field.kind for field in fields[:3]] == ['bytes'] * 3
+
+
+def joined(tests):
+    """The tests with `&` between them, in brackets from the right."""
+    whole = tests[-1]
+    for one in reversed(tests[:-1]):
+        whole = ('%s & (%s)' if ' & ' in whole else '%s & %s') % (one, whole)
+    return whole
+
+
+def blank_code(name, fields):
+    """The blank of a record, which one of the crate below derives, and the test for it."""
+    blank, same = ('Blank', 'blank_' + snake(name)), ('Equality', 'same_' + snake(name))
+    tests, early, made = [field.of('self') + '.is_blank()' for field in fields], '', []
+    if HOME[name] == 'records':
+        values = ''.join('            %s: %s,\n' % (field.name, field.say(BLANK_CODE)) for field in fields)
+        below = [('Blank', 'blank_' + snake(field.struct)) for field in fields if HOME.get(field.struct) == 'identity']
+        made.append(DEFAULT.format(snake(name), name, found_with(blank, *below), values))
+    if is_apart(fields):
+        early = 'if !%s {\n            return false;\n        }\n        ' % tests.pop(0)
+    return made + [IS_BLANK.format(snake(name), name, found_with(('Equality', 'all_true'), same, blank), early, joined(tests))]
 
 
 def blanks():
@@ -525,171 +478,14 @@ def blanks():
 -- Assumes nothing.
 use Rattle.std.specs.Prelude.{false, replicate}
 %s''' % (BY, DECLARED)]
-    code = ['''
-// The blank of each record, all zero: what stands where a record is absent or was refused.
-// %s
-//
-// A derived `Default` is as fast, and of an array it says only that each element is a default: the
-// layers above rest on the whole value, which these clauses name.
-ghost use Rattle.std.specs.Prelude.{◌≡◌};
-ghost use Rattle.records.specs.Blank.{%s};
-%s%s''' % (BY, all_of('blank_'), use_rattle(NAMES), LENGTHS)]
+    code = [BLANKS_HEAD % (BY, all_of('blank_'), all_of('same_'), use_rattle(NAMES), LENGTHS)]
     for name, fields in RECORDS.items():
         blank = 'blank_' + snake(name)
         spec.append('unfoldable pub %s : %s\n%s' % (
             blank, name, clause(blank, record(['%s = %s' % (field.name, field.say(BLANK)) for field in fields]))))
-        parts = []
-        for field in fields:
-            if field.kind in ('nine', 'struct') and field.struct not in parts:
-                parts.append(field.struct)
-        lets = ''.join('    let {0} = blank_{0}();\n'.format(snake(part)) for part in parts)
-        values = ''.join('        %s: %s,\n' % (field.name, field.say(BLANK_CODE)) for field in fields)
-        code.append('''
-{4}
-pub fn {0}() -> {1}
-    ensures {{ result ≡ {0} }}
-{{
-{2}    {1} {{
-{3}    }}
-}}
-'''.format(blank, name, lets, values, found_with(('Blank', blank))))
+        code += blank_code(name, fields)
     write('specs/Blank.antt', *spec)
-    write('src/blank.rt', *code)
-
-
-# ---- tests for a blank
-
-# the table is no part of another record
-PARTS = [name for name in NAMES if any(field.kind in ('nine', 'struct') and field.struct == name for fields in RECORDS.values() for field in fields)]
-PART_NINES = [field.struct for name in PARTS for field in RECORDS[name] if field.kind == 'nine']
-
-
-# The test of a field of x for its blank
-ZERO_TEST = {
-    'number': '(x.{name} == 0)',
-    'bool': '!x.{name}',
-    'bytes': 'are_zeros(&x.{name})',
-    'nine': 'is_blank_{snake}s(x.{name})',
-    'struct': 'is_blank_{snake}(x.{name})',
-}
-
-
-ZERO_HEAD = '''
-// Whether a record is blank, field by field. %s
-//
-// `x == X::default()` makes a blank first: the representability check took 1.8 to 2.8 times as long.
-// No loop is left early, so that many bytes are tested at once. Where three arrays stand in front,
-// the first is tested by itself: LLVM would make one test of them and take it apart byte by byte.
-ghost use Rattle.std.specs.Prelude.{◌≡◌, replicate};
-ghost use Rattle.identity.specs.Text.{every};
-ghost use Rattle.records.specs.Blank.{%s};
-ghost use Rattle.records.specs.Equality.{eq_bytes, eq_list, %s};
-ghost use Rattle.records.specs.Representable.{is_zero};
-%s'''
-
-ZEROS = '''
-// Whether every byte is zero.
-#[tactic(auto, unfolding(identity::specs::Text::every), using(identity::specs::TextLaws::all_more))]
-pub fn zeros(bytes: &[u8]) -> bool
-    ensures { result ≡ every is_zero bytes.now }
-{
-    let mut all = true;
-    for byte in bytes {
-        all = all & (*byte == 0);
-    }
-    all
-}
-
-// The same of an array: it is the blank of its length.
-fn are_zeros<const N: usize>(bytes: &[u8; N]) -> bool
-    ensures { result ≡ eq_bytes bytes.now (replicate N 0) }
-{
-    zeros(bytes)
-}
-'''
-
-IS_BLANK = '''
-{4}
-pub fn is_blank_{0}(x: {1}) -> bool
-    ensures {{ result ≡ same_{0} x blank_{0} }}
-{{
-{2}    {3}
-}}
-'''
-
-IS_BLANK_NINE = '''
-// The nine places of a configuration, whatever its count.
-pub fn is_blank_{0}s(x: [{1}; {3}]) -> bool
-    ensures {{ result ≡ eq_list same_{0} x (replicate {2} blank_{0}) }}
-{{
-    let mut all = true;
-    for place in &x {{
-        all = all & is_blank_{0}(*place);
-    }}
-    all
-}}
-'''
-
-
-def is_blank_code(name, fields):
-    """The test of a record for its blank, field by field."""
-    tests, early = [field.say(ZERO_TEST) for field in fields], ''
-    if is_apart(fields):
-        early = '    if !%s {\n        return false;\n    }\n' % tests.pop(0)
-    attribute = found_with(ALL_TRUE, ('Equality', 'same_' + snake(name)), ('Blank', 'blank_' + snake(name)))
-    return IS_BLANK.format(snake(name), name, early, joined(tests), attribute)
-
-
-def zero_code():
-    parts = [ZERO_HEAD % (BY, all_of('blank_', PARTS), all_of('same_', PARTS), use_rattle(PARTS)), ZEROS]
-    for name in PARTS:
-        parts.append(is_blank_code(name, RECORDS[name]))
-        if name in PART_NINES:
-            parts.append(IS_BLANK_NINE.format(snake(name), name, PLACES, PLACES_NAME))
-    write('src/zero.rt', *parts)
-
-
-def zero_proofs():
-    for name in PART_NINES:
-        zero_nine_proof(snake(name))
-    zeros_proof()
-    write_answers('zero', 'are_zeros', 'an array has its length', [
-        'borrow.Author.Rules.{rules}',
-        'Rattle.records.specs.ZeroLaws.{zeros-blank}',
-    ], answer('returns', 'zeros-blank _ _ _ (search rules) c.zeros.ensures', of='g c'))
-
-
-def zero_nine_proof(one):
-    function, how = 'is_blank_%ss' % one, LOOP_HOW % 'places'
-    write_invariants('zero', function, how, [
-        'mathlib.Core.Path.{◌≡◌}',
-        'lib.ListN.{take, replicate}',
-        'Rattle.records.specs.Blank.{blank_%s}' % one,
-        'Rattle.records.specs.Equality.{eq_list, same_%s}' % one,
-    ], 'place', 'l.all ≡ eq_list same_{1} (take l.place-index l.fn.x) (take l.place-index (replicate {0} blank_{1}))'.format(PLACES, one))
-    write_answers('zero', function, how, [
-        'native.Mathlib.Omega.{arith}',
-        'lib.ListN.{length-replicate}',
-        'Rattle.records.specs.Blank.{blank_%s}' % one,
-        'Rattle.records.specs.Equality.{same_%s}' % one,
-        'Rattle.records.specs.EqualityLaws.{eq_list-end}',
-        'Rattle.records.specs.ZeroLaws.{blank-more}',
-    ], answer('loop-place-preserved', '''
-    let good = c.well_formed in
-    blank-more same_{0} blank_{0} _ _ {1} _ _ _ good.0.1.0.1 (omega arith) c.loop-place.invariant c.is_blank_{0}-all.ensures'''.format(one, PLACES)),
-        answer('returns', '''
-    let good = c.well_formed in
-    eq_list-end same_{0} _ _ c.loop-place.place-index _ (omega (arith, good.0.1.0.1))
-    (omega (arith, length-replicate {1} blank_{0})) c.loop-place.invariant'''.format(one, PLACES)))
-
-
-def zeros_proof():
-    write_invariants('zero', 'zeros', LOOP_HOW % 'bytes', [
-        'mathlib.Core.Path.{◌≡◌}',
-        'lib.ListN.{take}',
-        'Rattle.identity.specs.Text.{every}',
-        'Rattle.records.specs.Representable.{is_zero}',
-    ], 'byte', 'l.all ≡ every is_zero (take l.byte-index l.bytes)')
+    write('src/blanks.rt', *code)
 
 
 # ---- what every value holds
@@ -807,14 +603,9 @@ def held():
 
 
 def main():
-    for module in ('equality', 'blank', 'zero'):
-        shutil.rmtree('%s/proofs/%s' % (CRATE, module), ignore_errors=True)
     equality()
     equality_laws()
-    equality_code()
     blanks()
-    zero_code()
-    zero_proofs()
     held()
     subprocess.run(['rt', 'fmt'], cwd=CRATE, check=True)
 

@@ -40,16 +40,25 @@ def split(tokens, start, end):
 
 
 def implemented(tokens, i):
-    """The type whose methods the `impl` at i has, by its last name, and the place of its `{`."""
-    depth, names = 0, []
+    """The type whose methods the `impl` at i has, by its last name, the trait that they are of, if
+    any, as the check names it (`FromVoterCommand`), and the place of the `{`."""
+    depth, names, inner, trait = 0, [], [], None
     while tokens[i].text != '{':
         depth += (tokens[i].text == '<') - (tokens[i].text == '>')
         if depth == 0 and tokens[i].text == 'for':
+            trait = names[-1] + ''.join(inner)
             names = []
+        elif depth == 0 and tokens[i].text == '[':
+            # an array, `[T; N]`, is named so by the check
+            names.append('Array')
+            i = closing(tokens, i)
         elif depth == 0 and tokens[i].kind == 'name' and tokens[i].text != 'impl':
             names.append(tokens[i].text)
+            inner = []
+        elif tokens[i].kind == 'name':
+            inner.append(tokens[i].text)
         i += 1
-    return names[-1], i
+    return names[-1], trait, i
 
 
 class Function:
@@ -64,7 +73,7 @@ class Source:
     def __init__(self, crates):
         self.structs, self.enums, self.aliases, self.constants, self.values = {}, {}, {}, {}, {}
         self.signatures, self.functions, self.texts, self.scope = {}, [], {}, {}
-        self.public, self.whole, self.homes = {}, [], {}
+        self.public, self.whole, self.homes, self.of_traits = {}, [], {}, {}
         for crate in crates:
             folder = f'crates/{crate}/src'
             for name in sorted(os.listdir(folder)):
@@ -73,9 +82,12 @@ class Source:
         for scope, module in self.whole:
             for name in self.public.get(module, []):
                 scope.setdefault(name, name)
-        # a method has its name from the module that declares its type, wherever its `impl` stands
+        # a method has its name from the module that declares its type, wherever its `impl` stands; one
+        # of a trait has it from where its `impl` stands
         for f in self.functions:
-            if (f.crate, f.owner) in self.homes:
+            if f in self.of_traits:
+                f.full = self.of_traits[f]
+            elif (f.crate, f.owner) in self.homes:
                 f.full = f'{self.homes[f.crate, f.owner]}::{f.owner}::{f.name}'
         self.calls = {}
         for crate in crates:
@@ -96,7 +108,7 @@ class Source:
         base = os.path.basename(path)[:-3]
         prefix = crate + ('' if base in ('lib', 'main') else '::' + base)
         scope = self.scope.setdefault(path, {})
-        i, owner, owner_end = 0, None, 0
+        i, owner, trait, owner_end = 0, None, None, 0
         while i < len(tokens):
             word = tokens[i].text
             if owner and i >= owner_end:
@@ -116,13 +128,16 @@ class Source:
                 (self.struct if word == 'struct' else self.enum)(name, tokens, begin, end)
                 i = end + 1
             elif word == 'impl':
-                owner, begin = implemented(tokens, i)
+                owner, trait, begin = implemented(tokens, i)
                 owner_end = closing(tokens, begin)
                 i = begin + 1
             elif word == 'fn':
                 if not owner and tokens[i - 1].text == 'pub':
                     self.public.setdefault(prefix, []).append(tokens[i + 1].text)
+                name, count = tokens[i + 1].text, len(self.functions)
                 i = self.function(crate, path, prefix, owner, tokens, i, scope)
+                if owner and trait and len(self.functions) > count:
+                    self.of_traits[self.functions[-1]] = f'{prefix}::{owner[0].upper()}{owner[1:]}{trait}::{name}'
             else:
                 i += 1
 
@@ -205,11 +220,14 @@ class Source:
         result = '()'
         if tokens[at].text == '->':
             first = at + 1
-            while tokens[at].text not in ('requires', 'ensures', 'ghost', '{'):
+            while tokens[at].text not in ('requires', 'ensures', 'ghost', '{', ';'):
                 at += 1
             result = self.type_text(tokens, first, at)
         clauses = set()
         while tokens[at].text != '{':
+            # a method that a trait declares has no body
+            if tokens[at].text == ';':
+                return at + 1
             clauses.add(tokens[at].text)
             while tokens[at].text != '{':
                 at += 1

@@ -9,12 +9,10 @@ ghost use Rattle.identity.specs.Text.{is_utf8, is_name, is_snapshot_id};
 use codec::codec::encode_voter_slot_table;
 use identity::answer::{Answer, Refusal, number};
 use raw::table::table_in;
-use records::blank::blank_voter_slot_table;
+use records::blank::are_blank;
 use records::records::VoterSlotTable;
-use records::representable::is_representable;
 use records::successor::validate_successor_of;
 use records::validation::validate_table;
-use records::zero::zeros;
 
 #[unsafe(no_mangle)]
 pub extern "C" fn bench_is_utf8(bytes: &[u8]) -> bool
@@ -46,7 +44,7 @@ pub extern "C" fn bench_zeros(bytes: &[u8], turns: u64) -> u64 {
     for i in 0..turns {
         let from = (i % 2) as usize;
         if let Some(seen) = bytes.get(from..)
-            && !zeros(seen)
+            && !are_blank(seen)
         {
             refused = 1;
         }
@@ -57,25 +55,13 @@ pub extern "C" fn bench_zeros(bytes: &[u8], turns: u64) -> u64 {
 // Validity of a table, given in its raw form, so many times: the answers' numbers, joined.
 #[unsafe(no_mangle)]
 pub extern "C" fn bench_validity(raw: &[u8], turns: u64) -> u64 {
-    let even = table_of_bytes(raw);
-    let odd = later(even);
-    let mut answers = 0;
-    for i in 0..turns {
-        answers |= number_of(validate_table(pick(i % 2 == 0, even, odd)));
-    }
-    answers
+    in_turns(raw, turns, |table| validate_table(table))
 }
 
 // The representability check of a table, given in its raw form, so many times: 0 where it passes.
 #[unsafe(no_mangle)]
 pub extern "C" fn bench_representable(raw: &[u8], turns: u64) -> u64 {
-    let even = table_of_bytes(raw);
-    let odd = later(even);
-    let mut answers = 0;
-    for i in 0..turns {
-        answers |= representable_of(pick(i % 2 == 0, even, odd));
-    }
-    answers
+    in_turns(raw, turns, |table| representable(table))
 }
 
 // The successor check of two tables, given in their raw form, so many times. The newer one's
@@ -98,23 +84,28 @@ pub extern "C" fn bench_successor(new: &[u8], old: &[u8], turns: u64) -> u64 {
 // Writing a table, given in its raw form, to the same buffer so many times.
 #[unsafe(no_mangle)]
 pub extern "C" fn bench_encode(raw: &[u8], buffer: &mut [u8], turns: u64) -> u64 {
+    in_turns(raw, turns, |table| {
+        encode_voter_slot_table(buffer, table).and(Ok(()))
+    })
+}
+
+// A call on the table that the raw form stands for, so many times: the answers' numbers, joined.
+// Two tables take turns, so that no call's result is kept for the next.
+fn in_turns<F: FnMut(VoterSlotTable) -> Answer>(raw: &[u8], turns: u64, mut call: F) -> u64
+    requires { F.IsAlwaysCallable call }
+{
     let even = table_of_bytes(raw);
     let odd = later(even);
     let mut answers = 0;
     for i in 0..turns {
-        let table = pick(i % 2 == 0, even, odd);
-        answers |= number_of(encode_voter_slot_table(buffer, table).and(Ok(())));
+        answers |= number_of(call(if i % 2 == 0 { even } else { odd }));
     }
     answers
 }
 
+// The answer's number, as wide as the results that it is joined with.
 fn number_of(answer: Answer) -> u64 {
     u64::from(number(answer))
-}
-
-// Two tables take turns, so that no call's result is kept for the next.
-fn pick(first: bool, a: VoterSlotTable, b: VoterSlotTable) -> VoterSlotTable {
-    if first { a } else { b }
 }
 
 // The table with the next revision.
@@ -124,17 +115,15 @@ fn later(table: VoterSlotTable) -> VoterSlotTable {
     next
 }
 
-fn representable_of(table: VoterSlotTable) -> u64 {
-    if is_representable(table) {
-        return 0;
-    }
-    number_of(Err(Refusal::Unrepresentable))
+// 30 where the table does not pass.
+fn representable(table: VoterSlotTable) -> Answer {
+    table
+        .is_representable()
+        .then_some(())
+        .ok_or(Refusal::Unrepresentable)
 }
 
 // The blank one where the bytes are none of the raw form.
 fn table_of_bytes(bytes: &[u8]) -> VoterSlotTable {
-    bytes
-        .first_chunk()
-        .and_then(table_in)
-        .unwrap_or(blank_voter_slot_table())
+    bytes.first_chunk().and_then(table_in).unwrap_or_default()
 }

@@ -3,18 +3,18 @@
 #![tactic(auto)]
 
 use codec::codec::{DecodedTable, decode_voter_slot_table};
-use identity::answer::{Answer, Refusal, accepted, number};
-use records::blank::blank_voter_slot_table;
+use identity::answer::{Refusal, accepted, number};
+use records::records::VoterSlotTable;
 
 // Reading a table's bytes, so many times. The last table is asked for the phase of a slot, 0 to 2,
 // by a number that the compiler does not know: so each table is kept, and kept whole.
 #[unsafe(no_mangle)]
 pub extern "C" fn bench_decode(bytes: &[u8], turns: u64) -> u64 {
-    let mut kept = blank_voter_slot_table();
+    let mut kept = VoterSlotTable::default();
     let mut answers = 0;
     for _ in 0..turns {
         let decoded = decode_voter_slot_table(bytes);
-        answers |= number_of(decoded.answer);
+        answers |= u64::from(number(decoded.answer));
         kept = decoded.table;
     }
     let place = (turns % 9) as usize;
@@ -25,7 +25,7 @@ pub extern "C" fn bench_decode(bytes: &[u8], turns: u64) -> u64 {
 // the blank one with a refusal, and kept where it is accepted. Nothing is read.
 #[unsafe(no_mangle)]
 pub extern "C" fn bench_returned(turns: u64) -> u64 {
-    let mut kept = blank_voter_slot_table();
+    let mut kept = VoterSlotTable::default();
     for i in 0..turns {
         let given = returned(i);
         if accepted(given.answer) {
@@ -37,7 +37,7 @@ pub extern "C" fn bench_returned(turns: u64) -> u64 {
 }
 
 fn returned(revision: u64) -> DecodedTable {
-    let mut table = blank_voter_slot_table();
+    let mut table = VoterSlotTable::default();
     if revision == u64::MAX {
         return DecodedTable {
             answer: Err(Refusal::InvalidRecord),
@@ -53,8 +53,4 @@ fn returned(revision: u64) -> DecodedTable {
 
 fn third(x: u8) -> u64 {
     u64::from(x / 3)
-}
-
-fn number_of(answer: Answer) -> u64 {
-    u64::from(number(answer))
 }

@@ -1,12 +1,9 @@
 // The replies about bytes: reading a table or an attestation, and writing a table.
 use codec::codec::*;
-use identity::answer::accepted;
 use questions::reply::Reply;
 use raw::crc::crc32;
 use raw::fields::Fields;
-use raw::table::{TABLE_SIZE, last_table};
-use raw::write::{put_attestation, put_table};
-use records::records::{LostVoterAttestationV1, VoterSlotTable};
+use raw::table::{TABLE_SIZE, last_table, raw_checksum};
 
 // The bytes of the largest table (`ends`).
 const LARGEST_TABLE: usize = 8072;
@@ -18,10 +15,11 @@ const LONGEST_BUFFER: usize = 70000;
 const ATTESTATION_SIZE: usize = 4423;
 
 // The table's bytes are read, written again and read again by a restart, whose table is the one
-// that is checked.
+// that is checked. The reading is `decode_voter_slot_table`, and no `?` on a `Result`: document 01's
+// entry point is what is compared with the original.
 pub fn read_table(body: &[u8]) -> Option<Reply> {
     let decoded = decode_voter_slot_table(body);
-    if !accepted(decoded.answer) {
+    if decoded.answer.is_err() {
         return Some(decoded.answer.into());
     }
     let table = decoded.table;
@@ -33,28 +31,18 @@ pub fn read_table(body: &[u8]) -> Option<Reply> {
         table.revision,
         count as u64,
         u64::from(checksum),
-        raw_checksum(again.table),
+        raw_checksum(&again.table, &mut [0; TABLE_SIZE]),
     ))
 }
 
-fn raw_checksum(table: VoterSlotTable) -> u64 {
-    let mut raw = [0; TABLE_SIZE];
-    put_table(&mut raw, table);
-    u64::from(crc32(&raw))
-}
-
+// The attestation's bytes are read, by document 01's entry point as those of a table are.
 pub fn read_attestation(body: &[u8]) -> Reply {
     let decoded = decode_lost_voter_attestation(body);
-    if !accepted(decoded.answer) {
+    if decoded.answer.is_err() {
         return decoded.answer.into();
     }
-    Reply::Pair(0, raw_attestation_checksum(decoded.attestation))
-}
-
-fn raw_attestation_checksum(attestation: LostVoterAttestationV1) -> u64 {
-    let mut raw = [0; ATTESTATION_SIZE];
-    put_attestation(&mut raw, attestation);
-    u64::from(crc32(&raw))
+    let checksum = raw_checksum(&decoded.attestation, &mut [0; ATTESTATION_SIZE]);
+    Reply::Pair(0, checksum)
 }
 
 // The body is a buffer's length and one raw table.

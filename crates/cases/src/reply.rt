@@ -10,6 +10,7 @@ use raw::table::{last_table, sparse_table};
 use records::successor::validate_successor_of;
 use records::validation::validate_table;
 
+// Where a question has its own form of body, the function that answers it reads the body.
 pub fn reply_to(question: Question, body: &[u8]) -> Option<Reply> {
     match question {
         Question::Utf8 => Some(is_utf8(body).into()),
@@ -50,28 +51,15 @@ fn reply_to_numbers(question: Question, fields: &mut Fields) -> Option<Reply> {
         Question::Whitespace => is_whitespace(fields.u32()?).into(),
         Question::Slot => validate_slot_id(fields.u16()?).into(),
         Question::Incarnation => validate_voter_incarnation(fields.u64()?).into(),
-        Question::Next => pair(next_voter_incarnation(fields.u64()?)),
+        Question::Next => next_voter_incarnation(fields.u64()?).into(),
         Question::Epoch => is_configuration_epoch(fields.u64()?).into(),
-        Question::NodeId => pair(node_id(fields.u16()?, fields.u64()?)),
-        Question::Identity => triple(VoterSlotIdentity::from_node_id(fields.u64()?)),
+        Question::NodeId => node_id(fields.u16()?, fields.u64()?).into(),
+        Question::Identity => VoterSlotIdentity::from_node_id(fields.u64()?).into(),
         _ => return None,
     })
 }
 
+// The node id of a slot's incarnation, or the refusal of the first call that refuses.
 fn node_id(slot: u16, incarnation: u64) -> Result<u64, Refusal> {
     VoterSlotIdentity::new(slot, incarnation)?.node_id()
-}
-
-fn pair(res: Result<u64, Refusal>) -> Reply {
-    match res {
-        Ok(value) => Reply::Pair(0, value),
-        Err(refusal) => Reply::Pair(refusal as u64, 0),
-    }
-}
-
-fn triple(res: Result<VoterSlotIdentity, Refusal>) -> Reply {
-    match res {
-        Ok(identity) => Reply::Triple(0, u64::from(identity.slot), identity.incarnation),
-        Err(refusal) => Reply::Triple(refusal as u64, 0, 0),
-    }
 }

@@ -16,26 +16,29 @@ ghost use Rattle.codec.specs.Codec.{table_bytes, decoded, decode_voter_slot_tabl
 
 use identity::answer::{Answer, Refusal};
 use layout::parts::MAX_LOST_VOTER_ATTESTATION_BYTES;
-use reader::decode::read_whole_attestation;
+use reader::decode::fill_whole_attestation;
 use reader::reader::Reader;
-use records::blank::{blank_lost_voter_attestation_v1, blank_voter_slot_table};
 use records::records::{LostVoterAttestationV1, VoterSlotTable};
-use records::validation::{validate_representable, validate_table};
+use records::validation::validate_table;
 use writer::encode::{put_table, table_size};
 
 // Hard ceiling for one complete durable slot table, independent of application size.
 pub const MAX_VOTER_SLOT_TABLE_BYTES: usize = 65536;
 
-// An answer, and the table that was read. A reading refused returns the blank table, all zero:
-// callers of the C interface are given it.
+// An answer, and the table that was read. The answer stands beside the table and is no `Result` with
+// it, since document 01 has a refused reading give the blank table, all zero.
+//
+// What was read of an attestation is a struct of its own, and each of the two has a reader of each
+// form (`read_..`, `decode_..`, `fill_..`): the field's name says what was read, and document 01 has
+// an entry point for each of the two.
 #[derive(Clone, Copy)]
 pub struct DecodedTable {
     pub answer: Answer,
     pub table: VoterSlotTable,
 }
 
-// An answer, and the attestation that was read. A reading refused returns the blank attestation,
-// all zero.
+// An answer, and the attestation that was read. They stand beside each other as a table and its
+// answer do: a refused reading gives the blank attestation, all zero.
 #[derive(Clone, Copy)]
 pub struct DecodedAttestation {
     pub answer: Answer,
@@ -47,18 +50,18 @@ pub struct DecodedAttestation {
 pub fn read_voter_slot_table(bytes: &[u8]) -> Result<VoterSlotTable, Refusal>
     ensures { told_whole result (length bytes.now) ≡ decode_voter_slot_table bytes.now }
 {
-    let mut table = blank_voter_slot_table();
+    let mut table = VoterSlotTable::default();
     fill_voter_slot_table(bytes, &mut table)?;
     Ok(table)
 }
 
-// The table is read where it stands, and not taken out of the answer of `read_voter_slot_table`:
-// that copies its 8 KB once more, and an idle table takes 8 percent longer.
+// The reading that answers with a table in every case. The table is read where it stands, and not
+// taken out of the answer of `read_voter_slot_table`: that copies its 8 KB once more, and an idle table takes 8 percent longer.
 #[tactic(auto, unfolding(crate::specs::Codec::decoded))]
 pub fn decode_voter_slot_table(bytes: &[u8]) -> DecodedTable
     ensures { (number_of result.answer, result.table) ≡ decoded blank_voter_slot_table (decode_voter_slot_table bytes.now) }
 {
-    let mut table = blank_voter_slot_table();
+    let mut table = VoterSlotTable::default();
     match fill_voter_slot_table(bytes, &mut table) {
         Ok(()) => DecodedTable {
             answer: Ok(()),
@@ -68,10 +71,10 @@ pub fn decode_voter_slot_table(bytes: &[u8]) -> DecodedTable
     }
 }
 
-// The reading of both, into a place that is blank.
+// What `read_voter_slot_table` and `decode_voter_slot_table` share: the table is read into a place
+// whose content does not matter.
 #[tactic(auto, using(format::specs::ReadsMore::reads_whole, crate::specs::EntryLaws::gate_accepts, crate::specs::EntryLaws::gate_refuses), unfolding(crate::specs::Codec::decode_voter_slot_table, crate::specs::Codec::bounded, format::specs::Num::pick, format::specs::Res::and_then))]
 pub fn fill_voter_slot_table(bytes: &[u8], table: &mut VoterSlotTable) -> Result<(), Refusal>
-    requires { table.old ≡ blank_voter_slot_table }
     ensures { told_whole_at result table.new (length bytes.now) ≡ decode_voter_slot_table bytes.now }
 {
     if MAX_VOTER_SLOT_TABLE_BYTES < bytes.len() {
@@ -80,17 +83,17 @@ pub fn fill_voter_slot_table(bytes: &[u8], table: &mut VoterSlotTable) -> Result
     let mut input = Reader::new(bytes);
     input.table(table)?;
     input.finish()?;
-    validate_representable(*table)
+    table.validate()
 }
 
-// A refused reading.
+// What a refused reading answers: the refusal, with the blank table.
 #[tactic(auto, unfolding(crate::specs::Codec::decoded))]
 fn no_table(refusal: Refusal) -> DecodedTable
     ensures { (number_of result.answer, result.table) ≡ decoded blank_voter_slot_table (no (number_of_refusal refusal)) }
 {
     DecodedTable {
         answer: Err(refusal),
-        table: blank_voter_slot_table(),
+        table: VoterSlotTable::default(),
     }
 }
 
@@ -99,16 +102,17 @@ fn no_table(refusal: Refusal) -> DecodedTable
 pub fn read_lost_voter_attestation(bytes: &[u8]) -> Result<LostVoterAttestationV1, Refusal>
     ensures { told_whole result (length bytes.now) ≡ decode_lost_voter_attestation bytes.now }
 {
-    let mut attestation = blank_lost_voter_attestation_v1();
+    let mut attestation = LostVoterAttestationV1::default();
     fill_lost_voter_attestation(bytes, &mut attestation)?;
     Ok(attestation)
 }
 
+// The reading that answers with an attestation in every case, the blank one with a refusal.
 #[tactic(auto, unfolding(crate::specs::Codec::decoded))]
 pub fn decode_lost_voter_attestation(bytes: &[u8]) -> DecodedAttestation
     ensures { (number_of result.answer, result.attestation) ≡ decoded blank_lost_voter_attestation_v1 (decode_lost_voter_attestation bytes.now) }
 {
-    let mut attestation = blank_lost_voter_attestation_v1();
+    let mut attestation = LostVoterAttestationV1::default();
     match fill_lost_voter_attestation(bytes, &mut attestation) {
         Ok(()) => DecodedAttestation {
             answer: Ok(()),
@@ -116,24 +120,26 @@ pub fn decode_lost_voter_attestation(bytes: &[u8]) -> DecodedAttestation
         },
         Err(refusal) => DecodedAttestation {
             answer: Err(refusal),
-            attestation: blank_lost_voter_attestation_v1(),
+            attestation: LostVoterAttestationV1::default(),
         },
     }
 }
 
-// The reading of both, into a place that is blank.
+// What `read_lost_voter_attestation` and `decode_lost_voter_attestation` share: the attestation is read
+// into a place whose content does not matter. It is blanked before the bound is
+// tested: so it is not blanked twice where the caller has just made it.
 #[tactic(auto, unfolding(crate::specs::Codec::decode_lost_voter_attestation, crate::specs::Codec::bounded, format::specs::Num::pick))]
 pub fn fill_lost_voter_attestation(
     bytes: &[u8],
     attestation: &mut LostVoterAttestationV1,
 ) -> Result<(), Refusal>
-    requires { attestation.old ≡ blank_lost_voter_attestation_v1 }
     ensures { told_whole_at result attestation.new (length bytes.now) ≡ decode_lost_voter_attestation bytes.now }
 {
+    *attestation = LostVoterAttestationV1::default();
     if MAX_LOST_VOTER_ATTESTATION_BYTES < bytes.len() {
         return Err(Refusal::TooLarge);
     }
-    read_whole_attestation(bytes, attestation)
+    fill_whole_attestation(bytes, attestation)
 }
 
 // The table's bytes at the start of the buffer, and their count; refused, nothing is written: the

@@ -1,34 +1,75 @@
--- What the observations of a table that is lent share: the verdict of the judge's answer, and then the
--- answer with the table that is stored.
+-- The laws of the specs as the attributes of the calls cite them: all variables are shown, and a law
+-- of two sides has on its left what the check is to replace.
 -- Assumes nothing.
-use mathlib.Core.Bool.{true}
+use mathlib.Core.Bool.{false, true}
 use mathlib.Core.Path.{◌≡◌, sym, ap, ◌∙◌}
-use Rattle.std.specs.Prelude.{Result, Ok, Err}
-use Rattle.identity.specs.Answer.{Answer, Accepted}
-use Rattle.identity.specs.declared.answer.Refusal.{Refusal}
+use Rattle.std.specs.Prelude.{Ok}
+use mathlib.Core.List.{List}
+use Prim.Native.Nat.{ℕ, ◌<◌, ◌≤◌}
+use Rattle.identity.specs.Answer.{Accepted, is_accepted}
+use Rattle.records.specs.Validation.{validate}
 use Rattle.records.specs.declared.records.VoterSlotLogId.{VoterSlotLogId}
 use Rattle.records.specs.declared.records.VoterSlotTable.{VoterSlotTable}
-use Rattle.control.specs.Judgement.{Addition, Verdict, added, carried}
-use Rattle.control.specs.ObserveSight.{Room, is_change, verdict_of_observed}
-use Rattle.control.specs.declared.observe.Observed.{Observed}
-use Rattle.control.specs.Verdicts.{paired}
+use Rattle.control.specs.declared.begin.VoterBegin.{VoterBegin}
+use Rattle.control.specs.declared.control.VoterAdvance.{VoterAdvance}
+use Rattle.control.specs.declared.control.VoterSlotControl.{VoterSlotControl}
+use Rattle.control.specs.ApplyLaws.{applied-advance, applied-begin, applied-marker}
+use Rattle.control.specs.BeginJudge.{begin_outcome}
+use Rattle.control.specs.BeginVerdictLaws.{begin-room}
+use Rattle.control.specs.Control.{apply_control, current_configuration, full, named_index}
+use Rattle.control.specs.Judgement.{added, carried, judge_advance, judge_begin, judge_marker}
+use Rattle.control.specs.Observation.{observe_membership}
+use Rattle.control.specs.ObserveLaws.{entry-room, observes-entry, observes-valid, weighed-room}
+use Rattle.control.specs.ObserveSight.{Room, entry_weighed, is_change, weighed}
+use Rattle.control.specs.VerdictLaws.{entry-passed, entry-refused, is_move, room_as, target-as}
+use Rattle.control.specs.Verdicts.{advance_in, advance_outcome, answer_of, applied_of, begin_in, checked_of, paired, verdict_of}
+use Rattle.control.specs.declared.judge.Judged.{Judged}
+use Rattle.control.specs.declared.judge.Judged.TheVariants.{Begin}
 
--- ---- an observation that is judged as v, of which o is the outcome
+-- ---- observations
 
-module _ (t : VoterSlotTable) (cut : VoterSlotLogId) (r : Result Observed Refusal) (v : Verdict Addition) (judged : verdict_of_observed r ≡ v) (o : Answer × VoterSlotTable)
-    (outcome : o ≡ carried (added t cut) t v) where
-  as-judged : o ≡ carried (added t cut) t (verdict_of_observed r)
-  as-judged = outcome ∙ ap (carried (added t cut) t) (sym judged)
+pub observed_valid : (t : VoterSlotTable) (ids counts nodes : List ℕ) (cut : VoterSlotLogId) → validate t ≡ Accepted
+    → observe_membership t ids counts nodes cut ≡ carried (added t cut) t (weighed t ids counts nodes cut)
+observed_valid t ids counts nodes cut = observes-valid t ids counts nodes cut
 
-  -- it is refused
-  pub observed-refused : (e : Refusal) → r ≡ Err e → (a : Answer) → a ≡ Err e → paired a t ≡ o
-  unfolding carried
-  observed-refused e is a answers = ap (λ (x : Answer). paired x t) answers ∙ sym (as-judged ∙ ap (λ (x : Result Observed Refusal). carried (added t cut) t (verdict_of_observed x)) is)
+pub observed_entry : (t : VoterSlotTable) (ids counts nodes : List ℕ) (cut : VoterSlotLogId)
+    → observe_membership t ids counts nodes cut ≡ carried (added t cut) t (entry_weighed t ids counts nodes cut)
+observed_entry t ids counts nodes cut = observes-entry t ids counts nodes cut
 
-  -- it is accepted, and carried out
-  pub observed-made : (x : Observed) → r ≡ Ok x → (n : VoterSlotTable) → paired Accepted n ≡ carried (added t cut) t (verdict_of_observed (Ok x)) → paired Accepted n ≡ o
-  observed-made x is n made = made ∙ sym (as-judged ∙ ap (λ (y : Result Observed Refusal). carried (added t cut) t (verdict_of_observed y)) is)
+pub weighed_room : (t : VoterSlotTable) (ids counts nodes : List ℕ) (cut : VoterSlotLogId) → is_change (weighed t ids counts nodes cut) ≡ true → Room t
+weighed_room t ids counts nodes cut = weighed-room t ids counts nodes cut
 
-  -- what its maker asks for
-  pub observed-room : (x : Observed) → r ≡ Ok x → (is_change v ≡ true → Room t) → is_change (verdict_of_observed (Ok x)) ≡ true → Room t
-  observed-room x is room h = room (ap is_change (sym judged ∙ ap verdict_of_observed is) ∙ h)
+pub entry_room : (t : VoterSlotTable) (ids counts nodes : List ℕ) (cut : VoterSlotLogId) → is_change (entry_weighed t ids counts nodes cut) ≡ true → Room t
+entry_room t ids counts nodes cut = entry-room t ids counts nodes cut
+
+-- ---- commands: what a change finds
+
+pub begin_room : (t : VoterSlotTable) (b : VoterBegin) (j : Judged) → validate t ≡ Accepted → verdict_of (Ok j) ≡ judge_begin t b.request b.cut → j ≡ Begin
+    → (t.revision ≡ full → ⊥) × (((current_configuration t).epoch ≡ full → ⊥) × ((t.count ≤ 9) × (named_index t b.request < t.count)))
+begin_room t b j valid judged is = begin-room t b valid (ap is_move (sym judged ∙ ap (λ (x : Judged). verdict_of (Ok x)) is))
+
+pub advance_room : (t : VoterSlotTable) (a : VoterAdvance) (j k : Judged) → validate t ≡ Accepted → verdict_of (Ok j) ≡ judge_advance t a.request_id a.request_digest a.step a.cut
+    → j ≡ k → is_move (verdict_of (Ok k)) ≡ true → Room t
+advance_room t a j k valid judged is h =
+    let v = sym judged ∙ ap (λ (x : Judged). verdict_of (Ok x)) is in (room_as t a (verdict_of (Ok k)) v h, target-as t a (verdict_of (Ok k)) v h valid)
+
+-- ---- the kinds of a command
+
+pub applied_begin : (t : VoterSlotTable) (c : VoterSlotControl) (cut : VoterSlotLogId) → c.kind ≡ 0 → applied_of t c cut ≡ begin_outcome t (begin_in c cut)
+applied_begin t c cut k = sym (applied-begin t c cut k)
+
+pub applied_advance : (t : VoterSlotTable) (c : VoterSlotControl) (cut : VoterSlotLogId) → c.kind ≡ 1 → applied_of t c cut ≡ advance_outcome t (advance_in c cut)
+applied_advance t c cut k = sym (applied-advance t c cut k)
+
+pub applied_marker : (t : VoterSlotTable) (c : VoterSlotControl) (cut : VoterSlotLogId) → (c.kind ≡ 0 → ⊥) → (c.kind ≡ 1 → ⊥)
+    → applied_of t c cut ≡ paired (answer_of (judge_marker t c.request_id c.request_digest)) t
+applied_marker t c cut n m = sym (applied-marker t c cut n m)
+
+-- ---- the entry point: its tests, and then the command
+
+pub entry_refused : (t : VoterSlotTable) (c : VoterSlotControl) (cut : VoterSlotLogId) → is_accepted (checked_of t c cut) ≡ false
+    → apply_control t c cut ≡ paired (checked_of t c cut) t
+entry_refused t c cut h = sym (entry-refused t c cut h)
+
+pub entry_passed : (t : VoterSlotTable) (c : VoterSlotControl) (cut : VoterSlotLogId) → is_accepted (checked_of t c cut) ≡ true → apply_control t c cut ≡ applied_of t c cut
+entry_passed t c cut h = sym (entry-passed t c cut h)

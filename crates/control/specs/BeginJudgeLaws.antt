@@ -98,6 +98,30 @@ module _ (t : VoterSlotTable) (p : VoterSlotRecord → Bool) where
     pub read-end : (i : ℕ) → i ≡ 0 → read_at t (place_from t p i) read none ≡ read_at t (first_from (λ k. p (slot_at t k)) t.count 0) read none
     read-end i e = ap (λ (n : ℕ). read_at t (place_from t p n) read none) e ∙ ap (λ (n : ℕ). read_at t n read none) (place-first t p)
 
+-- ---- the same of a place alone
+--
+-- Nothing here cites these; docs named them, and they stand.
+
+-- whether a place was found, as what is read there
+pub by_place : (b : Bool) → cond b true false ≡ b
+by_place true = refl
+by_place false = refl
+
+-- what a loop has found, as it keeps it
+pub found-by : (one found : Bool) → (one || found) ≡ cond one true found
+found-by true found = refl
+found-by false found = refl
+
+module _ (t : VoterSlotTable) (p : VoterSlotRecord → Bool) where
+  pub found_turn : (i : ℕ) (held found : Bool) → 0 < i → i ≤ 9 → held ≡ p (slot_at t (i - 1)) → found ≡ is_place t (place_from t p i)
+      → ((ltb (i - 1) t.count && held) || found) ≡ is_place t (place_from t p (i - 1))
+  found_turn i held found l m h q =
+      found-by (ltb (i - 1) t.count && held) found
+      ∙ (read-turn t p (λ s. true) false i held true found l m h refl (q ∙ sym (by_place (is_place t (place_from t p i)))) ∙ by_place (is_place t (place_from t p (i - 1))))
+
+  pub found-end : (i : ℕ) → i ≡ 0 → is_place t (place_from t p i) ≡ is_place t (first_from (λ k. p (slot_at t k)) t.count 0)
+  found-end i e = ap (λ (n : ℕ). is_place t (place_from t p n)) e ∙ ap (is_place t) (place-first t p)
+
 -- ---- a place after the nine
 
 no_slot : (t : VoterSlotTable) → length t.slots ≡ 9 → (k : ℕ) → ltb k max_fixed_voter_slots ≡ false → slot_at t k ≡ no_slot_record

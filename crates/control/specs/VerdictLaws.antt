@@ -37,7 +37,7 @@ use Rattle.control.specs.Judgement.Move.{begins, records_snapshot, records_caugh
 use Rattle.control.specs.OpenLaws.{open-of-valid}
 use Rattle.records.specs.RepresentableLaws.{representable-count}
 use Rattle.control.specs.declared.control.VoterAdvance.{VoterAdvance}
-use Rattle.control.specs.Verdicts.{advance_in, advance_outcome, applied_of, checked_of, entry_verdict, judge_of, paired, route_of, step_made, verdict_of}
+use Rattle.control.specs.Verdicts.{advance_in, advance_outcome, answer_of, applied_of, checked_of, entry_verdict, judge_of, paired, route_of, step_made, verdict_of}
 
 -- ---- what is made
 
@@ -212,6 +212,8 @@ module _ (t : VoterSlotTable) (c : VoterAdvance) (v : Verdict Move) (is : judge_
   target-as h valid = (count_fits t valid, has-target t _ _ c.step c.cut (ap is_move is ∙ h) valid)
 
 -- ---- what the number of a verdict tells
+--
+-- Nothing here cites these; docs named them, and they stand.
 
 -- the move of a number
 abbrev move_at : ℕ → Move
@@ -232,6 +234,19 @@ pub routed-to : (v : Verdict Move) (m : Move) → route_of v ≡ route_of (moves
 routed-to (refused answer) m e some = absurd (some (sym e))
 routed-to kept m e some = absurd (some (sym e))
 routed-to (moves k) m e some = ap moves (one_number k m e)
+
+-- the number of no step of an Advance: nothing is made
+pub routed-none : (t : VoterSlotTable) (s : VoterReplacementStep) (cut : VoterSlotLogId) (v : Verdict Move)
+    → (route_of v ≡ 1 → ⊥) → (route_of v ≡ 2 → ⊥) → (route_of v ≡ 3 → ⊥) → (route_of v ≡ 4 → ⊥) → (route_of v ≡ 5 → ⊥) → paired (answer_of v) t ≡ carried (step_made t s cut) t v
+unfolding carried step_made
+routed-none t s cut (refused answer) a b c d e = refl
+routed-none t s cut kept a b c d e = refl
+routed-none t s cut (moves begins) a b c d e = refl
+routed-none t s cut (moves records_snapshot) a b c d e = absurd (a refl)
+routed-none t s cut (moves records_caught_up) a b c d e = absurd (b refl)
+routed-none t s cut (moves continues) a b c d e = absurd (c refl)
+routed-none t s cut (moves fences) a b c d e = absurd (d refl)
+routed-none t s cut (moves finalizes) a b c d e = absurd (e refl)
 
 -- ---- the entry point: its tests, and then the verdict
 

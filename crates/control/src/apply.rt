@@ -21,10 +21,9 @@ use crate::representable::is_representable_control;
 use identity::answer::{Answer, Refusal};
 use records::evidence::is_valid_log_id;
 use records::records::{VoterSlotLogId, VoterSlotTable};
-use records::representable::is_representable;
-use records::validation::validate_representable;
 
-// An answer, and the table: the next one, or the one that was given.
+// An answer, and the table: the next one, or the one that was given. No `Result`: a call that is
+// refused gives the table back too (document 01).
 #[derive(Clone, Copy)]
 pub struct Controlled {
     pub answer: Answer,
@@ -32,32 +31,33 @@ pub struct Controlled {
 }
 
 // `apply_control`: any table, any command and any cut.
+//
+// By value it is the call in place, and the table handed back; so are the other calls by value, which
+// are for a Rust caller that holds its table so. One function for all of them would take the call in
+// place as a closure, whose clause says again what the call's own says: it is no shorter than the two
+// lines.
 pub fn apply_control(
-    table: VoterSlotTable,
+    mut table: VoterSlotTable,
     control: VoterSlotControl,
     cut: VoterSlotLogId,
 ) -> Controlled
     ensures { (result.answer, result.table) ≡ apply_control table control cut }
 {
-    let mut next = table;
-    let answer = apply_control_in_place(&mut next, VoterCommand { control, cut });
-    Controlled {
-        answer,
-        table: next,
-    }
+    let answer = apply_control_in_place(&mut table, VoterCommand { control, cut });
+    Controlled { answer, table }
 }
 
 // The tests of the entry point: 30, and 25 for an invalid table or a zero in the cut.
 #[tactic(auto, unfolding(crate::specs::Verdicts::checked_of))]
-fn checked(table: VoterSlotTable, control: VoterSlotControl, cut: VoterSlotLogId) -> Answer
-    ensures { result ≡ checked_of table control cut }
+fn checked(table: &VoterSlotTable, control: VoterSlotControl, cut: VoterSlotLogId) -> Answer
+    ensures { result ≡ checked_of table.now control cut }
 {
-    let fits = is_representable(table);
+    let fits = table.is_representable();
     let command = is_representable_control(control);
     if !(fits & command) {
         return Err(Refusal::Unrepresentable);
     }
-    let valid = validate_representable(table).is_ok();
+    let valid = table.validate().is_ok();
     let nonzero = is_valid_log_id(cut);
     if !(valid & nonzero) {
         return Err(Refusal::InvalidTransition);
@@ -66,31 +66,33 @@ fn checked(table: VoterSlotTable, control: VoterSlotControl, cut: VoterSlotLogId
 }
 
 // `apply_control` on a table that is lent: any table, any command and any cut.
+#[tactic(auto, using(crate::proofs::Stored::entry_refused, crate::proofs::Stored::entry_passed))]
 pub fn apply_control_in_place(table: &mut VoterSlotTable, command: VoterCommand) -> Answer
     ensures { (result, table.new) ≡ apply_control table.old command.control command.cut }
 {
-    checked(*table, command.control, command.cut)?;
+    checked(table, command.control, command.cut)?;
     apply_in_place(table, command)
 }
 
 // A command on a table that is known to be valid, by value. The caller has tested that the cut has
 // no zero and that the command is representable (`checked_of` accepted); then the answer is
 // `apply_control`'s (`entry-passed` of VerdictLaws; by the two tests, `valid-applied` of ApplyLaws).
-pub fn apply_to_valid(table: VoterSlotTable, command: VoterCommand) -> Controlled
+//
+// That the table is valid is asked by a clause, here and in the seven other calls on such a table. A
+// type of valid tables could not hold what they give back: none tests the cut, and of a Begin at the
+// cut (0, 0), which a closed table accepts, the table that is made is not valid. So the caller would
+// wrap its table anew for each call.
+pub fn apply_to_valid(mut table: VoterSlotTable, command: VoterCommand) -> Controlled
     requires { validate table ≡ Accepted }
     ensures { (result.answer, result.table) ≡ applied_of table command.control command.cut }
 {
-    let mut next = table;
-    let answer = apply_in_place(&mut next, command);
-    Controlled {
-        answer,
-        table: next,
-    }
+    let answer = apply_in_place(&mut table, command);
+    Controlled { answer, table }
 }
 
-// `apply_to_valid` on a table that is lent: the same tests. It takes 5 KB: calls by kind are
-// faster.
-#[tactic(auto, unfolding(crate::specs::Judgement::carried, crate::specs::Judgement::made))]
+// `apply_to_valid` on a table that is lent: the same tests. It takes a command of any kind, which has
+// 5 KB; an Advance has a twentieth of that. So each kind has a call of its own besides.
+#[tactic(auto, using(crate::proofs::Stored::applied_begin, crate::proofs::Stored::applied_advance, crate::proofs::Stored::applied_marker))]
 pub fn apply_in_place(table: &mut VoterSlotTable, command: VoterCommand) -> Answer
     requires { validate table.old ≡ Accepted }
     ensures { (result, table.new) ≡ applied_of table.old command.control command.cut }
@@ -114,16 +116,12 @@ fn mark(table: VoterSlotTable, command: VoterCommand) -> Answer
 
 // An Advance, by value. The caller has made the tests that `apply_to_valid` names
 // (`valid-advance`).
-pub fn advance(table: VoterSlotTable, advance: VoterAdvance) -> Controlled
+pub fn advance(mut table: VoterSlotTable, advance: VoterAdvance) -> Controlled
     requires { validate table ≡ Accepted }
     ensures { (result.answer, result.table) ≡ advance_outcome table advance }
 {
-    let mut next = table;
-    let answer = advance_in_place(&mut next, advance);
-    Controlled {
-        answer,
-        table: next,
-    }
+    let answer = advance_in_place(&mut table, advance);
+    Controlled { answer, table }
 }
 
 // `advance` on a table that is lent: the caller has made the same tests.

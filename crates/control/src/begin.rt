@@ -21,13 +21,12 @@ use crate::control::{VoterCommand, VoterReplacementRequest};
 use crate::judge::*;
 use crate::request::*;
 use identity::answer::{Answer, Refusal};
-use records::blank::{blank_optional_log_id, blank_voter_snapshot_evidence};
-use records::equality::{same16, same32};
-use records::evidence::{latest_cut, log_id_follows};
+use records::evidence::log_id_follows;
 use records::records::*;
+use records::successor::place_of;
 
 // A Begin with the cut at which it is committed: what its judge, its maker and its thin call take.
-#[derive(Clone, Copy)]
+#[derive(Clone, Copy, Default)]
 pub struct VoterBegin {
     // The request.
     pub request: VoterReplacementRequest,
@@ -55,7 +54,7 @@ pub fn judge_begin(table: VoterSlotTable, begin: VoterBegin) -> Result<Judged, R
 {
     let request = begin.request;
     let cut = begin.cut;
-    let valid = validate_request(request);
+    let valid = validate_request(&begin.request);
     let check = begin_check(table, request, cut, valid);
     let later = is_later(table, cut);
     let change = later
@@ -77,10 +76,8 @@ fn judge_known_request(
 {
     let id = request.attestation.request_id;
     let digest = request.attestation.request_digest;
-    let open_id = table.replacement.attestation.request_id;
-    let same_id = same16(open_id, id);
-    let open_digest = table.replacement.attestation.request_digest;
-    let own = same32(open_digest, digest);
+    let same_id = table.replacement.attestation.request_id == id;
+    let own = table.replacement.attestation.request_digest == digest;
     let receipt = find_receipt(table, id, digest);
     let open = table.has_replacement & same_id;
     match open.then_some(own).or(receipt) {
@@ -90,7 +87,7 @@ fn judge_known_request(
     }
 }
 
-// The tests of a fresh request, in the order of the Rust, with the request check as it was
+// The tests of a fresh request, in the order of the original, with the request check as it was
 // answered.
 fn begin_check(
     table: VoterSlotTable,
@@ -149,13 +146,14 @@ fn is_later(table: VoterSlotTable, cut: VoterSlotLogId) -> bool
     ensures { result ≡ begin_test table cut }
 {
     let evidence = table.replacement.evidence;
-    let latest = latest_cut(evidence);
+    let latest = evidence.latest();
     let later = log_id_follows(cut, latest, false);
     !table.has_replacement | later
 }
 
 // The table with the request opened. No test is made again. The request is put together here: made
-// by a call of its own, the whole table would be copied once more.
+// by a call of its own, the whole table would be copied once more. What it asks of the table, the count
+// too, stands in a clause here and in `begun_slots`, for the reason that make.rt gives.
 #[tactic(auto, unfolding(crate::specs::Control::begun_operation, crate::specs::BeginJudge::prepared_at))]
 pub fn begin_table(table: VoterSlotTable, begin: VoterBegin) -> VoterSlotTable
     requires { (table.revision ≡ full → ⊥) × (((current_configuration table).epoch ≡ full → ⊥) × ((table.count ≤ 9) × (named_index table begin.request < table.count))) }
@@ -197,15 +195,10 @@ fn begun_slots(table: VoterSlotTable, begin: VoterBegin) -> [VoterSlotRecord; MA
     ensures { result ≡ begun_slots table begin.request begin.cut }
 {
     let number = begin.request.attestation.slot;
-    let count = table.count;
     let mut slots = table.slots;
-    for i in 0..count {
-        if slots[i].member.identity.slot == number {
-            let old = slots[i];
-            let slot = begun_slot(table, begin, old);
-            slots[i] = slot;
-            return slots;
-        }
+    if let Some(at) = place_of(&slots[..table.count], number) {
+        let old = slots[at];
+        slots[at] = begun_slot(table, begin, old);
     }
     slots
 }
@@ -289,8 +282,8 @@ fn members_of(
 fn prepared_at(cut: VoterSlotLogId) -> VoterReplacementEvidence
     ensures { result ≡ prepared_at cut }
 {
-    let snapshot = blank_voter_snapshot_evidence();
-    let none = blank_optional_log_id();
+    let snapshot = VoterSnapshotEvidence::default();
+    let none = OptionalLogId::default();
     VoterReplacementEvidence {
         prepare: cut,
         has_snapshot: false,
@@ -304,18 +297,15 @@ fn prepared_at(cut: VoterSlotLogId) -> VoterReplacementEvidence
     }
 }
 
-// A Begin, by value. The caller has tested that the cut has no zero and that the command is
-// representable (`checked_of` accepted); then the answer is `apply_control`'s (`valid-begin`).
-pub fn begin(table: VoterSlotTable, begin: VoterBegin) -> Controlled
+// A Begin, by value, for a Rust caller that holds its table so. The caller has tested that the cut has
+// no zero and that the command is representable (`checked_of` accepted); then the answer is
+// `apply_control`'s (`valid-begin`).
+pub fn begin(mut table: VoterSlotTable, begin: VoterBegin) -> Controlled
     requires { validate table ≡ Accepted }
     ensures { (result.answer, result.table) ≡ begin_outcome table begin }
 {
-    let mut next = table;
-    let answer = begin_in_place(&mut next, begin);
-    Controlled {
-        answer,
-        table: next,
-    }
+    let answer = begin_in_place(&mut table, begin);
+    Controlled { answer, table }
 }
 
 // `begin` on a table that is lent: the caller has made the same tests.

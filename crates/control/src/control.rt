@@ -8,6 +8,9 @@
 use identity::identity::{ConsensusConfigurationId, ConsensusIdentity, ConsensusRequestId};
 use records::records::*;
 
+// The kinds of a command, as numbers: a caller may hand in any number, and gets 30 for another
+// (document 01), which no enum could tell.
+//
 // `VoterSlotControl`: compare and set one slot, retiring its prior incarnation permanently.
 pub const BEGIN: u8 = 0;
 
@@ -17,6 +20,8 @@ pub const ADVANCE: u8 = 1;
 // A current-term committed marker; proof of candidate apply is recorded separately.
 pub const MARKER: u8 = 2;
 
+// The kinds of a step, as numbers for the same reason.
+//
 // `VoterReplacementStep`: retain the exact verified initial snapshot, before adding its learner.
 pub const RECORD_SNAPSHOT: u8 = 0;
 
@@ -33,7 +38,7 @@ pub const FENCE: u8 = 3;
 pub const FINALIZE: u8 = 4;
 
 // A request, and the two values that the caller supplies.
-#[derive(Clone, Copy)]
+#[derive(Clone, Copy, Default)]
 pub struct VoterReplacementRequest {
     // Exact compare-and-set table revision.
     pub expected_revision: u64,
@@ -50,7 +55,7 @@ pub struct VoterReplacementRequest {
 }
 
 // A step of an Advance: the snapshot of RecordSnapshot, the mark of RecordCaughtUp.
-#[derive(Clone, Copy)]
+#[derive(Clone, Copy, Default)]
 pub struct VoterReplacementStep {
     // `RECORD_SNAPSHOT` to `FINALIZE`.
     pub kind: u8,
@@ -62,7 +67,7 @@ pub struct VoterReplacementStep {
 
 // A command: the request of a Begin; the request's id and digest of an Advance or a Marker; the
 // step of an Advance.
-#[derive(Clone, Copy)]
+#[derive(Clone, Copy, Default)]
 pub struct VoterSlotControl {
     // `BEGIN`, `ADVANCE` or `MARKER`.
     pub kind: u8,
@@ -78,7 +83,7 @@ pub struct VoterSlotControl {
 
 // An Advance with the cut at which it is committed: what its judge, its makers and its thin call
 // take.
-#[derive(Clone, Copy)]
+#[derive(Clone, Copy, Default)]
 pub struct VoterAdvance {
     // Original caller-stable request identity.
     pub request_id: ConsensusRequestId,

@@ -7,19 +7,21 @@
 // (specs/Judgement.antt). But for `judge_advance` and `judge_snapshot`, which have an arm for
 // another question each, a judge makes all its tests before it picks the first refusal: a call
 // after many early returns counts as cold to the compiler, which then copies the table for it.
+//
+// A judge is given the table by value, and takes a field out by a `let` before it compares it: a
+// field that is compared where it lies must lie in memory, so that the table is copied, and the thin
+// call of an Advance takes two to five times as long.
 ghost use Rattle.std.specs.Prelude.{◌≡◌, cond, false, not, ◌||◌};
-ghost use Rattle.records.specs.Equality.{eq_bytes};
 ghost use Rattle.records.specs.Evidence.{follows, in_order};
 ghost use Rattle.records.specs.With.{present};
 ghost use Rattle.control.specs.Control.{is_completed, is_receipt_of};
 ghost use Rattle.control.specs.Judgement.{judge_advance, judge_caught_up, judge_continuation, judge_fence, judge_finalize, judge_marker, judge_open, judge_snapshot, judge_step};
-ghost use Rattle.control.specs.Verdicts.{answer_of, route_of, verdict_of};
+ghost use Rattle.control.specs.Verdicts.{answer_of, verdict_of};
 
 use crate::control::*;
 use identity::answer::{Answer, Refusal};
 use identity::identity::ConsensusRequestId;
-use records::equality::*;
-use records::evidence::{is_in_order, is_valid_snapshot_id, log_id_follows};
+use records::evidence::{is_in_order, log_id_follows};
 use records::records::*;
 
 // What a command that is not refused does to the table: nothing, or which change.
@@ -34,46 +36,19 @@ pub enum Judged {
     Finalize,
 }
 
-// The answer of a call that was so judged.
+// The answer of a call that was so judged. It is not one function with `answer_of_observed` of
+// observe.rt: both are public, each with the clause of its own definition.
 pub fn answer_of(judged: Result<Judged, Refusal>) -> Answer
     ensures { result ≡ answer_of (verdict_of judged) }
 {
     judged.and(Ok(()))
 }
 
-// The number of the table that a command makes.
-pub const ROUTE_SNAPSHOT: u64 = 1;
-
-pub const ROUTE_CAUGHT_UP: u64 = 2;
-
-pub const ROUTE_CONTINUATION: u64 = 3;
-
-pub const ROUTE_FENCE: u64 = 4;
-
-pub const ROUTE_FINALIZE: u64 = 5;
-
-pub const ROUTE_BEGIN: u64 = 6;
-
-// No table is made.
-pub const ROUTE_NONE: u64 = 0;
-
-// Which table is to be made: a thin call goes by this number.
-pub fn route(judged: Result<Judged, Refusal>) -> u64
-    ensures { result ≡ route_of (verdict_of judged) }
-{
-    match judged {
-        Err(_) => ROUTE_NONE,
-        Ok(Judged::Keep) => ROUTE_NONE,
-        Ok(Judged::RecordSnapshot) => ROUTE_SNAPSHOT,
-        Ok(Judged::RecordCaughtUp) => ROUTE_CAUGHT_UP,
-        Ok(Judged::Continue) => ROUTE_CONTINUATION,
-        Ok(Judged::Fence) => ROUTE_FENCE,
-        Ok(Judged::Finalize) => ROUTE_FINALIZE,
-        Ok(Judged::Begin) => ROUTE_BEGIN,
-    }
-}
-
 // The arm `Marker` of `apply_control`. A full revision is not tested: nothing is changed.
+//
+// The id and the digest by which a command names its request are two parameters, here and in
+// request.rt. Document 01's records have them as two fields, so that a struct of the two would be put
+// together for each call.
 #[tactic(auto, unfolding(crate::specs::Judgement::judge_marker, crate::specs::Control::is_open_request))]
 pub fn judge_marker(
     table: VoterSlotTable,
@@ -82,8 +57,10 @@ pub fn judge_marker(
 ) -> Result<Judged, Refusal>
     ensures { verdict_of result ≡ judge_marker table request_id request_digest }
 {
-    let id = same_id(table, request_id);
-    let digest = same_digest(table, request_digest);
+    let open_id = table.replacement.attestation.request_id;
+    let open_digest = table.replacement.attestation.request_digest;
+    let id = open_id == request_id;
+    let digest = open_digest == request_digest;
     let phase = table.replacement.phase;
     let named = (table.has_replacement & id) & digest;
     let catching_up = (phase == LEARNER_ADDED) | (phase == CAUGHT_UP);
@@ -92,22 +69,6 @@ pub fn judge_marker(
     } else {
         Err(Refusal::InvalidTransition)
     }
-}
-
-// The id is that of the open request.
-fn same_id(table: VoterSlotTable, request_id: ConsensusRequestId) -> bool
-    ensures { result ≡ eq_bytes table.replacement.attestation.request_id request_id }
-{
-    let open = table.replacement.attestation.request_id;
-    same16(open, request_id)
-}
-
-// The digest is that of the open request.
-fn same_digest(table: VoterSlotTable, request_digest: [u8; 32]) -> bool
-    ensures { result ≡ eq_bytes table.replacement.attestation.request_digest request_digest }
-{
-    let open = table.replacement.attestation.request_digest;
-    same32(open, request_digest)
 }
 
 // `advance`. The revision is tested before all else, also where nothing would change. The slots are
@@ -132,8 +93,9 @@ pub fn judge_advance(table: VoterSlotTable, advance: VoterAdvance) -> Result<Jud
     }
 }
 
-// Whether a slot has the completed receipt of that request. All nine places are passed, so that no
-// slots are copied.
+// Whether a slot has the completed receipt of that request. All nine places are passed by their
+// index, and a slot is taken out by value: with an iterator over the slots, of which the table must
+// lie in memory, the thin call of an Advance takes four times as long.
 fn is_completed(table: VoterSlotTable, id: ConsensusRequestId, digest: [u8; 32]) -> bool
     ensures { result ≡ is_completed table id digest }
 {
@@ -152,8 +114,8 @@ fn is_receipt_of(slot: VoterSlotRecord, id: ConsensusRequestId, digest: [u8; 32]
 {
     let held_id = slot.last_result.request_id;
     let held_digest = slot.last_result.request_digest;
-    let same_id = same16(held_id, id);
-    let same_digest = same32(held_digest, digest);
+    let same_id = held_id == id;
+    let same_digest = held_digest == digest;
     ((slot.has_last_result & same_id) & same_digest) & (slot.last_result.kind == COMPLETED)
 }
 
@@ -166,8 +128,10 @@ fn judge_open(table: VoterSlotTable, advance: VoterAdvance) -> Result<Judged, Re
     let request_digest = advance.request_digest;
     let step = advance.step;
     let cut = advance.cut;
-    let id = same_id(table, request_id);
-    let digest = same_digest(table, request_digest);
+    let open_id = table.replacement.attestation.request_id;
+    let open_digest = table.replacement.attestation.request_digest;
+    let id = open_id == request_id;
+    let digest = open_digest == request_digest;
     let prepare = table.replacement.evidence.prepare;
     let judged = judge_step(table, step, cut);
     let early = (cut.index <= prepare.index) | (cut.term < prepare.term);
@@ -204,7 +168,7 @@ fn judge_step(
 }
 
 // The arm `RecordSnapshot` of `advance`.
-#[tactic(auto, unfolding(crate::specs::Judgement::judge_snapshot))]
+#[tactic(auto, unfolding(records::specs::Equality::all_true, records::specs::Equality::same_voter_snapshot_evidence, records::specs::Equality::same_voter_slot_log_id, records::specs::Equality::same_snapshot_id, crate::specs::Judgement::judge_snapshot))]
 fn judge_snapshot(
     table: VoterSlotTable,
     snapshot: VoterSnapshotEvidence,
@@ -214,8 +178,7 @@ fn judge_snapshot(
 {
     if table.replacement.evidence.has_snapshot {
         let held = table.replacement.evidence.snapshot;
-        let same = same_voter_snapshot_evidence(held, snapshot);
-        return if same {
+        return if held == snapshot {
             Ok(Judged::Keep)
         } else {
             Err(Refusal::IdempotencyConflict)
@@ -225,7 +188,7 @@ fn judge_snapshot(
     let at = snapshot.cut;
     let prepare = table.replacement.evidence.prepare;
     let continuation = table.replacement.evidence.continuation;
-    let valid = is_valid_snapshot_id(id);
+    let valid = id.is_valid();
     let later = log_id_follows(at, prepare, true);
     let fits = fits_continuation(continuation, at, true);
     let due = (table.replacement.phase == PREPARED)
@@ -252,7 +215,7 @@ pub fn fits_continuation(
 }
 
 // The arm `RecordCaughtUp` of `advance`.
-#[tactic(auto, unfolding(crate::specs::Judgement::judge_caught_up))]
+#[tactic(auto, unfolding(records::specs::Equality::all_true, records::specs::Equality::same_voter_slot_log_id, crate::specs::Judgement::judge_caught_up))]
 fn judge_caught_up(
     table: VoterSlotTable,
     mark: VoterSlotLogId,
@@ -265,7 +228,7 @@ fn judge_caught_up(
     let held = caught_up.cut;
     let learner = table.replacement.evidence.learner.cut;
     let continuation = table.replacement.evidence.continuation;
-    let same = same_voter_slot_log_id(held, mark);
+    let same = held == mark;
     let later = follows_mark(caught_up, mark, learner);
     let fits = fits_continuation(continuation, mark, false);
     let catching_up = (phase == LEARNER_ADDED) | (phase == CAUGHT_UP);

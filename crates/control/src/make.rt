@@ -5,13 +5,20 @@
 // Ported from crates/opc-consensus/src/voter_slots/control.rs (the arms of `advance`) of
 // openpacketcore-sdk, commit 717de332e7, Apache-2.0 (see NOTICE). Changed: apart from the tests, as
 // functions of their own. Numbers are stored where they lie; a record is stored whole, made of
-// parts that were taken out first, which the compiler does not copy.
-ghost use Rattle.std.specs.Prelude.{◌<◌, ◌≤◌, ◌≡◌};
+// parts that were taken out first, which the compiler does not copy. So a record names each of its
+// parts and has no `..base`, which would be taken out where the record is made.
+//
+// What a maker asks of its table stands in a clause of each, also in begin.rt and observe.rt: that
+// the revision is not full, or `Room`, by which the slot being replaced is there too. As the ghost
+// field of a struct of a table it would be no plainer: makers are called in some two dozen places,
+// each with a table that was judged there, so each would put the struct together for one call. And a
+// table that the struct lends must lie in memory, for which a thin call copies it (as in judge.rt).
+ghost use Rattle.std.specs.Prelude.{◌≡◌};
 ghost use Rattle.records.specs.With.{with_snapshot};
-ghost use Rattle.control.specs.Control.{caught_up_recorded, continued, fenced_at, finalized, full, snapshot_recorded, target_index};
+ghost use Rattle.control.specs.Control.{caught_up_recorded, continued, fenced_at, finalized, full, snapshot_recorded};
+ghost use Rattle.control.specs.ObserveSight.{Room};
 
 use crate::control::VoterAdvance;
-use records::blank::blank_voter_replacement_record;
 use records::records::*;
 use records::successor::slot_index;
 
@@ -116,7 +123,7 @@ fn with_snapshot(
 // request is open any more.
 #[tactic(auto, unfolding(crate::specs::Control::finalized_slot))]
 pub fn finalize_table(table: VoterSlotTable, advance: VoterAdvance) -> VoterSlotTable
-    requires { (table.revision ≡ full → ⊥) × ((table.count ≤ 9) × (target_index table < table.count)) }
+    requires { Room table }
     ensures { result ≡ finalized table advance.cut }
 {
     let mut next = table;
@@ -139,7 +146,7 @@ pub fn finalize_table(table: VoterSlotTable, advance: VoterAdvance) -> VoterSlot
     slot.has_last_result = true;
     slot.last_result = receipt;
     slots[at] = slot;
-    let blank = blank_voter_replacement_record();
+    let blank = VoterReplacementRecord::default();
     next.replacement = blank;
     next.has_replacement = false;
     next.revision = revision;

@@ -10,7 +10,7 @@ ghost use Rattle.identity.specs.Answer.{Accepted, InvalidTransition, is_accepted
 ghost use Rattle.records.specs.Successor.{slot_index};
 ghost use Rattle.records.specs.Validation.{target_phase, validate, validity};
 ghost use Rattle.records.specs.With.{in_phase, operation_with, present, table_with};
-ghost use Rattle.control.specs.Control.{full, target_index, target_slot};
+ghost use Rattle.control.specs.Control.{target_index, target_slot};
 ghost use Rattle.control.specs.Judgement.{added, carried, joint_test, learner_test, uniform_test};
 ghost use Rattle.control.specs.Judgement.Addition.{adds_joint, adds_learner, adds_uniform};
 ghost use Rattle.control.specs.Judgement.Verdict.{refused};
@@ -50,7 +50,7 @@ pub enum Observed {
     AddUniform,
 }
 
-// The tests of the sets and the nodes.
+// The tests of the sets and the nodes. Each is a yes or no with no value beside it.
 #[derive(Clone, Copy)]
 pub struct SetTests {
     // The successor has no id that the predecessor lacks.
@@ -136,23 +136,24 @@ fn test_sets(
     known: bool,
     lingers: bool,
 ) -> SetTests
-    ensures { result ≡ tests_of phase old.now new.now membership.now.sets.now membership.now.counts.now membership.now.nodes.now known lingers }
+    ensures { result ≡ tests_of phase old.now new.now membership.now.observation.sets.now membership.now.observation.counts.now membership.now.observation.nodes.now known lingers }
 {
-    let nodes = membership.nodes;
+    let observation = &membership.observation;
+    let nodes = observation.nodes;
     let candidate = least_new(old, new);
     let has_old = is_subset(old, nodes);
     let has_new = is_subset(new, nodes);
     let only_new = is_subset(nodes, new);
     // Asked only where the one set is the predecessor's: then its length is the `old.len()` of the
-    // Rust.
-    let one_more = is_one_more(nodes.len(), membership.sets.len());
+    // original.
+    let one_more = is_one_more(nodes.len(), observation.sets.len());
     SetTests {
         no_candidate: candidate == NO_ID,
-        is_old: membership.is_one_set(old),
+        is_old: observation.is_one_set(old),
         fits_old: (((phase < JOINT) & has_old) & one_more) & lingers,
         has_candidate: contains(nodes, candidate),
-        is_joint: membership.are_two_sets(old, new) & (known & (has_old & has_new)),
-        is_new: membership.is_one_set(new) & (only_new & has_new),
+        is_joint: observation.are_two_sets(old, new) & (known & (has_old & has_new)),
+        is_new: observation.is_one_set(new) & (only_new & has_new),
     }
 }
 
@@ -167,7 +168,9 @@ fn member_place(members: &[VoterSlotMember], slot: SlotId) -> Option<usize>
         .position(|member| member.identity.slot == slot)
 }
 
-// The place of the member of that slot, or the count.
+// The place of the member of that slot, or the count: the definition `member_index` gives the count
+// where there is none, and `is_obsolete` compares it with the count. That it counts nine members at most
+// is what an `OpenRequest` knows.
 fn member_index(configuration: &VoterConfiguration, slot: SlotId) -> usize
     requires { configuration.now.count ≤ 9 }
     ensures { result ≡ member_index configuration.now slot }
@@ -175,76 +178,77 @@ fn member_index(configuration: &VoterConfiguration, slot: SlotId) -> usize
     member_place(configuration.members_in_use(), slot).unwrap_or(configuration.count)
 }
 
-// The identity is a superseded candidate's: of the slot being replaced, after the predecessor's
-// incarnation, and not after the attested one.
-#[tactic(auto, unfolding(crate::specs::Observation::is_obsolete))]
-fn is_obsolete(operation: &VoterReplacementRecord, identity: VoterSlotIdentity) -> bool
-    requires { operation.now.predecessor.count ≤ 9 }
-    ensures { result ≡ is_obsolete operation.now (Ok identity) }
-{
-    let predecessor = &operation.predecessor;
-    let slot = operation.attestation.slot;
-    let at = member_index(predecessor, slot);
-    if predecessor.count <= at {
-        return false;
-    }
-    let retired = predecessor.members[at].identity.incarnation;
-    (((operation.phase <= SNAPSHOT_INSTALLED) & (identity.slot == slot))
-        & (retired < identity.incarnation))
-        & (identity.incarnation <= operation.attestation.expected_incarnation)
-}
-
-// Whether the node of neither configuration, if there is one, is a superseded candidate.
-#[tactic(auto, unfolding(crate::specs::Observation::is_obsolete))]
-fn may_linger(operation: &VoterReplacementRecord, node: Option<ConsensusNodeId>) -> bool
-    requires { operation.now.predecessor.count ≤ 9 }
-    ensures { result ≡ lingers_as operation.now node }
-{
-    match node.map(VoterSlotIdentity::from_node_id) {
-        None => true,
-        Some(Ok(identity)) => is_obsolete(operation, identity),
-        Some(Err(_)) => false,
-    }
-}
-
 // ---- what an open request is seen to be
 
-// `old` and `new` are the ids of the members of the predecessor and of the successor.
-fn see_ids(
-    operation: &VoterReplacementRecord,
-    old: &[ConsensusNodeId],
-    new: &[ConsensusNodeId],
-    membership: &Membership,
-) -> Seen
-    requires { operation.now.predecessor.count ≤ 9 }
-    ensures { sight_of result ≡ seen_of operation.now old.now new.now membership.now.sets.now membership.now.counts.now membership.now.nodes.now }
-{
-    let outside = first_outside(membership.nodes, old, new);
-    let lingers = may_linger(operation, outside);
-    let tests = test_sets(
-        old,
-        new,
-        membership,
-        operation.phase,
-        outside.is_none(),
-        lingers,
-    );
-    see_by(operation.phase, tests)
+// An open request whose two configurations count nine members at most, so that the code may go by
+// their counts.
+#[derive(Clone, Copy)]
+struct OpenRequest<'a> {
+    operation: &'a VoterReplacementRecord,
+    ghost few_before: { operation.now.predecessor.count ≤ 9 },
+    ghost few_after: { operation.now.successor.count ≤ 9 },
 }
 
-// `observe_membership` with a request open: what its arms tell apart.
-fn see(operation: &VoterReplacementRecord, membership: &Membership) -> Seen
-    requires { (operation.now.predecessor.count ≤ 9) × (operation.now.successor.count ≤ 9) }
-    ensures { sight_of result ≡ see operation.now (split_sets membership.now.sets.now membership.now.counts.now) membership.now.nodes.now }
-{
-    let before = ids_of(&operation.predecessor);
-    let after = ids_of(&operation.successor);
-    see_ids(
-        operation,
-        &before[..operation.predecessor.count],
-        &after[..operation.successor.count],
-        membership,
-    )
+impl OpenRequest<'_> {
+    // The identity is a superseded candidate's: of the slot being replaced, after the predecessor's
+    // incarnation, and not after the attested one.
+    #[tactic(auto, unfolding(crate::specs::Observation::is_obsolete))]
+    fn is_obsolete(&self, identity: VoterSlotIdentity) -> bool
+        ensures { result ≡ is_obsolete self.now.operation.now (Ok identity) }
+    {
+        let operation = self.operation;
+        let predecessor = &operation.predecessor;
+        let slot = operation.attestation.slot;
+        let at = member_index(predecessor, slot);
+        if predecessor.count <= at {
+            return false;
+        }
+        let retired = predecessor.members[at].identity.incarnation;
+        (((operation.phase <= SNAPSHOT_INSTALLED) & (identity.slot == slot))
+            & (retired < identity.incarnation))
+            & (identity.incarnation <= operation.attestation.expected_incarnation)
+    }
+
+    // Whether the node of neither configuration, if there is one, is a superseded candidate.
+    #[tactic(auto, unfolding(crate::specs::Observation::is_obsolete))]
+    fn may_linger(&self, node: Option<ConsensusNodeId>) -> bool
+        ensures { result ≡ lingers_as self.now.operation.now node }
+    {
+        match node.map(VoterSlotIdentity::from_node_id) {
+            None => true,
+            Some(Ok(identity)) => self.is_obsolete(identity),
+            Some(Err(_)) => false,
+        }
+    }
+
+    // `old` and `new` are the ids of the members of the predecessor and of the successor.
+    fn see_ids(
+        &self,
+        old: &[ConsensusNodeId],
+        new: &[ConsensusNodeId],
+        membership: &Membership,
+    ) -> Seen
+        ensures { sight_of result ≡ seen_of self.now.operation.now old.now new.now membership.now.observation.sets.now membership.now.observation.counts.now membership.now.observation.nodes.now }
+    {
+        let outside = first_outside(membership.observation.nodes, old, new);
+        let lingers = self.may_linger(outside);
+        let phase = self.operation.phase;
+        let tests = test_sets(old, new, membership, phase, outside.is_none(), lingers);
+        see_by(phase, tests)
+    }
+
+    // `observe_membership` with a request open: what its arms tell apart.
+    fn see(&self, membership: &Membership) -> Seen
+        ensures { sight_of result ≡ see self.now.operation.now (split_sets membership.now.observation.sets.now membership.now.observation.counts.now) membership.now.observation.nodes.now }
+    {
+        let predecessor = &self.operation.predecessor;
+        let successor = &self.operation.successor;
+        let before = ids_of(predecessor);
+        let after = ids_of(successor);
+        let old = &before[..predecessor.count];
+        let new = &after[..successor.count];
+        self.see_ids(old, new, membership)
+    }
 }
 
 // ---- the verdict
@@ -259,7 +263,9 @@ fn accept_if(test: bool, accepted: Observed) -> Result<Observed, Refusal>
     Err(Refusal::InvalidTransition)
 }
 
-// Whether the cut comes next in the evidence, as that of the learner,
+// Whether the cut comes next in the evidence as that of the learner. This test and the two after it
+// are a definition each (`learner_test`, `joint_test`, `uniform_test`), with another part of the
+// evidence before it.
 fn is_learner_cut(evidence: &VoterReplacementEvidence, cut: VoterSlotLogId) -> bool
     ensures { result ≡ learner_test evidence.now cut }
 {
@@ -267,35 +273,18 @@ fn is_learner_cut(evidence: &VoterReplacementEvidence, cut: VoterSlotLogId) -> b
     later & fits_continuation(evidence.continuation, cut, false)
 }
 
-// of the joint membership,
+// Whether the cut comes next in the evidence as that of the joint membership.
 fn is_joint_cut(evidence: &VoterReplacementEvidence, cut: VoterSlotLogId) -> bool
     ensures { result ≡ joint_test evidence.now cut }
 {
     log_id_follows(cut, evidence.fence.cut, false)
 }
 
-// or of the uniform one.
+// Whether the cut comes next in the evidence as that of the uniform membership.
 fn is_uniform_cut(evidence: &VoterReplacementEvidence, cut: VoterSlotLogId) -> bool
     ensures { result ≡ uniform_test evidence.now cut }
 {
     log_id_follows(cut, evidence.joint.cut, false)
-}
-
-// ---- the slot being replaced
-
-// The place of the first of the slots of that number.
-fn place_of(slots: &[VoterSlotRecord], slot: SlotId) -> Option<usize>
-    ensures { result ≡ position (λ s. eqb s.member.identity.slot slot) slots.now }
-{
-    slots.iter().position(|s| s.member.identity.slot == slot)
-}
-
-// The first slot of that number, or the count.
-fn slot_place(table: &VoterSlotTable, slot: SlotId) -> usize
-    requires { table.now.count ≤ 9 }
-    ensures { result ≡ slot_index table.now slot }
-{
-    place_of(table.slots_in_use(), slot).unwrap_or(table.count)
 }
 
 // ---- the judgement of what is seen
@@ -324,12 +313,16 @@ fn judge_known(
     }
 }
 
-// A table without the slot being replaced is refused with 25.
+// A table without the slot being replaced is refused with 25. The place is that of the definition
+// `target_index`, which gives the count where there is no such slot.
+//
+// This judge and `judge_closed` ask for the count: past the nine places the definitions go on over
+// blanks, which the code has not.
 fn judge_seen(table: &VoterSlotTable, seen: Seen, cut: VoterSlotLogId) -> Result<Observed, Refusal>
     requires { table.now.count ≤ 9 }
     ensures { verdict_of_observed result ≡ judge_seen table.now (sight_of seen) cut }
 {
-    let at = slot_place(table, table.replacement.attestation.slot);
+    let at = table.slot_index(table.replacement.attestation.slot);
     if table.count <= at {
         return Err(Refusal::InvalidTransition);
     }
@@ -338,17 +331,17 @@ fn judge_seen(table: &VoterSlotTable, seen: Seen, cut: VoterSlotLogId) -> Result
 
 // No request is open: `members` are the ids of the slots.
 fn judge_members(members: &[ConsensusNodeId], membership: &Membership) -> Result<Observed, Refusal>
-    ensures { verdict_of_observed result ≡ judge_members members.now membership.now.sets.now membership.now.counts.now membership.now.nodes.now }
+    ensures { verdict_of_observed result ≡ judge_members members.now membership.now.observation.sets.now membership.now.observation.counts.now membership.now.observation.nodes.now }
 {
-    let one = membership.is_one_set(members);
-    let same = is_same(membership.nodes, members);
+    let one = membership.observation.is_one_set(members);
+    let same = is_same(membership.observation.nodes, members);
     accept_if(one & same, Observed::Keep)
 }
 
 // `observe_membership` with no request open.
 fn judge_closed(table: &VoterSlotTable, membership: &Membership) -> Result<Observed, Refusal>
     requires { (table.now.count ≤ 9) × (table.now.has_replacement ≡ false) }
-    ensures { verdict_of_observed result ≡ judge_closed table.now (split_sets membership.now.sets.now membership.now.counts.now) membership.now.nodes.now }
+    ensures { verdict_of_observed result ≡ judge_closed table.now (split_sets membership.now.observation.sets.now membership.now.observation.counts.now) membership.now.observation.nodes.now }
 {
     let ids = ids_of_slots(table);
     judge_members(&ids[..table.count], membership)
@@ -362,7 +355,7 @@ fn judge_sets(
     cut: VoterSlotLogId,
 ) -> Result<Observed, Refusal>
     requires { few_members table.now ≡ true }
-    ensures { verdict_of_observed result ≡ judge_sets table.now (split_sets membership.now.sets.now membership.now.counts.now) membership.now.nodes.now cut }
+    ensures { verdict_of_observed result ≡ judge_sets table.now (split_sets membership.now.observation.sets.now membership.now.observation.counts.now) membership.now.observation.nodes.now cut }
 {
     if table.revision == u64::MAX {
         return Err(Refusal::RevisionExhausted);
@@ -370,7 +363,10 @@ fn judge_sets(
     if !table.has_replacement {
         return judge_closed(table, membership);
     }
-    let seen = see(&table.replacement, membership);
+    let open = OpenRequest {
+        operation: &table.replacement,
+    };
+    let seen = open.see(membership);
     judge_seen(table, seen, cut)
 }
 
@@ -385,53 +381,38 @@ fn has_few_members(table: &VoterSlotTable) -> bool
             | ((old <= MAX_FIXED_VOTER_SLOTS) & (new <= MAX_FIXED_VOTER_SLOTS)))
 }
 
-// The verdict. On a table not known to be valid a change still needs `confirm`.
-pub fn weigh(
-    table: VoterSlotTable,
-    sets: &[ConsensusNodeId],
-    counts: &[usize],
-    nodes: &[ConsensusNodeId],
-    cut: VoterSlotLogId,
-) -> Result<Observed, Refusal>
-    ensures { verdict_of_observed result ≡ weighed table sets.now counts.now nodes.now cut }
+// The verdict. On a table not known to be valid a change still needs `confirm`. It is public and takes
+// the table by value, as before; what is judged is the table that is lent (`weigh_lent`).
+pub fn weigh(table: VoterSlotTable, observation: VoterObservation) -> Result<Observed, Refusal>
+    ensures { verdict_of_observed result ≡ weighed table observation.entry.sets.now observation.entry.counts.now observation.entry.nodes.now observation.entry.cut }
 {
-    weigh_lent(&table, sets, counts, nodes, cut)
+    weigh_lent(&table, observation)
 }
 
 // The same on a table that is lent.
-fn weigh_lent(
-    table: &VoterSlotTable,
-    sets: &[ConsensusNodeId],
-    counts: &[usize],
-    nodes: &[ConsensusNodeId],
-    cut: VoterSlotLogId,
-) -> Result<Observed, Refusal>
-    ensures { verdict_of_observed result ≡ weighed table.now sets.now counts.now nodes.now cut }
+#[tactic(auto, unfolding(crate::specs::Observation::representable_sets, crate::specs::ObserveSight::weighed))]
+fn weigh_lent(table: &VoterSlotTable, observation: VoterObservation) -> Result<Observed, Refusal>
+    ensures { verdict_of_observed result ≡ weighed table.now observation.entry.sets.now observation.entry.counts.now observation.entry.nodes.now observation.entry.cut }
 {
     let few = has_few_members(table);
-    let counted = add_up(counts, sets.len());
-    let held = are_held(sets);
-    let nodes_held = are_held(nodes);
+    let counted = add_up(observation.counts, observation.sets.len());
+    let held = are_held(observation.sets);
+    let nodes_held = are_held(observation.nodes);
     if !(few & ((counted & held) & nodes_held)) {
         return Err(Refusal::Unrepresentable);
     }
-    let rising = sets_rise(sets, counts);
-    let nodes_rise = rises(nodes);
+    let rising = sets_rise(observation.sets, observation.counts);
+    let nodes_rise = rises(observation.nodes);
     if !(rising & nodes_rise) {
         return Err(Refusal::NotRising);
     }
-    let membership = Membership {
-        sets,
-        counts,
-        nodes,
-    };
-    judge_sets(table, &membership, cut)
+    let membership = Membership { observation };
+    judge_sets(table, &membership, observation.cut)
 }
 
 // The whole validity is asked for only where something is new.
 #[tactic(auto, unfolding(crate::specs::ObserveSight::confirmed))]
 fn confirm(table: &VoterSlotTable, judged: Result<Observed, Refusal>) -> Result<Observed, Refusal>
-    requires { table.now.count ≤ 9 }
     ensures { verdict_of_observed result ≡ confirmed (is_accepted (validity table.now)) (verdict_of_observed judged) }
 {
     let observed = judged?;
@@ -442,7 +423,8 @@ fn confirm(table: &VoterSlotTable, judged: Result<Observed, Refusal>) -> Result<
     accept_if(valid, observed)
 }
 
-// The answer of an observation that was so judged.
+// The answer of an observation that was so judged. It is not one function with `answer_of` of
+// judge.rt: both are public, each with the clause of its own definition.
 pub fn answer_of_observed(judged: Result<Observed, Refusal>) -> Answer
     ensures { result ≡ answer_of_observed (verdict_of_observed judged) }
 {
@@ -457,14 +439,15 @@ fn enter_phase(table: &mut VoterSlotTable, phase: u8)
     requires { Room table.old }
     ensures { table.new ≡ table_with table.old (table.old.revision + 1) table.old.configuration_epoch (set table.old.slots (target_index table.old) (in_phase (target_slot table.old) (target_phase phase))) true (operation_with table.old.replacement phase table.old.replacement.evidence) }
 {
-    let at = slot_place(table, table.replacement.attestation.slot);
+    let at = table.slot_index(table.replacement.attestation.slot);
     table.slots[at].phase = target_phase(phase);
     table.replacement.phase = phase;
     table.has_replacement = true;
     table.revision += 1;
 }
 
-// A cut that is present.
+// A cut that is present. Its clause names the definition `present`. A `From` in `records` would be an
+// impl with a clause of its own for this file and one line of judge.rt, and no shorter.
 fn present(cut: VoterSlotLogId) -> OptionalLogId
     ensures { result ≡ present cut }
 {
@@ -496,9 +479,12 @@ fn carry_out(table: &mut VoterSlotTable, observed: Observed, cut: VoterSlotLogId
 }
 
 // The membership with the learner.
+//
+// This maker and the two after it are public, and each has a clause with no case in it. One maker that
+// is given what was observed would have a case for `Keep`, at which no maker is called.
 #[tactic(auto, unfolding(crate::specs::Judgement::carried))]
 pub fn learner_table(mut table: VoterSlotTable, cut: VoterSlotLogId) -> VoterSlotTable
-    requires { (table.revision ≡ full → ⊥) × ((table.count ≤ 9) × (target_index table < table.count)) }
+    requires { Room table }
     ensures { result ≡ added table cut adds_learner }
 {
     carry_out(&mut table, Observed::AddLearner, cut);
@@ -508,7 +494,7 @@ pub fn learner_table(mut table: VoterSlotTable, cut: VoterSlotLogId) -> VoterSlo
 // The joint membership.
 #[tactic(auto, unfolding(crate::specs::Judgement::carried))]
 pub fn joint_table(mut table: VoterSlotTable, cut: VoterSlotLogId) -> VoterSlotTable
-    requires { (table.revision ≡ full → ⊥) × ((table.count ≤ 9) × (target_index table < table.count)) }
+    requires { Room table }
     ensures { result ≡ added table cut adds_joint }
 {
     carry_out(&mut table, Observed::AddJoint, cut);
@@ -518,7 +504,7 @@ pub fn joint_table(mut table: VoterSlotTable, cut: VoterSlotLogId) -> VoterSlotT
 // The successor's membership.
 #[tactic(auto, unfolding(crate::specs::Judgement::carried))]
 pub fn uniform_table(mut table: VoterSlotTable, cut: VoterSlotLogId) -> VoterSlotTable
-    requires { (table.revision ≡ full → ⊥) × ((table.count ≤ 9) × (target_index table < table.count)) }
+    requires { Room table }
     ensures { result ≡ added table cut adds_uniform }
 {
     carry_out(&mut table, Observed::AddUniform, cut);
@@ -526,80 +512,58 @@ pub fn uniform_table(mut table: VoterSlotTable, cut: VoterSlotLogId) -> VoterSlo
 }
 
 // ---- the calls
+//
+// The definition `observe_membership` has the four parts of an observation as four parameters, so that
+// each clause takes them out. The calls by value are for a Rust caller that holds its table so.
 
 // An observation of a table that is known to be valid, by value.
-pub fn observe_valid(
-    mut table: VoterSlotTable,
-    sets: &[ConsensusNodeId],
-    counts: &[usize],
-    nodes: &[ConsensusNodeId],
-    cut: VoterSlotLogId,
-) -> Controlled
+pub fn observe_valid(mut table: VoterSlotTable, observation: VoterObservation) -> Controlled
     requires { validate table ≡ Accepted }
-    ensures { (result.answer, result.table) ≡ observe_membership table sets.now counts.now nodes.now cut }
+    ensures { (result.answer, result.table) ≡ observe_membership table observation.entry.sets.now observation.entry.counts.now observation.entry.nodes.now observation.entry.cut }
 {
-    let answer = observe_in_place(&mut table, sets, counts, nodes, cut);
+    let answer = observe_in_place(&mut table, observation);
     Controlled { answer, table }
 }
 
 // `VoterSlotTable::observe_membership`.
-pub fn observe_membership(
-    mut table: VoterSlotTable,
-    sets: &[ConsensusNodeId],
-    counts: &[usize],
-    nodes: &[ConsensusNodeId],
-    cut: VoterSlotLogId,
-) -> Controlled
-    ensures { (result.answer, result.table) ≡ observe_membership table sets.now counts.now nodes.now cut }
+pub fn observe_membership(mut table: VoterSlotTable, observation: VoterObservation) -> Controlled
+    ensures { (result.answer, result.table) ≡ observe_membership table observation.entry.sets.now observation.entry.counts.now observation.entry.nodes.now observation.entry.cut }
 {
-    let answer = observe_membership_in_place(&mut table, sets, counts, nodes, cut);
+    let answer = observe_membership_in_place(&mut table, observation);
     Controlled { answer, table }
 }
 
 // The verdict of the entry point: 30 of the table, and its validity where something is new.
-fn weigh_entry(
-    table: &VoterSlotTable,
-    sets: &[ConsensusNodeId],
-    counts: &[usize],
-    nodes: &[ConsensusNodeId],
-    cut: VoterSlotLogId,
-) -> Result<Observed, Refusal>
-    ensures { verdict_of_observed result ≡ entry_weighed table.now sets.now counts.now nodes.now cut }
+fn weigh_entry(table: &VoterSlotTable, observation: VoterObservation) -> Result<Observed, Refusal>
+    ensures { verdict_of_observed result ≡ entry_weighed table.now observation.entry.sets.now observation.entry.counts.now observation.entry.nodes.now observation.entry.cut }
 {
     if !table.is_representable() {
         return Err(Refusal::Unrepresentable);
     }
-    let judged = weigh_lent(table, sets, counts, nodes, cut);
+    let judged = weigh_lent(table, observation);
     confirm(table, judged)
 }
 
 // `observe_membership` on a table that is lent: any table, any sets, any nodes and any cut.
+#[tactic(auto, using(crate::proofs::Stored::observed_entry, crate::proofs::Stored::entry_room), unfolding(crate::specs::Judgement::carried))]
 pub fn observe_membership_in_place(
     table: &mut VoterSlotTable,
-    sets: &[ConsensusNodeId],
-    counts: &[usize],
-    nodes: &[ConsensusNodeId],
-    cut: VoterSlotLogId,
+    observation: VoterObservation,
 ) -> Answer
-    ensures { (result, table.new) ≡ observe_membership table.old sets.now counts.now nodes.now cut }
+    ensures { (result, table.new) ≡ observe_membership table.old observation.entry.sets.now observation.entry.counts.now observation.entry.nodes.now observation.entry.cut }
 {
-    let observed = weigh_entry(table, sets, counts, nodes, cut)?;
-    carry_out(table, observed, cut);
+    let observed = weigh_entry(table, observation)?;
+    carry_out(table, observed, observation.cut);
     Ok(())
 }
 
 // An observation of a table that is lent and known to be valid.
-pub fn observe_in_place(
-    table: &mut VoterSlotTable,
-    sets: &[ConsensusNodeId],
-    counts: &[usize],
-    nodes: &[ConsensusNodeId],
-    cut: VoterSlotLogId,
-) -> Answer
+#[tactic(auto, using(crate::proofs::Stored::observed_valid, crate::proofs::Stored::weighed_room), unfolding(crate::specs::Judgement::carried))]
+pub fn observe_in_place(table: &mut VoterSlotTable, observation: VoterObservation) -> Answer
     requires { validate table.old ≡ Accepted }
-    ensures { (result, table.new) ≡ observe_membership table.old sets.now counts.now nodes.now cut }
+    ensures { (result, table.new) ≡ observe_membership table.old observation.entry.sets.now observation.entry.counts.now observation.entry.nodes.now observation.entry.cut }
 {
-    let observed = weigh_lent(table, sets, counts, nodes, cut)?;
-    carry_out(table, observed, cut);
+    let observed = weigh_lent(table, observation)?;
+    carry_out(table, observed, observation.cut);
     Ok(())
 }

@@ -6,30 +6,28 @@
 // supplies the digest as recomputed and the id of the current configuration. Loops pass all nine
 // places, from the last to the first, and a place found later takes the place of one found before;
 // it is picked by `then_some` and `or`, since after an `if` in the loop the compiler copies the
-// request once more.
+// request once more. So it does where the slots in use are searched by `find`: a repeated Begin takes
+// twice as long, and a fresh one half as long again.
 ghost use Rattle.std.specs.Prelude.{◌≡◌};
 ghost use Rattle.records.specs.Successor.{first_refusal};
-ghost use Rattle.records.specs.Validation.{valid_attestation};
 ghost use Rattle.control.specs.Control.{candidate_check, current_configuration, is_expected, request_check, stale_check, valid_request};
 ghost use Rattle.control.specs.BeginJudge.{attested_member, has_digest, has_receipt, named_of, newer_than, receipt_state};
 
 use crate::control::VoterReplacementRequest;
 use identity::answer::{Answer, Refusal};
 use identity::identity::{ConsensusConfigurationEpoch, ConsensusRequestId, SlotId};
-use records::equality::{same16, same32};
 use records::number::is_next;
 use records::records::*;
-use records::validation::{are_valid_times, is_valid_spiffe_id};
 
 // `VoterReplacementRequest::validate`: 12.
 #[tactic(auto, unfolding(crate::specs::Control::request_check))]
-pub fn validate_request(request: VoterReplacementRequest) -> Answer
-    ensures { result ≡ request_check request }
+pub fn validate_request(request: &VoterReplacementRequest) -> Answer
+    ensures { result ≡ request_check request.now }
 {
     let valid = is_valid_request(request);
     let supplied = request.supplied_request_digest;
     let attested = request.attestation.request_digest;
-    let same = same32(supplied, attested);
+    let same = supplied == attested;
     if valid & same {
         Ok(())
     } else {
@@ -39,20 +37,20 @@ pub fn validate_request(request: VoterReplacementRequest) -> Answer
 
 // The claims are valid, and the request says the same as they do.
 #[tactic(auto, unfolding(crate::specs::Control::valid_request))]
-fn is_valid_request(request: VoterReplacementRequest) -> bool
-    ensures { result ≡ valid_request request }
+fn is_valid_request(request: &VoterReplacementRequest) -> bool
+    ensures { result ≡ valid_request request.now }
 {
-    let claims = are_valid_claims(request);
+    let claims = request.attestation.is_valid();
     let cluster = request.expected_configuration.cluster_id;
     let attested_cluster = request.attestation.cluster_instance;
-    let same_cluster = same32(cluster, attested_cluster);
+    let same_cluster = cluster == attested_cluster;
     let next = is_next(
         request.attestation.expected_incarnation,
         request.candidate.identity.incarnation,
     );
     let key = request.candidate.key_digest;
     let attested_key = request.attestation.candidate_key_digest;
-    let same_key = same32(key, attested_key);
+    let same_key = key == attested_key;
     claims
         & ((0 < request.expected_revision)
             & (same_cluster
@@ -61,31 +59,6 @@ fn is_valid_request(request: VoterReplacementRequest) -> bool
                         & (same_key
                             & (request.candidate.admission_generation
                                 == request.attestation.admission_generation))))))
-}
-
-// `LostVoterAttestationV1::validate`, part by part: of the attestation itself a copy would be made.
-#[tactic(auto, unfolding(records::specs::Validation::valid_attestation))]
-fn are_valid_claims(request: VoterReplacementRequest) -> bool
-    ensures { result ≡ valid_attestation request.attestation }
-{
-    let candidate = request.attestation.candidate_spiffe_id.bytes;
-    let candidate_valid = is_valid_spiffe_id(
-        request.attestation.candidate_spiffe_id.len,
-        candidate,
-    );
-    let controller = request.attestation.controller_spiffe_id.bytes;
-    let controller_valid = is_valid_spiffe_id(
-        request.attestation.controller_spiffe_id.len,
-        controller,
-    );
-    let times_valid = are_valid_times(
-        request.attestation.admission_generation,
-        request.attestation.observation_start_ms,
-        request.attestation.decision_ms,
-        request.attestation.issued_ms,
-        request.attestation.expires_ms,
-    );
-    candidate_valid & (controller_valid & times_valid)
 }
 
 // Whether the first receipt of the request of that id, among those of the slots in use, has that
@@ -109,7 +82,7 @@ fn has_receipt(slot: VoterSlotRecord, id: ConsensusRequestId) -> bool
     ensures { result ≡ has_receipt id slot }
 {
     let held = slot.last_result.request_id;
-    let same = same16(held, id);
+    let same = held == id;
     slot.has_last_result & same
 }
 
@@ -118,7 +91,7 @@ fn has_digest(slot: VoterSlotRecord, digest: [u8; 32]) -> bool
     ensures { result ≡ has_digest digest slot }
 {
     let held = slot.last_result.request_digest;
-    same32(held, digest)
+    held == digest
 }
 
 // The request was made for this table, 13; there are three slots, 16; and its candidate is newer
@@ -129,7 +102,7 @@ pub fn slot_check(table: VoterSlotTable, request: VoterReplacementRequest) -> An
     let expected = is_expected(table, request);
     let cluster = table.cluster_instance;
     let attested_cluster = request.attestation.cluster_instance;
-    let same_cluster = same32(attested_cluster, cluster);
+    let same_cluster = attested_cluster == cluster;
     let Some(member) = named_member(table, request.attestation.slot) else {
         return Err(Refusal::StaleIncarnation);
     };
@@ -148,7 +121,8 @@ pub fn slot_check(table: VoterSlotTable, request: VoterReplacementRequest) -> An
     }
 }
 
-// `position(..)` and the member there.
+// The member of the first slot in use of that number, or none. The original has its place from
+// `position(..)`.
 fn named_member(table: VoterSlotTable, number: SlotId) -> Option<VoterSlotMember>
     ensures { result ≡ named_of table number }
 {
@@ -168,10 +142,10 @@ fn is_expected(table: VoterSlotTable, request: VoterReplacementRequest) -> bool
 {
     let cluster = table.cluster_instance;
     let expected_cluster = request.expected_configuration.cluster_id;
-    let same_cluster = same32(cluster, expected_cluster);
+    let same_cluster = cluster == expected_cluster;
     let id = request.supplied_configuration_id;
     let expected_id = request.expected_configuration.configuration_id;
-    let same_id = same32(id, expected_id);
+    let same_id = id == expected_id;
     let epoch = current_epoch(table);
     (same_cluster & same_id) & (epoch == request.expected_configuration.configuration_epoch)
 }
@@ -193,7 +167,7 @@ fn is_attested(member: VoterSlotMember, request: VoterReplacementRequest) -> boo
 {
     let attested = request.attestation.old_descriptor_digest;
     let descriptor = member.descriptor_digest;
-    let same = same32(attested, descriptor);
+    let same = attested == descriptor;
     (request.attestation.expected_incarnation == member.identity.incarnation) & same
 }
 
@@ -203,6 +177,6 @@ fn is_newer(member: VoterSlotMember, request: VoterReplacementRequest) -> bool
 {
     let candidate = request.candidate.key_digest;
     let key = member.key_digest;
-    let same = same32(candidate, key);
+    let same = candidate == key;
     (member.admission_generation < request.candidate.admission_generation) & !same
 }

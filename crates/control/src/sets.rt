@@ -12,28 +12,25 @@ ghost use Rattle.control.specs.ObserveSets.{are_two_sets, first_of, is_one_set, 
 
 use identity::identity::*;
 use records::records::{
-    MAX_FIXED_VOTER_SLOTS, VoterConfiguration, VoterSlotMember, VoterSlotTable,
+    MAX_FIXED_VOTER_SLOTS, VoterConfiguration, VoterSlotLogId, VoterSlotMember, VoterSlotTable,
 };
 
-// No id of a member or a node: those lie below 2^63.
-pub const NO_ID: ConsensusNodeId = u64::MAX;
-
-// An observed membership: sets of voters, and nodes. Each set rises, and so do the nodes.
+// An observation as its caller supplies it: ids of sets of voters, one set after another, how many
+// ids each set has, the nodes, and the engine's cut. Nothing is known of them. Document 01 has the sets
+// one behind another in one slice, with their counts beside it, since no set is on a heap.
 #[derive(Clone, Copy)]
-pub struct Membership<'a> {
+pub struct VoterObservation<'a> {
     // The sets, one after another.
     pub sets: &'a [ConsensusNodeId],
     // How many ids each of them has.
     pub counts: &'a [usize],
     // The nodes.
     pub nodes: &'a [ConsensusNodeId],
-    pub ghost counted: { total counts.now ≡ length sets.now },
-    pub ghost held: { every is_held_node_id nodes.now ≡ true },
-    pub ghost rising: { all_rising (split_sets sets.now counts.now) ≡ true },
-    pub ghost nodes_rise: { is_rising nodes.now ≡ true },
+    // Engine cut of the observation.
+    pub cut: VoterSlotLogId,
 }
 
-impl Membership<'_> {
+impl VoterObservation<'_> {
     // Whether the sets are this one alone. Their number is tested first: ids are compared each with
     // each.
     pub fn is_one_set(&self, ids: &[ConsensusNodeId]) -> bool
@@ -45,6 +42,7 @@ impl Membership<'_> {
     // Whether the sets are these two.
     #[tactic(auto, using(crate::specs::ObserveSetsLaws::first_count))]
     pub fn are_two_sets(&self, old: &[ConsensusNodeId], new: &[ConsensusNodeId]) -> bool
+        requires { total self.now.counts.now ≤ length self.now.sets.now }
         ensures { result ≡ are_two_sets self.now.sets.now self.now.counts.now old.now new.now }
     {
         if self.counts.len() != 2 {
@@ -54,6 +52,20 @@ impl Membership<'_> {
         is_same(before, old) & is_same(after, new)
     }
 }
+
+// An observed membership: an observation whose counts add up to its ids, whose sets and nodes rise,
+// and whose nodes are ids that the Rust type can hold.
+#[derive(Clone, Copy)]
+pub struct Membership<'a> {
+    pub observation: VoterObservation<'a>,
+    pub ghost counted: { total observation.counts.now ≡ length observation.sets.now },
+    pub ghost held: { every is_held_node_id observation.nodes.now ≡ true },
+    pub ghost rising: { all_rising (split_sets observation.sets.now observation.counts.now) ≡ true },
+    pub ghost nodes_rise: { is_rising observation.nodes.now ≡ true },
+}
+
+// No id of a member or a node: those lie below 2^63.
+pub const NO_ID: ConsensusNodeId = u64::MAX;
 
 // Whether the counts add up to the length. What is left of it is counted down, so that no sum
 // wraps.
@@ -73,7 +85,9 @@ pub fn add_up(counts: &[usize], len: usize) -> bool
 
 // Whether the Rust type can hold every id.
 //
-// This loop and that of `rises` have no early exit, so that several ids are compared at a time.
+// `all` is as fast in this loop and those of `rises` and `is_subset`, but says what it answers index
+// by index, where the definitions go along the list: the proofs did not close. `sets_rise` takes one
+// set after another off the front of a slice, which an iterator of the counts does not have.
 #[tactic(auto, using(identity::specs::TextLaws::all_more), unfolding(identity::specs::Text::every))]
 pub fn are_held(ids: &[ConsensusNodeId]) -> bool
     ensures { result ≡ every is_held_node_id ids.now }
@@ -85,7 +99,8 @@ pub fn are_held(ids: &[ConsensusNodeId]) -> bool
     all
 }
 
-// Whether the ids rise strictly.
+// Whether the ids rise strictly. (By their index: `windows(2)` with `all` was tried, and so was
+// `is_sorted_by`, of which the proof did not close either.)
 #[tactic(auto, using(crate::specs::ObserveSetsLaws::rising_more, crate::specs::ObserveSetsLaws::rising_one))]
 pub fn rises(ids: &[ConsensusNodeId]) -> bool
     ensures { result ≡ is_rising ids.now }
@@ -122,8 +137,6 @@ pub fn contains(set: &[ConsensusNodeId], id: ConsensusNodeId) -> bool
 }
 
 // Whether every id of the one stands in the other.
-//
-// A loop: that `all` answers what the definition says was tried, and the proof did not close.
 #[tactic(auto, using(identity::specs::TextLaws::all_more), unfolding(identity::specs::Text::every))]
 pub fn is_subset(ids: &[ConsensusNodeId], set: &[ConsensusNodeId]) -> bool
     ensures { result ≡ is_subset ids.now set.now }
@@ -142,7 +155,13 @@ pub fn is_same(set: &[ConsensusNodeId], ids: &[ConsensusNodeId]) -> bool
     is_subset(set, ids) & is_subset(ids, set)
 }
 
-// The first id of the set that neither of the others has, if there is one.
+// The first id of the set that neither of the others has, if there is one. A `find` in place of the
+// loop would take a closure with a clause of its own and give a reference that is copied out again, so
+// that it is no shorter.
+//
+// `old` and `new`, here and in observe.rt, are the ids of an open request's two configurations. A
+// struct of the two would be put together in one place (`see`), and each function that is given them
+// would take both out again.
 #[tactic(auto, using(crate::specs::ObserveSetsLaws::outside_passed, crate::specs::ObserveSetsLaws::outside_found, crate::specs::ObserveSetsLaws::outside_none), unfolding(crate::specs::ObserveSets::first_of))]
 pub fn first_outside(
     set: &[ConsensusNodeId],
@@ -159,9 +178,10 @@ pub fn first_outside(
     None
 }
 
-// The least of the new ids that is not an old one, or none.
+// The least of the new ids that is not an old one, or `NO_ID` where there is none.
 //
-// The least so far begins at the greatest number: with an `Option` each turn has one test more.
+// The least so far begins at the greatest number: with an `Option` each turn has one test more. The
+// result is that number too and no `Option`, since the definition `least_new` gives it.
 #[tactic(auto, using(crate::specs::ObserveSetsLaws::least_more, crate::specs::ObserveSetsLaws::least_end))]
 pub fn least_new(old: &[ConsensusNodeId], new: &[ConsensusNodeId]) -> ConsensusNodeId
     ensures { result ≡ least_new old.now new.now no_id }
@@ -193,6 +213,10 @@ fn id_of(member: &VoterSlotMember) -> ConsensusNodeId
 }
 
 // `member_ids` in the order of the nine places; the caller lends those in use.
+//
+// A loop over the places and no `map`, here and in `ids_of_slots`: the definition `listed` goes by the
+// place, so that one lemma of a turn (`listed_more`) proves both. The closure of a `map` would take a
+// clause of its own, and its list would have to be proved to be `listed` besides.
 #[tactic(auto, using(crate::specs::ObserveSetsLaws::listed_more), unfolding(crate::specs::ObserveSets::listed))]
 pub fn ids_of(configuration: &VoterConfiguration) -> [ConsensusNodeId; MAX_FIXED_VOTER_SLOTS]
     ensures { result ≡ listed configuration.now 9 }
@@ -204,7 +228,8 @@ pub fn ids_of(configuration: &VoterConfiguration) -> [ConsensusNodeId; MAX_FIXED
     ids
 }
 
-// The same of the slots: one function for both takes a closure, which is no plainer than a loop.
+// The ids of the slots' members in the order of the nine places. It is not one function with `ids_of`:
+// a place would have to be read by a closure, which takes a clause of its own.
 #[tactic(auto, using(crate::specs::ObserveSetsLaws::listed_more), unfolding(crate::specs::ObserveSets::listed))]
 pub fn ids_of_slots(table: &VoterSlotTable) -> [ConsensusNodeId; MAX_FIXED_VOTER_SLOTS]
     ensures { result ≡ listed (slot_members table.now) 9 }

@@ -8,7 +8,7 @@ use Rattle.format.specs.Res.{Res, malformed, too_large, and_then}
 use Rattle.format.specs.Res.Res.{ok, no}
 use Rattle.format.specs.Num.{pick, uint, raw}
 use Rattle.format.specs.Combinators.{Codec, dep, check, dec_seq, dec_map}
-use Rattle.format.specs.List.{vec, vec-start, vec-stays, dec_vec, padded}
+use Rattle.format.specs.List.{vec, vec-start, vec-stays, vec-long, dec_vec, padded}
 use Rattle.format.specs.Through.{whole, boxed, boxed-ok, boxed-no-1, boxed-no-2}
 use Rattle.format.specs.Copy.{filled_more, unfilled-more, drop-replicate}
 use Rattle.format.specs.Reads.{Reading, left_of, reads, then_read, made_read, reads_via}
@@ -24,6 +24,10 @@ refused_is bs (no r) e = ap no (refused_number e)
     refused_number e = cc
 
 -- ---- n values of one form, one after the other, in a place of nine
+
+abbrev pub nine : {A : Type 0} → Codec A → A → ℕ → Codec (List A)
+nine C blank n = padded (vec C blank n) n 9 blank (vec-long C blank n)
+
 module _ {A : Type 0} (C : Codec A) (blank : A) where
   abbrev ended_by : List A → A → List A
   ended_by l a = l ++ (a ∷ [])

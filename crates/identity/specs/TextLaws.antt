@@ -9,8 +9,8 @@ use Rattle.std.proofs.Common.{sym, ap, ◌∙◌, add-one, arith, drop-cons, ltb
 use Rattle.std.proofs.Math.Bool.{and-true, and-false, and_assoc, or-false, or_assoc}
 use mathlib.Core.List.{List, [], ◌∷◌}
 use Rattle.std.proofs.lemmas.Bool.{not-true, lt-leb, eqb-false}
-use Rattle.identity.specs.Utf8.{Range, octets, within, chars_from, all_chars}
-use Rattle.identity.specs.Utf8Laws.{and_left, and_right, char-one, chars-end, chars-more}
+use Rattle.identity.specs.Utf8.{Range, octets, within, Char, decoded_char, chars_from, all_chars}
+use Rattle.identity.specs.Utf8Laws.{and_left, and_right, char-one, chars-end, chars-more, all_chars_more}
 use Rattle.identity.specs.Text.{is_in, white_space, allows, first_ascii, last_ascii, every, starts_with, is_domain_byte, is_segment_byte, prepend, split, all_segments, are_strict_parts, next_part}
 use Rattle.identity.specs.declared.text.Allowed.{Allowed}
 use Rattle.identity.specs.declared.text.Allowed.TheVariants.{Any, NoControl, NoControlNoWhitespace}
@@ -245,3 +245,17 @@ whole_parts (b ∷ s) = cond_cases (λ (l : List (List ℕ)). are_strict_parts l
 
 pub strict-parts : (s : List ℕ) → are_strict_parts (split s) ≡ parts_from (part true true 0) s
 strict-parts s = whole_parts s ∙ sym (parts-split true 0 s)
+
+-- ---- text, character by character
+
+-- a character that the rule does not allow
+pub refused_char : (rule : Allowed) (s : List ℕ) (code width : ℕ) → decoded_char s ≡ Char code width → allows rule code ≡ false
+    → all_chars (allows rule) s ≡ false
+refused_char rule s code width here e =
+    all_chars_more (allows rule) s code width here ∙ ap (λ (t : Bool). t && all_chars (allows rule) (drop width s)) e
+
+-- one that it allows: the rest decides
+pub allowed_char : (rule : Allowed) (s : List ℕ) (code width : ℕ) → decoded_char s ≡ Char code width → allows rule code ≡ true
+    → all_chars (allows rule) s ≡ all_chars (allows rule) (drop width s)
+allowed_char rule s code width here e =
+    all_chars_more (allows rule) s code width here ∙ ap (λ (t : Bool). t && all_chars (allows rule) (drop width s)) e

@@ -4,13 +4,13 @@
 -- Assumes nothing.
 use Prim.Native.Nat.{ℕ, zero, suc, ◌<◌, ◌≤◌}
 use Rattle.std.proofs.Math.Path.{◌≡◌, refl}
-use Rattle.std.proofs.Common.{ap, ◌∙◌, arith}
-use Rattle.std.specs.Prelude.{Bool, true, false, cond, ◌&&◌, length, get_or, take, drop, leb, ltb}
+use Rattle.std.proofs.Common.{ap, ◌∙◌, arith, length-drop, sym}
+use Rattle.std.specs.Prelude.{Bool, true, false, cond, ◌&&◌, length, get_or, take, drop, eqb, leb, ltb}
 use Rattle.std.proofs.Math.Bool.{and-true, and-false}
 use mathlib.Core.List.{List, [], ◌∷◌, ◌++◌}
 use borrow.Author.Tests.{ltb-true, leb-true, le-leb, lt-leb, eq-eqb, ne_eqb}
 use Rattle.identity.specs.Utf8.{Range, octets, within, utf8_tail, utf8_char, fits, width_in, char_width, code_point, decoded_of, decoded_char, led_by, chars_from}
-use Rattle.identity.specs.Utf8.{Char, Malformed}
+use Rattle.identity.specs.Utf8.{Decoded, Char, Malformed, passes, all_chars}
 
 pub and_left : (p q : Bool) → (p && q) ≡ true → p ≡ true
 and_left true q h = refl
@@ -208,3 +208,61 @@ module _ (p : ℕ → Bool) where
       → chars_from p (suc k) s ≡ (p code && chars_from p k (drop width s))
   unfolding chars_from
   chars-more k s code width h e = rw (ne_eqb (length s) 0 (omega arith), e, (sized s code width e).exact)
+
+  by_char : (d : Decoded) (k j : ℕ) (s : List ℕ) → d ≡ decoded_char s
+      → (1 ≤ char_width s → chars_from p k (drop (char_width s) s) ≡ chars_from p j (drop (char_width s) s))
+      → (passes p d && chars_from p k (drop (char_width s) s)) ≡ (passes p d && chars_from p j (drop (char_width s) s))
+  by_char Malformed k j s e f = refl
+  by_char (Char code width) k j s e f =
+      let z = sized s code width (sym e) in
+      ap (λ (t : Bool). p code && t) (f (omega (arith, z.exact, z.least)))
+
+  -- As many characters may be looked for as there are bytes: no more are found.
+  turns : (k j : ℕ) (s : List ℕ) → length s ≤ k → length s ≤ j → chars_from p k s ≡ chars_from p j s
+  unfolding chars_from
+  turns zero zero s h i = refl
+  turns zero (suc j) s h i = rw (eq-eqb (length s) 0 (omega arith))
+  turns (suc k) zero s h i = rw (eq-eqb (length s) 0 (omega arith))
+  turns (suc k) (suc j) s h i =
+      ap (λ (t : Bool). cond (eqb (length s) 0) true t)
+      (by_char (decoded_char s) k j s refl
+      (λ (l : 1 ≤ char_width s). turns k j (drop (char_width s) s) (simp length-drop (omega arith)) (simp length-drop (omega arith))))
+
+-- ---- the same of whole texts
+
+cond-within : (t : Bool) (a b n : ℕ) → (t ≡ true → a ≤ n) → b ≤ n → cond t a b ≤ n
+cond-within true a b n h k = h refl
+cond-within false a b n h k = k
+
+fits-long : (a : List Range) (s : List ℕ) → fits a s ≡ true → length a ≤ length s
+unfolding fits
+fits-long [] s e = omega arith
+fits-long (r ∷ a) [] e = absurd (let z : ◌≡◌ {A = ℕ} 0 1 = cc in omega arith)
+fits-long (r ∷ a) (b ∷ s) e = let n = fits-long a s (and_right (within r b) (fits a s) e) in omega (arith, n)
+
+width-long : (alternatives : List (List Range)) (s : List ℕ) → width_in alternatives s ≤ length s
+unfolding width_in
+width-long [] s = omega arith
+width-long (a ∷ more) s = cond-within (fits a s) (length a) (width_in more s) (length s) (fits-long a s) (width-long more s)
+
+-- A character takes bytes that are there, one at least.
+pub char_within : (s : List ℕ) (code width : ℕ) → decoded_char s ≡ Char code width → (1 ≤ width) × (width ≤ length s)
+char_within s code width e =
+    let z = sized s code width e in
+    let l : char_width s ≤ length s = width-long utf8_char s in
+    (z.least, omega (arith, z.exact))
+
+-- a text that goes on with a character: p must hold of it, and the rest follows
+pub all_chars_more : (p : ℕ → Bool) (s : List ℕ) (code width : ℕ) → decoded_char s ≡ Char code width → all_chars p s ≡ (p code && all_chars p (drop width s))
+unfolding all_chars
+all_chars_more p s code width e =
+    let w = char_within s code width e in
+    turns p (length s) (suc (length s)) s (omega arith) (omega arith)
+    ∙ (chars-more p (length s) s code width (omega (arith, w.0, w.1)) e
+    ∙ ap (λ (t : Bool). p code && t) (turns p (length s) (length (drop width s)) (drop width s) (simp length-drop (omega arith)) (omega arith)))
+
+-- a text that goes on with no character has ended, or is none
+pub all_chars_end : (p : ℕ → Bool) (s : List ℕ) → decoded_char s ≡ Malformed → all_chars p s ≡ eqb (length s) 0
+unfolding all_chars chars_from
+all_chars_end p [] e = refl
+all_chars_end p (b ∷ s) e = rw (e, ne_eqb (length (b ∷ s)) 0 (omega arith)) refl

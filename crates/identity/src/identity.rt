@@ -41,7 +41,7 @@ pub const MAX_VOTER_INCARNATION: VoterIncarnation = 140737488355328;
 const NODE_ID_SPAN: ConsensusNodeId = 65536;
 
 // The scope of a configuration: its cluster, its digest and its epoch.
-#[derive(Clone, Copy)]
+#[derive(Clone, Copy, Default)]
 pub struct ConsensusIdentity {
     // Cluster identity digest.
     pub cluster_id: ConsensusClusterId,
@@ -53,7 +53,7 @@ pub struct ConsensusIdentity {
 
 // Incarnation-qualified identity, scoped by the enclosing installation id.
 #[repr(C)]
-#[derive(Clone, Copy, PartialEq, Eq)]
+#[derive(Clone, Copy, Default, PartialEq, Eq)]
 pub struct VoterSlotIdentity {
     // Stable ordinal assigned by the immutable installation manifest, 1 to 65,535.
     pub slot: SlotId,
@@ -104,7 +104,7 @@ pub fn is_configuration_epoch(value: ConsensusConfigurationEpoch) -> bool
 }
 
 // `ConsensusNodeId::new`: a node id is 1 to 2^63 - 1. An observation does not ask this: it refuses
-// ids from 2^63 on with 30, and compares 0, which the Rust's type can hold all the same.
+// ids from 2^63 on with 30, and compares 0, which the original's type can hold all the same.
 pub fn is_consensus_node_id(value: ConsensusNodeId) -> bool
     ensures { result ≡ is_consensus_node_id value }
 {
@@ -123,12 +123,11 @@ impl VoterSlotIdentity {
     }
 
     // Whether the slot and the incarnation are in their ranges. The slot is tested first.
+    #[tactic(auto, unfolding(crate::specs::Identity::validate_slot_id, crate::specs::Identity::validate_voter_incarnation, crate::specs::Identity::validate_voter_slot_identity))]
     pub fn validate(self) -> Answer
         ensures { result ≡ validate_voter_slot_identity self }
     {
-        if self.slot == 0 {
-            return Err(Refusal::InvalidSlot);
-        }
+        validate_slot_id(self.slot)?;
         validate_voter_incarnation(self.incarnation)
     }
 

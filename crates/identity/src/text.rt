@@ -37,10 +37,11 @@ pub enum Allowed {
     NoControlNoWhitespace,
 }
 
-// The part of a strict name that is being read.
+// The part of a strict name that is being read. By the library's `split` a part's bytes would be
+// passed twice, once in search of the slash after it and once to be judged.
 #[derive(Clone, Copy)]
 struct Part {
-    // Whether all was right so far.
+    // Whether all was right so far: a test, with no value that it would stand beside.
     good: bool,
     // Whether the part is the trust domain.
     in_domain: bool,
@@ -121,7 +122,8 @@ pub fn is_whitespace(code: u32) -> bool
     contains(&WHITE_SPACE, code)
 }
 
-// Whether the code point is in the list. No early exit, so that several are compared at once.
+// Whether the code point is in the list. No early exit, as the library's `contains` has one, so that
+// several are compared at once.
 #[tactic(auto, unfolding(crate::specs::Text::is_in))]
 fn contains(list: &[u32], code: u32) -> bool
     ensures { result ≡ is_in list.now code }
@@ -155,7 +157,7 @@ fn all_allowed(bytes: &[u8], rule: Allowed) -> bool
     all_chars(bytes, rule)
 }
 
-// The ASCII characters that the rule allows lie from here ..
+// The least ASCII character that the rule allows. It allows all of them from here to `last_ascii`.
 fn first_ascii(rule: Allowed) -> u8
     ensures { result ≡ first_ascii rule }
 {
@@ -166,7 +168,7 @@ fn first_ascii(rule: Allowed) -> u8
     }
 }
 
-// .. to here.
+// The greatest ASCII character that the rule allows.
 fn last_ascii(rule: Allowed) -> u8
     ensures { result ≡ last_ascii rule }
 {
@@ -177,7 +179,8 @@ fn last_ascii(rule: Allowed) -> u8
     }
 }
 
-// Whether every byte lies from low to high. No early exit, so that sixteen are compared at once.
+// Whether every byte lies from low to high. No early exit, as the library's `all` has one, so that
+// sixteen are compared at once.
 #[tactic(auto, using(crate::specs::TextLaws::all_more), unfolding(crate::specs::Text::every))]
 fn all_within(bytes: &[u8], low: u8, high: u8) -> bool
     ensures { result ≡ every (within (octets low high)) bytes.now }
@@ -189,21 +192,21 @@ fn all_within(bytes: &[u8], low: u8, high: u8) -> bool
     all
 }
 
-// The same, character by character.
+// The same, character by character. Each takes from one to four bytes, so that no range of places
+// and no iterator of the library goes from one to the next.
+#[tactic(auto, using(crate::specs::TextLaws::refused_char, crate::specs::TextLaws::allowed_char, crate::specs::Utf8Laws::all_chars_end, crate::specs::Utf8Laws::char_within))]
 fn all_chars(bytes: &[u8], rule: Allowed) -> bool
     ensures { result ≡ all_chars (allows rule) bytes.now }
 {
-    let mut at = 0;
-    while at < bytes.len() {
-        let Some((code, width)) = decode(&bytes[at..]) else {
-            return false;
-        };
+    let mut rest = bytes;
+    while let Some((code, width)) = decode(rest) {
         if !is_allowed(rule, code) {
             return false;
         }
-        at += width;
+        let (_, later) = rest.split_at(width);
+        rest = later;
     }
-    true
+    rest.is_empty()
 }
 
 // The trust domain and the segments after it, with slashes between them.

@@ -6,8 +6,8 @@ ghost use Rattle.identity.specs.Utf8.{octets, within, utf8_tail, led_by, decoded
 // The character at the front of bytes: its code point, and how many bytes it takes. There is none
 // for a wrong or a missing byte, an overlong form, a surrogate, or a code point above 10FFFF. The
 // first byte is judged by its range, which decides how many bytes there are and the bounds of the
-// second: an arm for each alternative of RFC 3629's grammar. The narrower bounds shut out overlong forms (after E0 and F0), surrogates (ED) and what
-// is above 10FFFF (F4).
+// second: an arm for each alternative of RFC 3629's grammar. The narrower bounds shut out overlong
+// forms (after E0 and F0), surrogates (ED) and what is above 10FFFF (F4).
 pub fn decode(bytes: &[u8]) -> Option<(u32, usize)>
     ensures { result ≡ decoded_char bytes.now }
 {
@@ -45,6 +45,10 @@ fn is_tail(b: u8) -> bool
 
 // The bits of a byte that belong to the code point are taken by a remainder: of the lead of two,
 // three or four bytes the low five, four or three, and of each byte after it the low six.
+//
+// There is a function for each count of bytes, since each has its own bits of the lead, its own bounds
+// and its own sum: one for all counts would be a loop with three cases in it, and read less like
+// RFC 3629.
 
 // The lead of two bytes was read.
 fn decode_two(bytes: &[u8]) -> Option<(u32, usize)>

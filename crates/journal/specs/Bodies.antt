@@ -1,7 +1,7 @@
 -- What the readers of bodies answer, as what the body asks.
 -- From document 01, section "Replay program", by way of Records and Replay.
 -- Assumes nothing.
-use Rattle.std.specs.Prelude.{ℕ, List, take, drop, Option, Some, None, Result, Ok, Err}
+use Rattle.std.specs.Prelude.{ℕ, List, Option, Some, None, Result, Ok, Err}
 use Rattle.identity.specs.Answer.{number_of_refusal}
 use Rattle.identity.specs.declared.answer.Refusal.{Refusal}
 use Rattle.format.specs.Copy.{zeros}
@@ -13,7 +13,7 @@ use Rattle.control.specs.declared.control.VoterAdvance.{VoterAdvance}
 use Rattle.control.specs.declared.control.VoterReplacementStep.{VoterReplacementStep}
 use Rattle.journal.specs.declared.bodies.BeginHead.{BeginHead}
 use Rattle.journal.specs.declared.bodies.MarkerBody.{MarkerBody}
-use Rattle.journal.specs.declared.observation.ObservationRead.{ObservationRead}
+use Rattle.control.specs.declared.sets.VoterObservation.{VoterObservation}
 use Rattle.journal.specs.Records.{BeginBody}
 use Rattle.journal.specs.Replay.{Asking, advance_control, attested, begin_asked, begin_control, marker_asked}
 use Rattle.journal.specs.Replay.Asked.{command, observation}
@@ -72,8 +72,7 @@ begin_asking (Some (Ok b)) = asks (command (begin_control b.request) b.cut)
 begin_asking (Some (Err e)) = refused (number_of_refusal e)
 begin_asking None = bad
 
--- an OB: the ids of the sets stand at the front of one array, the nodes after them, and the counts
--- of the sets at the front of another
-abbrev pub observation_asking : Option ObservationRead → (ids counts : List ℕ) → Asking
-observation_asking (Some r) ids counts = asks (observation (take r.ids ids) (take r.sets counts) (take r.nodes (drop r.ids ids)) r.cut)
-observation_asking None ids counts = bad
+-- an OB: the ids of the sets, the counts of the sets, and the nodes
+abbrev pub observation_asking : Option VoterObservation → Asking
+observation_asking (Some o) = asks (observation o.sets.now o.counts.now o.nodes.now o.cut)
+observation_asking None = bad

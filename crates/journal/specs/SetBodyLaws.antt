@@ -1,7 +1,7 @@
 -- Laws of the sets and the nodes of an observation: one id more, one set more, what refuses the
 -- reading, and what the whole body asks.
 -- Assumes nothing.
-use Rattle.std.specs.Prelude.{ℕ, ◌+◌, ◌≤◌, ◌<◌, ◌≡◌, Bool, length, take, drop, set, eqb, leb, Ok}
+use Rattle.std.specs.Prelude.{ℕ, ◌+◌, ◌*◌, ◌≤◌, ◌<◌, ◌≡◌, Bool, length, take, drop, set, eqb, leb, Ok}
 use native.Mathlib.Omega.{arith}
 use Rattle.std.proofs.Common.{add-one, ap₂, ◌∙◌, length-take-le, take-add, take-suc-set, leb-true, leb-false, length-set}
 use Rattle.std.proofs.Math.Path.{refl, sym, ap}
@@ -220,6 +220,10 @@ module _ (body : List ℕ) where
       observation_setless e = refused_at (cut_first ∙ then_sets ∙ ap (λ x. then_read x with_sets) (sym e))
 
       module _ {held : ℕ} (t ids counts : List ℕ) (so : SetsSo s t count held ids counts) where
+        -- the ids of the sets take eight bytes each, of those before the nodes
+        pub held_within : 8 * held + length t ≤ length body
+        held_within = omega (arith, so.few, reads_on log_id body r c, reads_on (uint 1) r s n)
+
         then_nodes : then_read (reads log_id body) after_cut ≡ with_sets so.sets t
         then_nodes = cut_first ∙ then_sets ∙ ap (λ x. then_read x with_sets) so.is
 

@@ -17,10 +17,10 @@ use identity::identity::*;
 use identity::text::MAX_VOTER_SNAPSHOT_ID_BYTES;
 use layout::parts::member_of;
 use reader::reader::Reader;
-use records::blank::*;
 use records::records::*;
 
-// Bytes with their size before them. The size has 16 bits, and none is too large here.
+// Bytes with their size before them. The size has 16 bits, and none is too large here, where
+// `sized_bytes` of `Reader` has a bound and the laws of a form that is refused above it.
 #[tactic(auto, using(format::specs::Reads::reads_two), unfolding(crate::specs::Records::sized_bytes))]
 pub fn sized_bytes<'a>(input: &mut Reader<'a>) -> Result<&'a [u8], Refusal>
     ensures { told_bytes result input.new.bytes.now ≡ reads sized_bytes input.old.bytes.now }
@@ -114,8 +114,8 @@ fn step_of(kind: u8) -> VoterReplacementStep
 {
     VoterReplacementStep {
         kind,
-        snapshot: blank_voter_snapshot_evidence(),
-        caught_up: blank_voter_slot_log_id(),
+        snapshot: VoterSnapshotEvidence::default(),
+        caught_up: VoterSlotLogId::default(),
     }
 }
 
@@ -193,7 +193,7 @@ pub struct BeginHead {
     pub candidate: VoterSlotMember,
 }
 
-// What stands before the attestation.
+// Reads what stands before the attestation.
 #[tactic(auto, using(format::specs::Reads::reads_four), unfolding(crate::specs::Records::begin_head))]
 fn begin_head(input: &mut Reader) -> Result<BeginHead, Refusal>
     ensures { told result input.new.bytes.now ≡ reads begin_head input.old.bytes.now }
@@ -207,7 +207,8 @@ fn begin_head(input: &mut Reader) -> Result<BeginHead, Refusal>
 }
 
 // The body of a BG, or none: it is not of that form, to its last byte. Of one that is, the
-// attestation's own reader says whether it is refused.
+// attestation's own reader says whether it is refused. (A `match` on what it says and no `map`, whose
+// closure would take a clause that says `begin_by` again.)
 #[tactic(auto, using(crate::specs::BodiesLaws::begin_read), unfolding(crate::specs::Replay::attested, crate::specs::Replay::begin_asked, crate::specs::Replay::begin_of, format::specs::Num::pick))]
 pub fn read_begin(body: &[u8]) -> Option<Result<VoterBegin, Refusal>>
     ensures { begin_asking result ≡ asking Bg body.now }

@@ -18,7 +18,8 @@ const MOST_DIGITS: usize = 20;
 pub const LONGEST_LINE: usize = 3 * MOST_DIGITS + 2 + 3 + 1;
 
 // Puts a line at a place of the buffer, which has room for the longest, and gives the place after
-// it.
+// it. It is not printed by `Display`: the contract says which bytes stand where in the buffer that is
+// lent. The buffer and the place are two parameters, as of `put_bytes`, to which they are passed on.
 pub fn put_line(
     out: &mut [u8],
     at: usize,

@@ -7,23 +7,10 @@ ghost use Rattle.journal.specs.Bodies.{observation_asking};
 ghost use Rattle.journal.specs.Replay.{asking};
 ghost use Rattle.journal.specs.SetBody.{LaidSet, LaidSets};
 
+use control::sets::VoterObservation;
 use identity::answer::Refusal;
+use identity::identity::ConsensusNodeId;
 use reader::reader::Reader;
-use records::records::VoterSlotLogId;
-
-// What a body of the form holds. The ids of the sets stand at the front of the lent ids, the nodes
-// after them, and the counts of the sets at the front of the lent counts.
-#[derive(Clone, Copy)]
-pub struct ObservationRead {
-    // Engine cut of the observation.
-    pub cut: VoterSlotLogId,
-    // How many ids the sets have together.
-    pub ids: usize,
-    // How many sets there are.
-    pub sets: usize,
-    // How many nodes there are.
-    pub nodes: usize,
-}
 
 // Room for the ids of any body: one of 65,535 bytes has at most 8,189 in its sets and nodes
 // together.
@@ -32,42 +19,53 @@ pub const MOST_IDS: usize = 8192;
 // Most sets: their count has 8 bits.
 pub const MOST_SETS: usize = 255;
 
-// Places for so many ids, and for the counts. Nobody reads what they hold at first.
-pub fn no_ids<const N: usize>() -> [u64; N] {
-    [0; N]
+// Room for the ids of a body, and for the counts of its sets: with no heap there is no `Vec` of sets.
+// Nobody reads what it holds at first.
+#[derive(Drop)]
+pub struct IdRoom<const N: usize> {
+    // The ids of the sets, and after them the nodes.
+    ids: [ConsensusNodeId; N],
+    // How many ids each set has.
+    counts: [usize; MOST_SETS],
 }
 
-pub fn no_counts() -> [usize; MOST_SETS] {
-    [0; MOST_SETS]
-}
+impl<const N: usize> IdRoom<N> {
+    pub fn new() -> IdRoom<N> {
+        IdRoom {
+            ids: [0; N],
+            counts: [0; MOST_SETS],
+        }
+    }
 
-// Reads a body into the lent arrays; none: it is not of the form, to its last byte. They have room
-// for all that it can hold, so that no test for it is needed: an id takes eight bytes of the body.
-#[tactic(auto, using(crate::specs::SetBodyLaws::observation_cutless, crate::specs::SetBodyLaws::observation_countless, crate::specs::SetBodyLaws::observation_setless, crate::specs::SetBodyLaws::observation_nodeless, crate::specs::SetBodyLaws::observation_end), unfolding(format::specs::Num::pick))]
-pub fn read_observation(
-    body: &[u8],
-    ids: &mut [u64],
-    counts: &mut [usize],
-) -> Option<ObservationRead>
-    requires { (length body.now ≤ 65535) × ((length body.now ≤ 8 * length ids.old) × (255 ≤ length counts.old)) }
-    ensures { (observation_asking result ids.new counts.new ≡ asking Ob body.now) × IfSome result (λ read. (8 * (read.ids + read.nodes) ≤ length body.now) × (read.sets ≤ 255)) }
-{
-    let mut input = Reader::new(body);
-    let cut = input.log_id().ok()?;
-    let sets = input.u8().ok()? as usize;
-    let held = lay_sets(&mut input, sets, ids, counts).ok()?;
-    let nodes = lay_set(&mut input, ids, held).ok()?;
-    input.finish().ok()?;
-    Some(ObservationRead {
-        cut,
-        ids: held,
-        sets,
-        nodes,
-    })
+    // Reads a body into the room; none: it is not of the form, to its last byte. There is room for all
+    // that it can hold, so that no test for it is needed: an id takes eight bytes of the body. That it
+    // has this room is a clause, since the room is made before a body is looked at.
+    #[tactic(auto, using(crate::specs::SetBodyLaws::observation_cutless, crate::specs::SetBodyLaws::observation_countless, crate::specs::SetBodyLaws::observation_setless, crate::specs::SetBodyLaws::observation_nodeless, crate::specs::SetBodyLaws::observation_end), unfolding(format::specs::Num::pick))]
+    pub fn read<'a>(&'a mut self, body: &[u8]) -> Option<VoterObservation<'a>>
+        requires { length body.now ≤ 8 * N }
+        ensures gives { observation_asking result ≡ asking Ob body.now }
+        ensures few { IfSome result (λ o. (8 * (length o.sets.now + length o.nodes.now) ≤ length body.now) × (length o.counts.now ≤ 255)) }
+    {
+        let mut input = Reader::new(body);
+        let cut = input.log_id().ok()?;
+        let sets = input.u8().ok()? as usize;
+        let held = lay_sets(&mut input, sets, &mut self.ids, &mut self.counts).ok()?;
+        let nodes = lay_set(&mut input, &mut self.ids, held).ok()?;
+        input.finish().ok()?;
+        let room: &'a IdRoom<N> = self;
+        let (front, nodes_on) = room.ids.split_at(held);
+        Some(VoterObservation {
+            sets: front,
+            counts: &room.counts[..sets],
+            nodes: &nodes_on[..nodes],
+            cut,
+        })
+    }
 }
 
 // So many sets: their ids one after another, the count of each, and how many ids they have
-// together.
+// together. The loop is by index, here and in `lay_set`: what it keeps is said of the first so many
+// counts or ids, and ids go on in the middle of their array.
 #[tactic(auto, using(crate::specs::SetBodyLaws::sets_start, crate::specs::SetBodyLaws::sets_more, crate::specs::SetBodyLaws::sets_refused))]
 fn lay_sets(
     input: &mut Reader,

@@ -10,7 +10,7 @@ ghost use Rattle.journal.specs.Replay.{opening};
 ghost use Rattle.journal.specs.RunHistory.{LineOfRun};
 
 use crate::line::{LONGEST_LINE, put_line};
-use crate::observation::{MOST_IDS, no_counts, no_ids};
+use crate::observation::{IdRoom, MOST_IDS};
 use crate::record::{Record, record_at};
 use crate::replay::Mark;
 use crate::step::*;
@@ -20,14 +20,14 @@ use control::judge::*;
 use control::make::*;
 use control::observe::{Observed, joint_table, learner_table, uniform_table};
 use identity::answer::{Answer, Refusal};
-use records::blank::blank_voter_slot_table;
 use records::records::VoterSlotTable;
 use records::validation::validate_table;
 
 // Where a log stands.
 #[derive(Clone, Copy)]
 pub struct Journal {
-    // There is a table.
+    // There is a table. No `Option` has both: a log with no table keeps the value that it was given, and
+    // a start that is refused gives its table back, as document 01 has it of every refused call.
     pub stands: bool,
     // How many records were read.
     pub count: u64,
@@ -37,7 +37,8 @@ pub struct Journal {
     pub table: VoterSlotTable,
 }
 
-// What was played. A start whose table is not valid is refused, and nothing is played.
+// What was played. A start whose table is not valid is refused, and nothing is played. The answer stands
+// beside the journal, and is no `Result`: a refused start gives its journal back, by document 01.
 #[derive(Clone, Copy)]
 pub struct Played {
     // Accepted, or why the start is refused.
@@ -77,11 +78,12 @@ struct Opened {
     table: VoterSlotTable,
 }
 
-// No table, and nothing read.
+// No table, and nothing read. It is a function and no `Default`, whose clause would be a definition of
+// the impl: this one names the definition `new_journal`.
 pub fn new_journal() -> Journal
     ensures { result ≡ new_journal }
 {
-    let table = blank_voter_slot_table();
+    let table = VoterSlotTable::default();
     Journal {
         stands: false,
         count: 0,
@@ -146,8 +148,7 @@ fn play_on(from: Opened, input: &[u8], last: bool, out: &mut [u8]) -> Opened
     requires { Safe input.now (length out.old) from × (from.stands ≡ true) }
     ensures { Goes input.now last from out.old result out.new × (result.place.turns ≡ 0) }
 {
-    let mut ids = no_ids::<MOST_IDS>();
-    let mut counts = no_counts();
+    let mut room = IdRoom::<MOST_IDS>::new();
     let mut place = from.place;
     let mut t = from.table;
     while 0 < place.turns {
@@ -157,7 +158,7 @@ fn play_on(from: Opened, input: &[u8], last: bool, out: &mut [u8]) -> Opened
             Mark::Mk => Called::Command(judge_marker_body(t, body)),
             Mark::Ad => Called::Command(judge_advance_body(t, body)),
             Mark::Bg => Called::Command(judge_begin_body(t, body)),
-            Mark::Ob => Called::Observation(judge_observation_body(t, body, &mut ids, &mut counts)),
+            Mark::Ob => Called::Observation(judge_observation_body(t, body, &mut room)),
             Mark::Tb | Mark::Unknown => Called::Command(Err(Refusal::BadRecord)),
         };
         match called {
@@ -200,13 +201,7 @@ fn put_turn(out: &mut [u8], place: Place, found: Record, answer: Answer, revisio
     ensures { PutTurn place found answer revision out.old out.new result }
 {
     if found.end == place.read {
-        return Place {
-            read: place.read,
-            written: place.written,
-            count: place.count,
-            turns: 0,
-            ended: place.ended,
-        };
+        return Place { turns: 0, ..place };
     }
     let mark = found.mark;
     let count = place.count + 1;

@@ -15,14 +15,16 @@ pub const HEAD: usize = 2 + 2;
 pub const MOST_BODY: usize = 65535;
 
 // What stands at a place of the bytes: a whole record, one that ends the reading, or none, which
-// takes no bytes.
+// takes no bytes. It is a `Record` too and no `Option`, as the definition `record_at` has it, so that one
+// loop plays what is found without asking first.
 #[derive(Clone, Copy)]
 pub struct Record {
     // The mark that is printed.
     pub mark: Mark,
-    // The mark by which it is played; of a record that is broken, none.
+    // The mark by which it is played. A record that is broken has `Unknown`, by whose arm it is a bad
+    // record.
     pub asks: Mark,
-    // Where its body begins, and where it ends.
+    // Where its body begins, and where it ends: the next record is looked for at the end.
     pub body: usize,
     pub end: usize,
     // The record ends the reading.

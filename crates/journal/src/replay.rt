@@ -5,7 +5,7 @@ ghost use Rattle.std.specs.Prelude.{◌≡◌};
 ghost use Rattle.journal.specs.Records.{is_known_mark, mark_of, mark_text};
 
 // The mark of a record, as its two bytes say; any other two are `Unknown`, and so is a mark that is
-// cut short.
+// cut short. `Unknown` is a mark and no `None`: it is printed, as ??.
 #[derive(Clone, Copy, PartialEq, Eq)]
 pub enum Mark {
     Tb,
@@ -49,7 +49,8 @@ impl Mark {
         !matches!(self, Mark::Unknown)
     }
 
-    // What is printed of a mark.
+    // What is printed of a mark. It is no `From`, since a mark is not turned into its two bytes: of an
+    // unknown one others are printed than were read.
     pub fn text(self) -> [u8; 2]
         ensures { result ≡ mark_text self }
     {

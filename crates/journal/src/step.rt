@@ -3,11 +3,11 @@
 // is a small value.
 //
 // Document 01, section "Replay program". No part of the original has it.
-ghost use Rattle.std.specs.Prelude.{◌+◌, ◌≤◌, ◌≡◌, length, take, drop};
+ghost use Rattle.std.specs.Prelude.{◌≤◌, ◌≡◌, length};
 ghost use Rattle.identity.specs.Answer.{Accepted};
 ghost use Rattle.records.specs.Validation.{validate};
 ghost use Rattle.control.specs.Verdicts.{verdict_of};
-ghost use Rattle.control.specs.ObserveSight.{verdict_of_observed, weighed};
+ghost use Rattle.control.specs.ObserveSight.{verdict_of_observed};
 ghost use Rattle.journal.specs.declared.replay.Mark.TheVariants.{Ad, Bg, Mk, Ob};
 ghost use Rattle.journal.specs.Replay.{asking};
 ghost use Rattle.journal.specs.Step.{HoldsAdvance, HoldsBegin, Makes, MakesCommand, MakesObservation, answer_of_called, is_changing, checked_call, command_verdict, cut_at, made_by, made_by_command, made_by_observation, numbered, observation_verdict};
@@ -21,9 +21,7 @@ use control::make::*;
 use control::observe::*;
 use control::representable::{is_representable_request, is_representable_step};
 use identity::answer::{Answer, Refusal};
-use identity::identity::ConsensusIdentity;
 use reader::reader::Reader;
-use records::blank::*;
 use records::evidence::is_valid_log_id;
 use records::records::{VoterSlotLogId, VoterSlotTable};
 
@@ -72,7 +70,13 @@ fn check_call(
     judged
 }
 
-// The judges of the bodies: 33 for one that is not of its form, and then as the calls. An MK;
+// The verdict of an MK's body: 33 where it is not of its form, and else as the call.
+//
+// That the table is valid is a clause, here and in the calls on these. A type of its own, which lends
+// the table, was tried: the judges of `control` take it by value, and copy what is lent. By the count of
+// instructions a marker then took 30 percent more, an advance 16, and a replacement 8. On a loaded
+// machine the rate of replacements of nine slots was 1.8 - 2.1 times the original's, where it had been
+// 2.2 - 2.8 times; the bar is 2. By value, as a field, the table is copied as well.
 #[tactic(auto, using(crate::proofs::StepLaws::marker_entry), unfolding(crate::specs::Step::command_verdict, crate::specs::Replay::marker_asked))]
 pub fn judge_marker_body(table: VoterSlotTable, body: &[u8]) -> Result<Judged, Refusal>
     requires { validate table ≡ Accepted }
@@ -87,7 +91,7 @@ pub fn judge_marker_body(table: VoterSlotTable, body: &[u8]) -> Result<Judged, R
     check_call(true, marker.cut, judged)
 }
 
-// an AD;
+// The verdict of an AD's body: 33 where it is not of its form, and else as the call.
 #[tactic(auto, using(crate::proofs::StepLaws::advance_entry), unfolding(crate::specs::Step::command_verdict))]
 pub fn judge_advance_body(table: VoterSlotTable, body: &[u8]) -> Result<Judged, Refusal>
     requires { validate table ≡ Accepted }
@@ -101,7 +105,8 @@ pub fn judge_advance_body(table: VoterSlotTable, body: &[u8]) -> Result<Judged, 
     check_call(fits, advance.cut, judged)
 }
 
-// a BG, with its attestation's own number before 30;
+// The verdict of a BG's body: 33 where it is not of its form, the number of its attestation's reader
+// where that refuses it, and else as the call.
 #[tactic(auto, using(crate::proofs::StepLaws::begin_entry), unfolding(crate::specs::Step::command_verdict))]
 pub fn judge_begin_body(table: VoterSlotTable, body: &[u8]) -> Result<Judged, Refusal>
     requires { validate table ≡ Accepted }
@@ -118,44 +123,27 @@ pub fn judge_begin_body(table: VoterSlotTable, body: &[u8]) -> Result<Judged, Re
     }
 }
 
-// an OB, whose ids and counts are read into the lent arrays.
+// The verdict of an OB's body, whose ids and counts are read into the room that is lent: 33 where it is
+// not of its form, and else as the call.
 #[tactic(auto, unfolding(crate::specs::Step::observation_verdict))]
 pub fn judge_observation_body(
     table: VoterSlotTable,
     body: &[u8],
-    ids: &mut [u64; MOST_IDS],
-    counts: &mut [usize; MOST_SETS],
+    room: &mut IdRoom<MOST_IDS>,
 ) -> Result<Observed, Refusal>
-    requires { (validate table ≡ Accepted) × (length body.now ≤ 65535) }
+    requires { length body.now ≤ 65535 }
     ensures { numbered (verdict_of_observed result) ≡ observation_verdict table (asking Ob body.now) }
 {
-    let Some(read) = read_observation(body, ids, counts) else {
-        return Err(Refusal::BadRecord);
-    };
-    weigh_read(table, read, ids, counts)
-}
-
-// What was read, from the front of the ids and of the counts.
-pub fn weigh_read(
-    table: VoterSlotTable,
-    read: ObservationRead,
-    ids: &[u64],
-    counts: &[usize],
-) -> Result<Observed, Refusal>
-    requires { (read.ids + read.nodes ≤ length ids.now) × (read.sets ≤ length counts.now) }
-    ensures { verdict_of_observed result ≡ weighed table (take read.ids ids.now) (take read.sets counts.now) (take read.nodes (drop read.ids ids.now)) read.cut }
-{
-    weigh(
-        table,
-        &ids[..read.ids],
-        &counts[..read.sets],
-        &ids[read.ids..read.ids + read.nodes],
-        read.cut,
-    )
+    let observation = room.read(body).ok_or(Refusal::BadRecord)?;
+    weigh(table, observation)
 }
 
 // The table after the record. Where the table that stands is to be changed, its owner chooses the
-// maker itself, as `play_on` does: what this returns is copied.
+// maker itself, by the same arms, as `play_on` does: what this returns is copied.
+//
+// That what was judged may be made (`Makes`) is a clause. It is a statement by the cases of `Called`, and
+// of such a one the ghost field of a struct of table, body and `Called` keeps only that there is a proof.
+// Each maker would have to take the proof out of it again.
 pub fn make_record(table: VoterSlotTable, body: &[u8], called: Called) -> VoterSlotTable
     requires { Makes table body.now called }
     ensures { result ≡ made_by table body.now called }
@@ -166,6 +154,7 @@ pub fn make_record(table: VoterSlotTable, body: &[u8], called: Called) -> VoterS
     }
 }
 
+// The table after a command: its maker is given the body that was judged, read again.
 #[tactic(auto, unfolding(crate::specs::Step::made_by_command))]
 fn make_command(
     table: VoterSlotTable,
@@ -186,6 +175,8 @@ fn make_command(
     }
 }
 
+// The table after an observation, of which its maker is given the cut. Its three arms are one maker
+// each, since each maker has a clause of its own (observe.rt).
 #[tactic(auto, unfolding(crate::specs::Step::made_by_observation))]
 fn make_observation(
     table: VoterSlotTable,
@@ -204,12 +195,17 @@ fn make_observation(
 }
 
 // ---- what a body that was judged holds, read again for a maker
+//
+// What was judged does not carry it: `Called` would need a case for each kind of body, with a value
+// of up to 5 KB that `play_on` and `make_record` take apart again, and a law for each. So a maker's
+// body is read from the bytes. What is returned of bytes that hold none is a default, which nobody
+// looks at.
 
 // The Advance.
 pub fn advance_in(body: &[u8]) -> VoterAdvance
     ensures { HoldsAdvance body.now result }
 {
-    read_advance(body).unwrap_or(blank_advance())
+    read_advance(body).unwrap_or_default()
 }
 
 // The Begin.
@@ -218,48 +214,17 @@ pub fn begin_in(body: &[u8]) -> VoterBegin
 {
     match read_begin(body) {
         Some(Ok(begin)) => begin,
-        _ => blank_begin(),
+        _ => VoterBegin::default(),
     }
 }
 
-// The cut that a body begins with.
+// The cut that a body begins with. The value in place of none is named: the law of this cut
+// (`cut_taken`) is of `unwrap_or`, which is given it.
 #[tactic(auto, using(crate::proofs::MakerLaws::cut_taken))]
 pub fn cut_in(body: &[u8]) -> VoterSlotLogId
     ensures { result ≡ cut_at body.now }
 {
     Reader::new(body)
         .log_id()
-        .unwrap_or(blank_voter_slot_log_id())
-}
-
-// What is made of no body: a judged one is of its form, so nobody looks at them.
-fn blank_advance() -> VoterAdvance {
-    VoterAdvance {
-        request_id: [0; 16],
-        request_digest: [0; 32],
-        step: VoterReplacementStep {
-            kind: RECORD_SNAPSHOT,
-            snapshot: blank_voter_snapshot_evidence(),
-            caught_up: blank_voter_slot_log_id(),
-        },
-        cut: blank_voter_slot_log_id(),
-    }
-}
-
-fn blank_begin() -> VoterBegin {
-    VoterBegin {
-        request: VoterReplacementRequest {
-            expected_revision: 0,
-            expected_configuration: ConsensusIdentity {
-                cluster_id: [0; 32],
-                configuration_id: [0; 32],
-                configuration_epoch: 0,
-            },
-            candidate: blank_voter_slot_member(),
-            attestation: blank_lost_voter_attestation_v1(),
-            supplied_request_digest: [0; 32],
-            supplied_configuration_id: [0; 32],
-        },
-        cut: blank_voter_slot_log_id(),
-    }
+        .unwrap_or(VoterSlotLogId::default())
 }

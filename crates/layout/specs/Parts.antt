@@ -4,7 +4,6 @@
 -- The order of the fields is that of codec.rs.
 -- Assumes nothing.
 use Rattle.std.specs.Prelude.{ℕ, ◌≤◌, Bool, List, replicate}
-use Rattle.format.specs.Copy.{zeros}
 use Rattle.identity.specs.declared.identity.VoterSlotIdentity.{VoterSlotIdentity}
 use Rattle.records.specs.Blank.{blank_voter_slot_member, blank_voter_slot_record}
 use Rattle.records.specs.declared.records.LostVoterAttestationV1.{LostVoterAttestationV1}

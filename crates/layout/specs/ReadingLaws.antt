@@ -1,13 +1,18 @@
 -- What reading the magic and a table leaves, one part after the other, and equality of bytes as the
 -- library has it: what the proofs of a `Reader` cite of single forms.
 -- Assumes nothing.
-use Rattle.std.specs.Prelude.{ℕ, ◌-◌, ◌≡◌, refl, Bool, ◌&&◌, List, [], ◌∷◌, drop, replicate, eqb}
-use Rattle.std.proofs.Common.{ap, ◌∙◌}
+use Rattle.std.specs.Prelude.{ℕ, ◌-◌, ◌≡◌, refl, Bool, ◌&&◌, List, [], ◌∷◌, drop, replicate, eqb, Result, Ok, Err}
+use Rattle.std.proofs.Common.{ap, ap₂, arith, sym, ◌∙◌}
+use Rattle.format.specs.Res.{Res, ok-count, no_ok}
+use Rattle.format.specs.Res.Res.{ok, no}
+use Rattle.identity.specs.Answer.{number_of_refusal}
+use Rattle.identity.specs.declared.answer.Refusal.{Refusal}
+use Rattle.layout.specs.Reading.{report, outcome}
 use Rattle.format.specs.Combinators.{dep, check}
 use Rattle.format.specs.Num.{uint, raw}
 use Rattle.format.specs.Copy.{drop-replicate, zeros}
 use Rattle.format.specs.Reads.{reads, then_read, made_read, tested_read, reads_via, reads_check, reads_two, reads_pair, fused, same_then, reads_four, then_three, then_four}
-use Rattle.records.specs.Equality.{eq_bytes, eq_list}
+use Rattle.records.specs.Equality.{eq_bytes}
 use Rattle.layout.specs.Layout.{magic, head_test, magic_and_version, table_head, slot_count, slots, replacement, table_front, table, max_attestation_bytes, attestation, claims, claims_request, claims_slot, claims_names, claims_end, spiffe_id, configuration, choice, evidence, change}
 use Rattle.layout.specs.Parts.{table_of, attestation_of, replacement_of, blank_voter_slot_records}
 use Rattle.format.specs.List.{opt}
@@ -74,6 +79,43 @@ reads_replacement bs =
     reads_four (uint 8) (λ a. boxed attestation max_attestation_bytes) (λ a. change) (λ a. evidence) _ _ _ bs
     ∙ same_then (reads (uint 8) bs) _ _ (λ x r. same_then (reads (boxed attestation max_attestation_bytes) r) _ _
     (λ a s. then_three configuration (λ a. configuration) (λ a. choice prepared uniform) _ _ _ s (λ c v. made_read (λ e. replacement_of x a c e) (reads evidence v))))
+
+-- ---- what an outcome tells of the reading, and the reading of its outcome
+--
+-- Nothing here cites these; docs named them, and they stand. An answer is a Result, whose refusal is one of
+-- Refusal.
+
+no_number : {A : Type 0} {j k : ℕ} → ◌≡◌ {A = Res A} (no j) (no k) → j ≡ k
+no_number e = cc
+
+ok-no : {A : Type 0} {a : A} {k m : ℕ} → ◌≡◌ {A = Res A} (ok a m) (no k) → ⊥
+ok-no e = let z : ◌≡◌ {A = ℕ} 0 1 = cc in omega arith
+
+module _ {A : Type 0} (blank : A) {v : A} {a : Result ℕ Refusal} where
+  -- it was read up to n
+  pub told : {n : ℕ} (x : Res A) → ◌≡◌ {A = Res (Unit {0}) × A} (report a, v) (outcome blank x) → a ≡ Ok n → x ≡ ok v n
+  unfolding outcome
+  told (ok b m) e f = ap₂ ok (sym (ap (λ p. p.1) e)) (ok-count (sym (ap (λ p. p.0) e) ∙ ap report f))
+  told (no k) e f = absurd (no_ok (sym (ap (λ p. p.0) e) ∙ ap report f))
+
+  -- it was refused
+  pub told-not : {k : Refusal} (x : Res A) → ◌≡◌ {A = Res (Unit {0}) × A} (report a, v) (outcome blank x) → a ≡ Err k → x ≡ no (number_of_refusal k)
+  unfolding outcome
+  told-not (ok b m) e f = absurd (ok-no (sym (ap (λ p. p.0) e) ∙ ap report f))
+  told-not (no k) e f = ap no (no_number (sym (ap (λ p. p.0) e) ∙ ap report f))
+
+-- the outcome of what was read, and of what was refused
+pub outcome-ok : {A : Type 0} (blank : A) {v : A} {n : ℕ} {x : Res A} → x ≡ ok v n → ◌≡◌ {A = Res (Unit {0}) × A} (ok tt n, v) (outcome blank x)
+unfolding outcome
+outcome-ok blank e = ap (outcome blank) (sym e)
+
+-- a refusal is passed on: the outcome of the refused part is that of the whole
+pub outcome-no : {A : Type 0} (blank : A) {k : ℕ} {x : Res A} {p : Res (Unit {0}) × A} → p ≡ outcome blank (no k) → x ≡ no k → p ≡ outcome blank x
+outcome-no blank e f = e ∙ ap (outcome blank) (sym f)
+
+-- what an answer that carries its value says of the reading
+pub got : {R A : Type 0} (f : R → Res A) {r q : R} {x : Res A} → f r ≡ x → r ≡ q → x ≡ f q
+got f e q = sym e ∙ ap f q
 
 -- ---- the parts of a blank place
 

@@ -7,10 +7,9 @@
 // crates/opc-consensus/src/voter_slots/records.rs and codec.rs of openpacketcore-sdk, commit
 // 717de332e7, Apache-2.0 (see NOTICE). Changed: the version is a number of 64 bits.
 ghost use Rattle.std.specs.Prelude.{◌≡◌};
-ghost use Rattle.layout.specs.Parts.{blank_voter_slot_members, member_of, result_of, evidence_of, early_cuts, late_cuts};
+ghost use Rattle.layout.specs.Parts.{member_of, result_of, evidence_of, early_cuts, late_cuts};
 
 use identity::identity::*;
-use records::blank::blank_voter_slot_member;
 use records::records::*;
 
 // What follows an identity in a member.
@@ -48,17 +47,19 @@ pub struct ThreeCuts {
 // Hard ceiling for one complete signed loss-attestation frame.
 pub const MAX_LOST_VOTER_ATTESTATION_BYTES: usize = 8192;
 
-// The version of a table and of an attestation.
+// The version of a table and of an attestation. It is a number and no enum: it is compared with bytes
+// that may hold any number, and there is no other version.
 pub const VERSION: u64 = 1;
 
-// The four groups of an attestation: which request,
+// The first of the four groups of an attestation: which request it is of. The records and the calls
+// have its two parts as fields of their own, as the original has.
 #[derive(Clone, Copy)]
 pub struct ClaimsRequest {
     pub request_id: ConsensusRequestId,
     pub request_digest: [u8; 32],
 }
 
-// of which slot and for which candidate,
+// The second group of an attestation: of which slot it is, and for which candidate.
 #[derive(Clone, Copy)]
 pub struct ClaimsSlot {
     pub cluster_instance: ConsensusClusterId,
@@ -67,7 +68,7 @@ pub struct ClaimsSlot {
     pub candidate_key_digest: [u8; 32],
 }
 
-// who is admitted, and by whom,
+// The third group of an attestation: who is admitted, and by whom.
 #[derive(Clone, Copy)]
 pub struct ClaimsNames {
     pub admission_generation: u64,
@@ -76,7 +77,7 @@ pub struct ClaimsNames {
     pub signing_key_digest: [u8; 32],
 }
 
-// and why and when; last the signature.
+// The last group of an attestation: why and when the candidate is admitted, and the signature.
 #[derive(Clone, Copy)]
 pub struct ClaimsEnd {
     pub reason: u8,
@@ -111,16 +112,10 @@ pub struct TableHead {
     pub configuration_epoch: ConsensusConfigurationEpoch,
 }
 
-// Nine blank places, which the reader of a configuration fills from the front.
-pub fn blank_voter_slot_members() -> [VoterSlotMember; MAX_FIXED_VOTER_SLOTS]
-    ensures { result ≡ blank_voter_slot_members }
-{
-    let blank = blank_voter_slot_member();
-    [blank; MAX_FIXED_VOTER_SLOTS]
-}
-
-// The records of their parts. Each has two parts or more, so these are functions and no `From`: a
-// member of its identity and its binding,
+// Three records are put together from their parts, here and in the two functions after it. Each has
+// two parts or more, so these are functions and no `From`.
+//
+// A member is its identity and its binding.
 pub fn member_of(identity: VoterSlotIdentity, binding: Binding) -> VoterSlotMember
     ensures { result ≡ member_of identity binding }
 {
@@ -134,7 +129,7 @@ pub fn member_of(identity: VoterSlotIdentity, binding: Binding) -> VoterSlotMemb
     }
 }
 
-// a receipt of its front and what follows,
+// A receipt is its front, its epoch, its kind and its terminal cut.
 pub fn result_of(
     head: ResultHead,
     configuration_epoch: ConsensusConfigurationEpoch,
@@ -156,8 +151,8 @@ pub fn result_of(
     }
 }
 
-// The records of their parts. Each has two parts or more, so these are functions and no `From`: a
-// member of its identity and its binding,
+// The evidence is its first cut, its snapshot and its other six cuts. The snapshot comes with the flag
+// beside it, as the record has them.
 pub fn evidence_of(
     prepare: VoterSlotLogId,
     has_snapshot: bool,
@@ -186,8 +181,8 @@ pub fn evidence_of(
     }
 }
 
-// The six cuts of the evidence, in two threes. They are no one function: each names three fields of
-// its own, and choosing by a flag would say the six names as well.
+// The first three of the six cuts that end the evidence. They and the last three are no one function:
+// each names three fields of its own, and choosing by a flag would say the six names as well.
 pub fn early_cuts(evidence: &VoterReplacementEvidence) -> ThreeCuts
     ensures { result ≡ early_cuts evidence.now }
 {
@@ -198,6 +193,7 @@ pub fn early_cuts(evidence: &VoterReplacementEvidence) -> ThreeCuts
     }
 }
 
+// The last three of the six cuts that end the evidence.
 pub fn late_cuts(evidence: &VoterReplacementEvidence) -> ThreeCuts
     ensures { result ≡ late_cuts evidence.now }
 {

@@ -6,7 +6,8 @@
 ghost use Rattle.std.specs.Prelude.{◌+◌, ◌≤◌, length};
 ghost use Rattle.format.specs.Put.{Put};
 
-// `bytes`
+// `bytes`. Buffer and place come one beside the other: `Writer`, which holds the two as one, is made of
+// this function.
 #[tactic(auto, using(format::specs::Put::copied_over))]
 pub fn put_bytes(buffer: &mut [u8], at: usize, bytes: &[u8]) -> usize
     requires { at + length bytes.now ≤ length buffer.old }

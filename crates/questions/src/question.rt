@@ -5,6 +5,7 @@ use std::fmt;
 #[derive(Clone, Copy, PartialEq, Eq)]
 pub struct Mark(pub [u8; 2]);
 
+// What is asked: a call of the port, and what its body holds (oracle/FORMAT.md).
 #[derive(Clone, Copy, PartialEq, Eq)]
 pub enum Question {
     Utf8,

@@ -3,6 +3,8 @@
 // The polynomial, its bits in reverse.
 const POLYNOMIAL: u32 = 0xEDB88320;
 
+// The checksum of the bytes, bit by bit: a table of 256 entries would be faster, and no test waits
+// for it.
 pub fn crc32(bytes: &[u8]) -> u32 {
     let mut crc = u32::MAX;
     for byte in bytes {

@@ -2,12 +2,16 @@
 ghost use Rattle.std.specs.Prelude.{◌≡◌, length, IfSome};
 
 // What is left to read of a body. Each field is read if it is whole; numbers are big-endian.
+//
+// It is no `Reader` of the crate reader, since no proof says what it reads: it is for the test
+// programs, and the port's own reader is what they test.
 #[derive(Clone, Copy)]
 pub struct Fields<'a> {
     pub left: &'a [u8],
 }
 
 impl<'a> Fields<'a> {
+    // The fields of a body, of which nothing is read yet.
     pub fn of(body: &'a [u8]) -> Fields<'a> {
         Fields { left: body }
     }
@@ -21,24 +25,30 @@ impl<'a> Fields<'a> {
         Some(part)
     }
 
+    // So many bytes, where the type says how many.
     pub fn array<const N: usize>(&mut self) -> Option<[u8; N]> {
         let (array, left) = self.left.split_first_chunk()?;
         self.left = left;
         Some(*array)
     }
 
+    // A number of one byte. There is a method for each width, since the library has no trait of all
+    // numbers.
     pub fn u8(&mut self) -> Option<u8> {
         Some(u8::from_be_bytes(self.array()?))
     }
 
+    // A number of two bytes.
     pub fn u16(&mut self) -> Option<u16> {
         Some(u16::from_be_bytes(self.array()?))
     }
 
+    // A number of four bytes.
     pub fn u32(&mut self) -> Option<u32> {
         Some(u32::from_be_bytes(self.array()?))
     }
 
+    // A number of eight bytes.
     pub fn u64(&mut self) -> Option<u64> {
         Some(u64::from_be_bytes(self.array()?))
     }

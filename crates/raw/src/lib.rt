@@ -4,5 +4,6 @@
 
 pub mod crc;
 pub mod fields;
+pub mod form;
+pub mod room;
 pub mod table;
-pub mod write;

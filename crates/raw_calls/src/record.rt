@@ -1,25 +1,23 @@
 // Commands and observations in the bodies of questions: the records that document 01 has in "Replay
 // program". Each reader gives none where a record's body is not of its form: a value that it gives
 // may still be one that the call refuses.
+//
+// The crate journal reads the same four bodies, by functions with a proof. These are the test
+// programs' own, so that a fault of one of the two shows as a difference from the original.
+//
+// The line at a reader lists the fields of what it reads, in their order, each with its size in bytes.
 ghost use Rattle.std.specs.Prelude.{◌≤◌, length, IfSome};
 
 use control::control::*;
+use control::sets::VoterObservation;
 use identity::identity::ConsensusIdentity;
 use identity::text::MAX_VOTER_SNAPSHOT_ID_BYTES;
 use raw::fields::Fields;
-use raw::table::{log_id, member};
-use records::blank::*;
+use raw::form::Raw;
 use records::records::*;
 
-// A command, and the cut at which it comes.
-#[derive(Clone, Copy)]
-pub struct CommandAt {
-    pub cut: VoterSlotLogId,
-    pub command: VoterSlotControl,
-}
-
-// cut 16, request_id 16, request_digest 32.
-pub fn marker_in(body: &[u8]) -> Option<CommandAt> {
+// A Marker: cut 16, request_id 16, request_digest 32.
+pub fn marker_in(body: &[u8]) -> Option<VoterCommand> {
     let mut fields = Fields::of(body);
     let marker = named(MARKER, &mut fields)?;
     fields.end()?;
@@ -27,46 +25,46 @@ pub fn marker_in(body: &[u8]) -> Option<CommandAt> {
 }
 
 // The front of a command that names its request.
-fn named(kind: u8, fields: &mut Fields) -> Option<CommandAt> {
-    Some(CommandAt {
-        cut: log_id(fields)?,
-        command: VoterSlotControl {
+fn named(kind: u8, fields: &mut Fields) -> Option<VoterCommand> {
+    Some(VoterCommand {
+        cut: Raw::read(fields)?,
+        control: VoterSlotControl {
             kind,
-            request: no_request(),
+            request: VoterReplacementRequest::default(),
             request_id: fields.array()?,
             request_digest: fields.array()?,
-            step: no_step(),
+            step: VoterReplacementStep::default(),
         },
     })
 }
 
-// cut 16, request_id 16, request_digest 32, step.
-pub fn advance_in(body: &[u8]) -> Option<CommandAt> {
+// An Advance: cut 16, request_id 16, request_digest 32, and the step.
+pub fn advance_in(body: &[u8]) -> Option<VoterCommand> {
     let mut fields = Fields::of(body);
     let mut advance = named(ADVANCE, &mut fields)?;
-    advance.command.step = step(&mut fields)?;
+    advance.control.step = step(&mut fields)?;
     fields.end()?;
     Some(advance)
 }
 
-// kind 1; of a snapshot the snapshot, of a caught-up mark its cut 16.
+// A step: kind 1; after that of a snapshot the snapshot, after that of a caught-up mark its cut 16.
 fn step(fields: &mut Fields) -> Option<VoterReplacementStep> {
     let kind = fields.u8()?;
-    let mut step = no_step();
+    let mut step = VoterReplacementStep::default();
     step.kind = kind;
     match kind {
         RECORD_SNAPSHOT => step.snapshot = snapshot(fields)?,
-        RECORD_CAUGHT_UP => step.caught_up = log_id(fields)?,
+        RECORD_CAUGHT_UP => step.caught_up = Raw::read(fields)?,
         _ if kind <= FINALIZE => {}
         _ => return None,
     }
     Some(step)
 }
 
-// cut 16, id with its size of 2, digest 32.
+// A snapshot: cut 16, the id with its size of 2 before it, digest 32.
 fn snapshot(fields: &mut Fields) -> Option<VoterSnapshotEvidence> {
     Some(VoterSnapshotEvidence {
-        cut: log_id(fields)?,
+        cut: Raw::read(fields)?,
         snapshot_id: snapshot_id(fields)?,
         digest: fields.array()?,
     })
@@ -75,17 +73,17 @@ fn snapshot(fields: &mut Fields) -> Option<VoterSnapshotEvidence> {
 // The id may be longer than its field: then the value has its length, and gets 30.
 fn snapshot_id(fields: &mut Fields) -> Option<SnapshotId> {
     let len = usize::from(fields.u16()?);
+    let part = fields.part(len)?;
+    let held = len.min(MAX_VOTER_SNAPSHOT_ID_BYTES);
     let mut bytes = [0; MAX_VOTER_SNAPSHOT_ID_BYTES];
-    for (to, from) in bytes.iter_mut().zip(fields.part(len)?) {
-        *to = *from;
-    }
+    bytes[..held].copy_from_slice(&part[..held]);
     Some(SnapshotId { len, bytes })
 }
 
 // A Begin whose attestation is not read yet: it has its own reader.
 #[derive(Clone, Copy)]
 pub struct Begin<'a> {
-    pub cut: VoterSlotLogId,
+    cut: VoterSlotLogId,
     expected_revision: u64,
     expected_configuration: ConsensusIdentity,
     candidate: VoterSlotMember,
@@ -94,15 +92,15 @@ pub struct Begin<'a> {
     supplied_configuration_id: [u8; 32],
 }
 
-// cut 16, expected_revision 8, expected_configuration 72, candidate 82, attestation with its size
-// of 2, supplied_request_digest 32, supplied_configuration_id 32.
+// A Begin: cut 16, expected_revision 8, expected_configuration 72, candidate 82, the attestation with
+// its size of 2 before it, supplied_request_digest 32, supplied_configuration_id 32.
 pub fn begin_in(body: &[u8]) -> Option<Begin<'_>> {
     let mut fields = Fields::of(body);
     let begin = Begin {
-        cut: log_id(&mut fields)?,
+        cut: Raw::read(&mut fields)?,
         expected_revision: fields.u64()?,
         expected_configuration: configuration(&mut fields)?,
-        candidate: member(&mut fields)?,
+        candidate: Raw::read(&mut fields)?,
         attestation: sized(&mut fields)?,
         supplied_request_digest: fields.array()?,
         supplied_configuration_id: fields.array()?,
@@ -117,6 +115,7 @@ fn sized<'a>(fields: &mut Fields<'a>) -> Option<&'a [u8]> {
     fields.part(size)
 }
 
+// The scope of a configuration: cluster_id 32, configuration_id 32, configuration_epoch 8.
 fn configuration(fields: &mut Fields) -> Option<ConsensusIdentity> {
     Some(ConsensusIdentity {
         cluster_id: fields.array()?,
@@ -127,81 +126,47 @@ fn configuration(fields: &mut Fields) -> Option<ConsensusIdentity> {
 
 impl Begin<'_> {
     // The command, with the attestation that its bytes hold.
-    pub fn command(self, attestation: LostVoterAttestationV1) -> VoterSlotControl {
-        VoterSlotControl {
-            kind: BEGIN,
-            request: VoterReplacementRequest {
-                expected_revision: self.expected_revision,
-                expected_configuration: self.expected_configuration,
-                candidate: self.candidate,
-                attestation,
-                supplied_request_digest: self.supplied_request_digest,
-                supplied_configuration_id: self.supplied_configuration_id,
+    pub fn command(self, attestation: LostVoterAttestationV1) -> VoterCommand {
+        VoterCommand {
+            control: VoterSlotControl {
+                kind: BEGIN,
+                request: VoterReplacementRequest {
+                    expected_revision: self.expected_revision,
+                    expected_configuration: self.expected_configuration,
+                    candidate: self.candidate,
+                    attestation,
+                    supplied_request_digest: self.supplied_request_digest,
+                    supplied_configuration_id: self.supplied_configuration_id,
+                },
+                request_id: [0; 16],
+                request_digest: [0; 32],
+                step: VoterReplacementStep::default(),
             },
-            request_id: [0; 16],
-            request_digest: [0; 32],
-            step: no_step(),
+            cut: self.cut,
         }
     }
 }
 
-// The parts that a kind of command does not use.
-fn no_request() -> VoterReplacementRequest {
-    VoterReplacementRequest {
-        expected_revision: 0,
-        expected_configuration: ConsensusIdentity {
-            cluster_id: [0; 32],
-            configuration_id: [0; 32],
-            configuration_epoch: 0,
-        },
-        candidate: blank_voter_slot_member(),
-        attestation: blank_lost_voter_attestation_v1(),
-        supplied_request_digest: [0; 32],
-        supplied_configuration_id: [0; 32],
-    }
-}
-
-fn no_step() -> VoterReplacementStep {
-    VoterReplacementStep {
-        kind: 0,
-        snapshot: blank_voter_snapshot_evidence(),
-        caught_up: blank_voter_slot_log_id(),
-    }
-}
-
-// The sets of an observation, and after them its nodes.
-#[derive(Clone, Copy)]
-pub struct Observed {
-    pub cut: VoterSlotLogId,
-    // How many sets there are.
-    pub sets: usize,
-    // How many ids they have together.
-    pub ids: usize,
-    // How many nodes there are.
-    pub nodes: usize,
-}
-
-// cut 16, count of sets 1, the sets, the nodes. Lays the sets one after another into `ids`, with
-// the count of each, and the nodes, a set more.
-pub fn lay_observation(
-    ids: &mut [u64],
-    counts: &mut [usize],
-    nodes: &mut [u64],
+// An observation: cut 16, the count of sets 1, the sets, and the nodes, which are a set too. It lays the
+// sets one after another into `ids`, with the count of each in `counts`, and the nodes into `nodes`.
+pub fn observation_in<'a>(
+    ids: &'a mut [u64],
+    counts: &'a mut [usize],
+    nodes: &'a mut [u64],
     body: &[u8],
-) -> Option<Observed>
-    ensures { IfSome result (λ o. (o.ids ≤ length ids.new) × (o.sets ≤ length counts.new) × (o.nodes ≤ length nodes.new)) }
-{
+) -> Option<VoterObservation<'a>> {
     let mut fields = Fields::of(body);
-    let cut = log_id(&mut fields)?;
+    let cut = Raw::read(&mut fields)?;
     let sets = usize::from(fields.u8()?);
-    let ids = lay_sets(ids, counts.get_mut(..sets)?, &mut fields)?;
-    let nodes = lay_set(nodes, &mut fields)?;
+    let counts = counts.get_mut(..sets)?;
+    let in_sets = lay_sets(ids, counts, &mut fields)?;
+    let in_nodes = lay_set(nodes, &mut fields)?;
     fields.end()?;
-    Some(Observed {
+    Some(VoterObservation {
+        sets: ids.get(..in_sets)?,
+        counts,
+        nodes: nodes.get(..in_nodes)?,
         cut,
-        sets,
-        ids,
-        nodes,
     })
 }
 

@@ -4,20 +4,16 @@
 // 717de332e7, Apache-2.0 (see NOTICE). Changed: groups of fields that stand together have a reader
 // of their own (layout's parts.rt); lists fill a place of nine.
 ghost use Rattle.std.specs.Prelude.{◌≡◌, ◌≤◌, length, IfOk};
-ghost use Rattle.format.specs.List.{opt};
-ghost use Rattle.format.specs.Through.{whole, boxed};
+ghost use Rattle.format.specs.Through.{whole};
 ghost use Rattle.format.specs.Reads.{reads};
-ghost use Rattle.records.specs.Blank.{blank_voter_replacement_result, blank_voter_snapshot_evidence, blank_lost_voter_attestation_v1, blank_voter_replacement_record, blank_voter_slot_table};
-ghost use Rattle.layout.specs.Parts.{blank_voter_slot_members, blank_voter_slot_records};
-ghost use Rattle.layout.specs.Told.{told, told_at, told_whole_at};
-ghost use Rattle.layout.specs.Layout.{binding, member, members, configuration, result_head, replacement_result, slot_member, slot, slots, claims_request, claims_slot, claims_end, claims, attestation, snapshot, evidence, replacement, table_head, table};
+ghost use Rattle.records.specs.Blank.{blank_lost_voter_attestation_v1, blank_voter_replacement_record};
+ghost use Rattle.layout.specs.Told.{told, told_at, told_whole, told_whole_at};
+ghost use Rattle.layout.specs.Layout.{binding, member, configuration, result_head, replacement_result, slot_member, slot, claims_request, claims_slot, claims_end, claims, attestation, snapshot, evidence, replacement, table_head, table};
 
-use crate::reader::Reader;
+use crate::reader::{Decode, Reader};
 use identity::answer::Refusal;
 use layout::parts::*;
-use records::blank::{blank_voter_replacement_result, blank_voter_snapshot_evidence};
 use records::records::*;
-use records::validation::is_valid_attestation;
 
 impl<'a> Reader<'a> {
     // `binding`: what follows an identity.
@@ -32,44 +28,15 @@ impl<'a> Reader<'a> {
         })
     }
 
-    // A member of a configuration.
-    #[tactic(auto, using(format::specs::Reads::reads_two), unfolding(layout::specs::Layout::member))]
-    fn member(&mut self) -> Result<VoterSlotMember, Refusal>
-        ensures { told result self.new.bytes.now ≡ reads member self.old.bytes.now }
-    {
-        let identity = self.identity()?;
-        let binding = self.binding()?;
-        Ok(member_of(identity, binding))
-    }
-
-    // The first so many of the nine places, which are blank; the others stay so. `slots` is the same
-    // of slots: one function for both would take the reader of a place as a closure, with a clause
-    // of what each call of it leaves, and is no shorter.
-    #[tactic(auto, using(format::specs::ReadsMore::filled_none, format::specs::ReadsMore::padded_refused), unfolding(layout::specs::Layout::members, layout::specs::Parts::blank_voter_slot_members))]
-    fn members(
-        &mut self,
-        count: usize,
-        places: &mut [VoterSlotMember; MAX_FIXED_VOTER_SLOTS],
-    ) -> Result<(), Refusal>
-        requires few { count ≤ 9 }
-        requires blank { places.old ≡ blank_voter_slot_members }
-        ensures { told_at result places.new self.new.bytes.now ≡ reads (members count) self.old.bytes.now }
-    {
-        for i in 0..count {
-            places[i] = self.member()?;
-        }
-        Ok(())
-    }
-
     // `configuration`
-    #[tactic(auto, using(format::specs::Reads::reads_three), unfolding(layout::specs::Layout::configuration))]
+    #[tactic(auto, using(format::specs::Reads::reads_three), unfolding(layout::specs::Layout::configuration, layout::specs::Layout::members, layout::specs::Parts::blank_voter_slot_members))]
     fn configuration(&mut self) -> Result<VoterConfiguration, Refusal>
         ensures { told result self.new.bytes.now ≡ reads configuration self.old.bytes.now }
     {
         let epoch = self.epoch()?;
         let count = self.count()?;
-        let mut members = blank_voter_slot_members();
-        self.members(count, &mut members)?;
+        let mut members = [VoterSlotMember::default(); MAX_FIXED_VOTER_SLOTS];
+        self.fill(count, &mut members)?;
         Ok(VoterConfiguration {
             epoch,
             members,
@@ -90,29 +57,6 @@ impl<'a> Reader<'a> {
         })
     }
 
-    // A receipt.
-    #[tactic(auto, using(format::specs::Reads::reads_four), unfolding(layout::specs::Layout::replacement_result))]
-    fn replacement_result(&mut self) -> Result<VoterReplacementResult, Refusal>
-        ensures { told result self.new.bytes.now ≡ reads replacement_result self.old.bytes.now }
-    {
-        let head = self.result_head()?;
-        let configuration_epoch = self.epoch()?;
-        let kind = self.choice(COMPLETED, SUPERSEDED)?;
-        let terminal = self.log_id()?;
-        Ok(result_of(head, configuration_epoch, kind, terminal))
-    }
-
-    // A receipt, or none.
-    #[tactic(auto, using(format::specs::Reads::reads_opt))]
-    fn optional_result(&mut self) -> Result<(bool, VoterReplacementResult), Refusal>
-        ensures { told result self.new.bytes.now ≡ reads (opt replacement_result blank_voter_replacement_result) self.old.bytes.now }
-    {
-        if !self.flag()? {
-            return Ok((false, blank_voter_replacement_result()));
-        }
-        Ok((true, self.replacement_result()?))
-    }
-
     // The front of a slot.
     #[tactic(auto, using(format::specs::Reads::reads_three), unfolding(layout::specs::Layout::slot_member))]
     fn slot_member(&mut self) -> Result<SlotMember, Refusal>
@@ -127,41 +71,7 @@ impl<'a> Reader<'a> {
         })
     }
 
-    // A slot.
-    #[tactic(auto, using(format::specs::Reads::reads_three), unfolding(layout::specs::Layout::slot))]
-    fn slot(&mut self) -> Result<VoterSlotRecord, Refusal>
-        ensures { told result self.new.bytes.now ≡ reads slot self.old.bytes.now }
-    {
-        let head = self.slot_member()?;
-        let phase = self.choice(PENDING, VOTING)?;
-        let (has_last_result, last_result) = self.optional_result()?;
-        Ok(VoterSlotRecord {
-            member: head.member,
-            retired_through: head.retired_through,
-            phase,
-            has_last_result,
-            last_result,
-        })
-    }
-
-    // The first so many of the nine places, which are blank; the others stay so.
-    #[tactic(auto, using(format::specs::ReadsMore::filled_none, format::specs::ReadsMore::padded_refused), unfolding(layout::specs::Layout::slots, layout::specs::Parts::blank_voter_slot_records))]
-    fn slots(
-        &mut self,
-        count: usize,
-        places: &mut [VoterSlotRecord; MAX_FIXED_VOTER_SLOTS],
-    ) -> Result<(), Refusal>
-        requires few { count ≤ 9 }
-        requires blank { places.old ≡ blank_voter_slot_records }
-        ensures { told_at result places.new self.new.bytes.now ≡ reads (slots count) self.old.bytes.now }
-    {
-        for i in 0..count {
-            places[i] = self.slot()?;
-        }
-        Ok(())
-    }
-
-    // The groups of an attestation.
+    // The version of an attestation and the first of its groups: which request it is of.
     #[tactic(auto, using(format::specs::Reads::reads_three), unfolding(layout::specs::Layout::claims_request))]
     fn claims_request(&mut self) -> Result<ClaimsRequest, Refusal>
         ensures { told result self.new.bytes.now ≡ reads claims_request self.old.bytes.now }
@@ -173,6 +83,7 @@ impl<'a> Reader<'a> {
         })
     }
 
+    // The second group of an attestation: of which slot it is, and for which candidate.
     #[tactic(auto, using(format::specs::Reads::reads_four), unfolding(layout::specs::Layout::claims_slot))]
     fn claims_slot(&mut self) -> Result<ClaimsSlot, Refusal>
         ensures { told result self.new.bytes.now ≡ reads claims_slot self.old.bytes.now }
@@ -185,6 +96,7 @@ impl<'a> Reader<'a> {
         })
     }
 
+    // The last group of an attestation: why and when the candidate is admitted, and the signature.
     #[tactic(auto, using(format::specs::Reads::reads_four), unfolding(layout::specs::Layout::claims_end))]
     fn claims_end(&mut self) -> Result<ClaimsEnd, Refusal>
         ensures { told result self.new.bytes.now ≡ reads claims_end self.old.bytes.now }
@@ -199,7 +111,7 @@ impl<'a> Reader<'a> {
 
     // The fields of an attestation, into a place that is blank; anything may come after them.
     #[tactic(auto, using(layout::specs::ReadingLaws::reads_claims, layout::specs::ReadingLaws::blank_candidate, layout::specs::ReadingLaws::blank_controller))]
-    pub fn attestation(&mut self, place: &mut LostVoterAttestationV1) -> Result<(), Refusal>
+    fn attestation(&mut self, place: &mut LostVoterAttestationV1) -> Result<(), Refusal>
         requires { place.old ≡ blank_lost_voter_attestation_v1 }
         ensures { told_at result place.new self.new.bytes.now ≡ reads claims self.old.bytes.now }
     {
@@ -235,58 +147,27 @@ impl<'a> Reader<'a> {
         Ok(())
     }
 
-    // `sized_bytes(MAX_LOST_VOTER_ATTESTATION_BYTES)`, and the attestation in them.
-    #[tactic(auto, using(format::specs::ReadsMore::reads_boxed), unfolding(layout::specs::Layout::sized))]
-    fn boxed_attestation(&mut self, place: &mut LostVoterAttestationV1) -> Result<(), Refusal>
-        requires { place.old ≡ blank_lost_voter_attestation_v1 }
-        ensures { told_at result place.new self.new.bytes.now ≡ reads (boxed attestation 8192) self.old.bytes.now }
-    {
-        read_whole_attestation(self.sized_bytes(MAX_LOST_VOTER_ATTESTATION_BYTES)?, place)
-    }
-
-    // The evidence of a snapshot.
-    #[tactic(auto, using(format::specs::Reads::reads_three), unfolding(layout::specs::Layout::snapshot))]
-    fn snapshot(&mut self) -> Result<VoterSnapshotEvidence, Refusal>
-        ensures { told result self.new.bytes.now ≡ reads snapshot self.old.bytes.now }
-    {
-        Ok(VoterSnapshotEvidence {
-            cut: self.log_id()?,
-            snapshot_id: self.snapshot_id()?,
-            digest: self.array()?,
-        })
-    }
-
-    // A snapshot, or none.
-    #[tactic(auto, using(format::specs::Reads::reads_opt))]
-    fn optional_snapshot(&mut self) -> Result<(bool, VoterSnapshotEvidence), Refusal>
-        ensures { told result self.new.bytes.now ≡ reads (opt snapshot blank_voter_snapshot_evidence) self.old.bytes.now }
-    {
-        if !self.flag()? {
-            return Ok((false, blank_voter_snapshot_evidence()));
-        }
-        Ok((true, self.snapshot()?))
-    }
-
     // The evidence of a replacement.
     #[tactic(auto, using(format::specs::Reads::reads_four), unfolding(layout::specs::Layout::evidence))]
     fn evidence(&mut self) -> Result<VoterReplacementEvidence, Refusal>
         ensures { told result self.new.bytes.now ≡ reads evidence self.old.bytes.now }
     {
         let prepare = self.log_id()?;
-        let (has_snapshot, snapshot) = self.optional_snapshot()?;
+        let (has_snapshot, snapshot) = self.optional(VoterSnapshotEvidence::default())?;
         let early = self.three_cuts()?;
         let late = self.three_cuts()?;
         Ok(evidence_of(prepare, has_snapshot, snapshot, early, late))
     }
 
     // An open request, into a place that is blank.
-    #[tactic(auto, using(layout::specs::ReadingLaws::reads_replacement, layout::specs::ReadingLaws::blank_attestation))]
+    #[tactic(auto, using(layout::specs::ReadingLaws::reads_replacement, layout::specs::ReadingLaws::blank_attestation, format::specs::ReadsMore::reads_boxed), unfolding(layout::specs::Layout::sized))]
     fn replacement(&mut self, place: &mut VoterReplacementRecord) -> Result<(), Refusal>
         requires { place.old ≡ blank_voter_replacement_record }
         ensures { told_at result place.new self.new.bytes.now ≡ reads replacement self.old.bytes.now }
     {
         place.expected_revision = self.u64()?;
-        self.boxed_attestation(&mut place.attestation)?;
+        let sized = self.sized_bytes(MAX_LOST_VOTER_ATTESTATION_BYTES)?;
+        fill_whole_attestation(sized, &mut place.attestation)?;
         place.predecessor = self.configuration()?;
         place.successor = self.configuration()?;
         place.phase = self.choice(PREPARED, UNIFORM)?;
@@ -307,14 +188,14 @@ impl<'a> Reader<'a> {
         })
     }
 
-    // The fields of a table, into a place that is blank; anything may come after them. The table is
-    // filled where it stands: a `Result` that has it would copy its 8 KB at each `?`.
-    #[tactic(auto, using(layout::specs::ReadingLaws::reads_table, format::specs::Reads::reads_opt, layout::specs::ReadingLaws::blank_slots, layout::specs::ReadingLaws::blank_replacement))]
+    // The fields of a table; anything may come after them. The table is filled where it stands: a
+    // `Result` that has it would copy its 8 KB at each `?`.
+    #[tactic(auto, using(layout::specs::ReadingLaws::reads_table, format::specs::Reads::reads_opt, layout::specs::ReadingLaws::blank_slots, layout::specs::ReadingLaws::blank_replacement), unfolding(layout::specs::Layout::slots, layout::specs::Parts::blank_voter_slot_records))]
     pub fn table(&mut self, place: &mut VoterSlotTable) -> Result<(), Refusal>
-        requires { place.old ≡ blank_voter_slot_table }
         ensures form { told_at result place.new self.new.bytes.now ≡ reads table self.old.bytes.now }
         ensures small { IfOk result (λ nothing. place.new.count ≤ 9) }
     {
+        *place = VoterSlotTable::default();
         self.magic_and_version()?;
         let head = self.table_head()?;
         let cluster_instance = head.cluster_instance;
@@ -325,7 +206,7 @@ impl<'a> Reader<'a> {
         place.configuration_epoch = head.configuration_epoch;
         let count = self.count()?;
         place.count = count;
-        self.slots(count, &mut place.slots)?;
+        self.fill(count, &mut place.slots)?;
         let is_open = self.flag()?;
         place.has_replacement = is_open;
         if !is_open {
@@ -335,10 +216,79 @@ impl<'a> Reader<'a> {
     }
 }
 
-// All of the bytes are one attestation, of the rule of validation.rs. It is read into a place that
-// is blank.
+// A member of a configuration.
+impl Decode for VoterSlotMember {
+    ghost form = { member };
+
+    #[tactic(auto, using(format::specs::Reads::reads_two), unfolding(layout::specs::Layout::member))]
+    fn decode(input: &mut Reader) -> Result<VoterSlotMember, Refusal> {
+        let identity = input.identity()?;
+        let binding = input.binding()?;
+        Ok(member_of(identity, binding))
+    }
+}
+
+// A receipt.
+impl Decode for VoterReplacementResult {
+    ghost form = { replacement_result };
+
+    #[tactic(auto, using(format::specs::Reads::reads_four), unfolding(layout::specs::Layout::replacement_result))]
+    fn decode(input: &mut Reader) -> Result<VoterReplacementResult, Refusal> {
+        let head = input.result_head()?;
+        let configuration_epoch = input.epoch()?;
+        let kind = input.choice(COMPLETED, SUPERSEDED)?;
+        let terminal = input.log_id()?;
+        Ok(result_of(head, configuration_epoch, kind, terminal))
+    }
+}
+
+// A slot.
+impl Decode for VoterSlotRecord {
+    ghost form = { slot };
+
+    #[tactic(auto, using(format::specs::Reads::reads_three), unfolding(layout::specs::Layout::slot))]
+    fn decode(input: &mut Reader) -> Result<VoterSlotRecord, Refusal> {
+        let head = input.slot_member()?;
+        let phase = input.choice(PENDING, VOTING)?;
+        let (has_last_result, last_result) = input.optional(VoterReplacementResult::default())?;
+        Ok(VoterSlotRecord {
+            member: head.member,
+            retired_through: head.retired_through,
+            phase,
+            has_last_result,
+            last_result,
+        })
+    }
+}
+
+// The evidence of a snapshot.
+impl Decode for VoterSnapshotEvidence {
+    ghost form = { snapshot };
+
+    #[tactic(auto, using(format::specs::Reads::reads_three), unfolding(layout::specs::Layout::snapshot))]
+    fn decode(input: &mut Reader) -> Result<VoterSnapshotEvidence, Refusal> {
+        Ok(VoterSnapshotEvidence {
+            cut: input.log_id()?,
+            snapshot_id: input.snapshot_id()?,
+            digest: input.array()?,
+        })
+    }
+}
+
+// All of the bytes are one attestation, of the rule of validation.rs. No code here calls it: it stays
+// for callers in Rust, since what this layer has promised stays promised.
+pub fn read_whole_attestation(bytes: &[u8]) -> Result<LostVoterAttestationV1, Refusal>
+    ensures { told_whole result (length bytes.now) ≡ whole attestation bytes.now }
+{
+    let mut attestation = LostVoterAttestationV1::default();
+    fill_whole_attestation(bytes, &mut attestation)?;
+    Ok(attestation)
+}
+
+// The same, into a place that the caller has blanked, as that of a table is: blanked once more here,
+// an attestation of short names would take a fifth longer to read.
 #[tactic(auto, using(format::specs::ReadsMore::reads_whole, format::specs::Reads::reads_check), unfolding(layout::specs::Layout::attestation, format::specs::Num::pick))]
-pub fn read_whole_attestation(
+pub fn fill_whole_attestation(
     bytes: &[u8],
     place: &mut LostVoterAttestationV1,
 ) -> Result<(), Refusal>
@@ -348,7 +298,7 @@ pub fn read_whole_attestation(
     let mut input = Reader::new(bytes);
     input.attestation(place)?;
     input.finish()?;
-    if !is_valid_attestation(*place) {
+    if !place.is_valid() {
         return Err(Refusal::InvalidRecord);
     }
     Ok(())

@@ -7,10 +7,12 @@
 //
 // Each method promises that its answer, with the bytes that are left after it, is what reading its
 // form leaves (`reads` of format's Reads.antt).
-ghost use Rattle.std.specs.Prelude.{◌≡◌, ◌≤◌, length, eqb, IfOk};
+ghost use Rattle.std.specs.Prelude.{◌≡◌, ◌≤◌, length, eqb, replicate, IfOk};
 ghost use Rattle.identity.specs.Answer.{Accepted, InvalidRecord};
 ghost use Rattle.format.specs.Num.{uint, raw, pick};
-ghost use Rattle.format.specs.List.{flag};
+ghost use Rattle.format.specs.Combinators.{Codec};
+ghost use Rattle.format.specs.List.{flag, opt};
+ghost use Rattle.format.specs.ReadsMore.{nine};
 ghost use Rattle.format.specs.Reads.{reads, made_read};
 ghost use Rattle.layout.specs.Told.{told, told_at, told_beside, told_bytes, told_sized};
 ghost use Rattle.format.specs.Copy.{zeros};
@@ -19,8 +21,9 @@ ghost use Rattle.layout.specs.Layout.{slot_id, incarnation, epoch, slot_count, c
 
 use identity::answer::Refusal;
 use identity::identity::*;
-use identity::text::{MAX_VOTER_SNAPSHOT_ID_BYTES, MAX_VOTER_SPIFFE_ID_BYTES, is_utf8};
+use identity::text::{MAX_VOTER_SNAPSHOT_ID_BYTES, is_utf8};
 use layout::parts::{ThreeCuts, Times, VERSION};
+use records::blank::Blank;
 use records::records::*;
 use records::validation::is_valid_count;
 
@@ -28,6 +31,15 @@ use records::validation::is_valid_count;
 #[derive(Clone, Copy)]
 pub struct Reader<'a> {
     bytes: &'a [u8],
+}
+
+// What is read by one call, from the front of what is left.
+pub trait Decode {
+    // Its form.
+    ghost form: { Codec Self };
+
+    fn decode(input: &mut Reader) -> Result<Self, Refusal>
+        ensures { told result input.new.bytes.now ≡ reads form input.old.bytes.now };
 }
 
 impl<'a> Reader<'a> {
@@ -63,7 +75,8 @@ impl<'a> Reader<'a> {
         Ok(*front)
     }
 
-    // `u8`
+    // `u8`. There is a method for each width, since the library has no trait of all numbers: each is
+    // made by its own `from_be_bytes`, and has a lemma of its own.
     #[tactic(auto, using(format::specs::Reads::reads_uint, format::specs::Reads::number_of_1))]
     pub fn u8(&mut self) -> Result<u8, Refusal>
         ensures { told result self.new.bytes.now ≡ reads (uint 1) self.old.bytes.now }
@@ -178,19 +191,44 @@ impl<'a> Reader<'a> {
         })
     }
 
-    // `optional(Reader::log_id)`. A method `optional` that takes the reader as a closure, as codec.rs
-    // has it, would ask for a clause of what each call of it leaves, and its three callers would be
-    // no shorter than they are: this, `optional_result` and `optional_snapshot`.
-    #[tactic(auto, using(format::specs::Reads::reads_via, format::specs::Reads::reads_opt), unfolding(layout::specs::Layout::optional_log_id, records::specs::Blank::blank_voter_slot_log_id))]
+    // `optional`: a part that may be absent, with the blank that stands for it then. It gives no
+    // `Option`: the records have the flag beside the value (document 01).
+    #[tactic(auto, using(format::specs::Reads::reads_opt))]
+    pub fn optional<T: Decode + Copy>(&mut self, blank: T) -> Result<(bool, T), Refusal>
+        ensures { told result self.new.bytes.now ≡ reads (opt T.form blank) self.old.bytes.now }
+    {
+        if !self.flag()? {
+            return Ok((false, blank));
+        }
+        Ok((true, T::decode(self)?))
+    }
+
+    // The first so many of the nine places, which are blank; the others stay so. It takes the count
+    // beside them: where the callers lent a part, `&mut places[..count]`, a proof had to be written by
+    // hand for each `?` and each return in them, that the part and the blanks behind it are the form's
+    // nine. The loop goes by the place, since its invariant (`Filled`) counts the places that are read.
+    #[tactic(auto, using(format::specs::ReadsMore::filled_none, format::specs::ReadsMore::padded_refused))]
+    pub fn fill<T: Decode + Blank + Copy>(
+        &mut self,
+        count: usize,
+        places: &mut [T; MAX_FIXED_VOTER_SLOTS],
+    ) -> Result<(), Refusal>
+        requires few { count ≤ 9 }
+        requires blank { places.old ≡ replicate 9 T.blank }
+        ensures { told_at result places.new self.new.bytes.now ≡ reads (nine T.form T.blank count) self.old.bytes.now }
+    {
+        for i in 0..count {
+            places[i] = T::decode(self)?;
+        }
+        Ok(())
+    }
+
+    // A cut, or none.
+    #[tactic(auto, using(format::specs::Reads::reads_via), unfolding(layout::specs::Layout::optional_log_id, records::specs::Blank::blank_voter_slot_log_id))]
     fn optional_log_id(&mut self) -> Result<OptionalLogId, Refusal>
         ensures { told result self.new.bytes.now ≡ reads optional_log_id self.old.bytes.now }
     {
-        let is_some = self.flag()?;
-        let cut = if is_some {
-            self.log_id()?
-        } else {
-            VoterSlotLogId { term: 0, index: 0 }
-        };
+        let (is_some, cut) = self.optional(VoterSlotLogId::default())?;
         Ok(OptionalLogId { is_some, cut })
     }
 
@@ -234,7 +272,7 @@ impl<'a> Reader<'a> {
 
     // `string`, into a place of zeros: how many bytes; zeros stay after them.
     #[tactic(auto, using(format::specs::Reads::reads_check, layout::specs::ReadingLaws::rest_of_zeros), unfolding(layout::specs::Layout::string, format::specs::Num::pick))]
-    pub fn string<const N: usize>(&mut self, place: &mut [u8; N]) -> Result<usize, Refusal>
+    fn string<const N: usize>(&mut self, place: &mut [u8; N]) -> Result<usize, Refusal>
         requires { place.old ≡ zeros N }
         ensures { told_beside result place.new self.new.bytes.now ≡ made_read (λ p. (p.0, placed N p)) (reads (string N) self.old.bytes.now) }
     {
@@ -249,7 +287,7 @@ impl<'a> Reader<'a> {
     // `identity_string`, into a place that is blank: returned, its 2 KB would be copied at each
     // step.
     #[tactic(auto, using(format::specs::Reads::reads_via, layout::specs::ReadingLaws::blank_bytes), unfolding(layout::specs::Layout::spiffe_id))]
-    pub fn spiffe_id(&mut self, place: &mut SpiffeId) -> Result<(), Refusal>
+    pub(crate) fn spiffe_id(&mut self, place: &mut SpiffeId) -> Result<(), Refusal>
         requires { place.old ≡ blank_spiffe_id }
         ensures { told_at result place.new self.new.bytes.now ≡ reads spiffe_id self.old.bytes.now }
     {
@@ -303,5 +341,13 @@ impl<'a> Reader<'a> {
             return Err(Refusal::InvalidRecord);
         }
         Ok(())
+    }
+}
+
+impl Decode for VoterSlotLogId {
+    ghost form = { log_id };
+
+    fn decode(input: &mut Reader) -> Result<VoterSlotLogId, Refusal> {
+        input.log_id()
     }
 }

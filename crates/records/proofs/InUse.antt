@@ -1,6 +1,7 @@
--- The slots in use, as the code has them, are those of the table, as Successor speaks of them.
+-- The slots in use, as the code has them, are those of the table, as Successor speaks of them; and
+-- what tests that the count is at most nine.
 -- Assumes nothing.
-use Rattle.std.proofs.Common.{ℕ, ◌+◌, ◌<◌, ◌≡◌, get_or, ◌∙◌, List, length, eqb, not, ap, refl, sym, arith}
+use Rattle.std.proofs.Common.{ℕ, ◌+◌, ◌<◌, ◌≤◌, ◌≡◌, get_or, ◌∙◌, List, length, eqb, not, true, ap, refl, sym, arith}
 use Rattle.std.proofs.lemmas.Grind.{common_steps}
 use Rattle.std.proofs.lemmas.List.Sums.{prefix_len-le-length}
 use Rattle.std.specs.List.{position, position_or_len}
@@ -8,6 +9,9 @@ use Rattle.std.specs.Option.{unwrap_or}
 use Rattle.records.specs.Records.{all_below, first_from, no_slot_record, slot_at, slot_in, slots_in_use}
 use Rattle.records.specs.RecordsLaws.{all_below-same, first-position, front-at}
 use Rattle.records.specs.Successor.{slot_index, slot_succeeds}
+use Rattle.records.specs.Validation.{valid_operation, valid_slots}
+use Rattle.records.specs.ValidationLaws.{count_small}
+use Rattle.records.specs.ValidParts.{configuration-holds, operation-holds, slots-hold}
 use Rattle.records.specs.declared.records.VoterSlotRecord.{VoterSlotRecord}
 use Rattle.records.specs.declared.records.VoterSlotTable.{VoterSlotTable}
 
@@ -44,3 +48,14 @@ slot_index_in_use t slot h = place-in-use t (slots_in_use t) refl h slot
 pub succession_in_use : (t old : VoterSlotTable) → length (slots_in_use t) ≡ t.count
     → all_below (λ i. slot_succeeds (slot_at t i) (slot_at old i)) t.count ≡ all_below (λ i. slot_succeeds (slot_in (slots_in_use t) i) (slot_at old i)) (length (slots_in_use t))
 succession_in_use t old h = sym (in-use-succeed t (slots_in_use t) refl h old)
+
+-- the slots of a table have few enough places, and so has the table of an open request
+pub slots_few : (t : VoterSlotTable) → valid_slots t ≡ true → t.count ≤ 9
+slots_few t h = count_small t.count (slots-hold t h).odd
+
+pub operation_few : (t : VoterSlotTable) → valid_operation t t.replacement ≡ true → t.count ≤ 9
+operation_few t h =
+    let o = operation-holds t t.replacement h in
+    let few = count_small t.replacement.predecessor.count (configuration-holds t.replacement.predecessor o.predecessor).odd in
+    let same = o.head.predecessor in
+    omega (arith, few, same)

@@ -125,347 +125,232 @@ pub same_voter_slot_identity-true : (a b : VoterSlotIdentity) → same_voter_slo
 unfolding same_voter_slot_identity
 same_voter_slot_identity-true a b h =
     let e = all-each _ h in
-    let e0 : a.slot ≡ b.slot = eqb-true _ _ e.0 in
-    let e1 : a.incarnation ≡ b.incarnation = eqb-true _ _ e.1.0 in
-    λ i. record { slot = e0 i; incarnation = e1 i }
+    λ i. record {
+      slot = eqb-true a.slot b.slot e.0 i;
+      incarnation = eqb-true a.incarnation b.incarnation e.1.0 i;
+    }
 
 pub same_voter_slot_identity-refl : (a : VoterSlotIdentity) → same_voter_slot_identity a a ≡ true
 unfolding all_true same_voter_slot_identity
-same_voter_slot_identity-refl a = rw (eqb_refl a.slot, eqb_refl a.incarnation)
+same_voter_slot_identity-refl a = simp (eqb_refl)
 
 pub same_spiffe_id-true : (a b : SpiffeId) → same_spiffe_id a b ≡ true → a ≡ b
 unfolding same_spiffe_id
 same_spiffe_id-true a b h =
     let e = all-each _ h in
-    let e0 : a.len ≡ b.len = eqb-true _ _ e.0 in
-    let e1 : a.bytes ≡ b.bytes = eq_bytes-true _ _ e.1.0 in
-    λ i. record { len = e0 i; bytes = e1 i }
+    λ i. record { len = eqb-true a.len b.len e.0 i; bytes = eq_bytes-true a.bytes b.bytes e.1.0 i }
 
 pub same_spiffe_id-refl : (a : SpiffeId) → same_spiffe_id a a ≡ true
 unfolding all_true same_spiffe_id
-same_spiffe_id-refl a = rw (eqb_refl a.len, eq_bytes-refl a.bytes)
+same_spiffe_id-refl a = simp (eqb_refl, eq_bytes-refl)
 
 pub same_snapshot_id-true : (a b : SnapshotId) → same_snapshot_id a b ≡ true → a ≡ b
 unfolding same_snapshot_id
 same_snapshot_id-true a b h =
     let e = all-each _ h in
-    let e0 : a.len ≡ b.len = eqb-true _ _ e.0 in
-    let e1 : a.bytes ≡ b.bytes = eq_bytes-true _ _ e.1.0 in
-    λ i. record { len = e0 i; bytes = e1 i }
+    λ i. record { len = eqb-true a.len b.len e.0 i; bytes = eq_bytes-true a.bytes b.bytes e.1.0 i }
 
 pub same_snapshot_id-refl : (a : SnapshotId) → same_snapshot_id a a ≡ true
 unfolding all_true same_snapshot_id
-same_snapshot_id-refl a = rw (eqb_refl a.len, eq_bytes-refl a.bytes)
+same_snapshot_id-refl a = simp (eqb_refl, eq_bytes-refl)
 
 pub same_voter_slot_log_id-true : (a b : VoterSlotLogId) → same_voter_slot_log_id a b ≡ true → a ≡ b
 unfolding same_voter_slot_log_id
 same_voter_slot_log_id-true a b h =
     let e = all-each _ h in
-    let e0 : a.term ≡ b.term = eqb-true _ _ e.0 in
-    let e1 : a.index ≡ b.index = eqb-true _ _ e.1.0 in
-    λ i. record { term = e0 i; index = e1 i }
+    λ i. record { term = eqb-true a.term b.term e.0 i; index = eqb-true a.index b.index e.1.0 i }
 
 pub same_voter_slot_log_id-refl : (a : VoterSlotLogId) → same_voter_slot_log_id a a ≡ true
 unfolding all_true same_voter_slot_log_id
-same_voter_slot_log_id-refl a = rw (eqb_refl a.term, eqb_refl a.index)
+same_voter_slot_log_id-refl a = simp (eqb_refl)
 
 pub same_optional_log_id-true : (a b : OptionalLogId) → same_optional_log_id a b ≡ true → a ≡ b
 unfolding same_optional_log_id
 same_optional_log_id-true a b h =
     let e = all-each _ h in
-    let e0 : a.is_some ≡ b.is_some = beq-true _ _ e.0 in
-    let e1 : a.cut ≡ b.cut = same_voter_slot_log_id-true _ _ e.1.0 in
-    λ i. record { is_some = e0 i; cut = e1 i }
+    λ i. record {
+      is_some = beq-true a.is_some b.is_some e.0 i;
+      cut = same_voter_slot_log_id-true a.cut b.cut e.1.0 i;
+    }
 
 pub same_optional_log_id-refl : (a : OptionalLogId) → same_optional_log_id a a ≡ true
 unfolding all_true same_optional_log_id
-same_optional_log_id-refl a = rw (beq-refl a.is_some, same_voter_slot_log_id-refl a.cut)
+same_optional_log_id-refl a = simp (beq-refl, same_voter_slot_log_id-refl)
 
 pub same_voter_slot_member-true : (a b : VoterSlotMember) → same_voter_slot_member a b ≡ true → a ≡ b
 unfolding same_voter_slot_member
 same_voter_slot_member-true a b h =
     let e = all-each _ h in
-    let e0 : a.identity ≡ b.identity = same_voter_slot_identity-true _ _ e.0 in
-    let e1 : a.key_digest ≡ b.key_digest = eq_bytes-true _ _ e.1.0 in
-    let e2 : a.descriptor_digest ≡ b.descriptor_digest = eq_bytes-true _ _ e.1.1.0 in
-    let e3 : a.admission_generation ≡ b.admission_generation = eqb-true _ _ e.1.1.1.0 in
-    λ i. record { identity = e0 i; key_digest = e1 i; descriptor_digest = e2 i; admission_generation = e3 i }
+    λ i. record {
+      identity = same_voter_slot_identity-true a.identity b.identity e.0 i;
+      key_digest = eq_bytes-true a.key_digest b.key_digest e.1.0 i;
+      descriptor_digest = eq_bytes-true a.descriptor_digest b.descriptor_digest e.1.1.0 i;
+      admission_generation = eqb-true a.admission_generation b.admission_generation e.1.1.1.0 i;
+    }
 
 pub same_voter_slot_member-refl : (a : VoterSlotMember) → same_voter_slot_member a a ≡ true
 unfolding all_true same_voter_slot_member
-same_voter_slot_member-refl a =
-    rw (
-      same_voter_slot_identity-refl a.identity,
-      eq_bytes-refl a.key_digest,
-      eq_bytes-refl a.descriptor_digest,
-      eqb_refl a.admission_generation,
-    )
+same_voter_slot_member-refl a = simp (same_voter_slot_identity-refl, eq_bytes-refl, eqb_refl)
 
 pub same_voter_replacement_result-true : (a b : VoterReplacementResult) → same_voter_replacement_result a b ≡ true → a ≡ b
 unfolding same_voter_replacement_result
 same_voter_replacement_result-true a b h =
     let e = all-each _ h in
-    let e0 : a.request_id ≡ b.request_id = eq_bytes-true _ _ e.0 in
-    let e1 : a.request_digest ≡ b.request_digest = eq_bytes-true _ _ e.1.0 in
-    let e2 : a.incarnation ≡ b.incarnation = eqb-true _ _ e.1.1.0 in
-    let e3 : a.revision ≡ b.revision = eqb-true _ _ e.1.1.1.0 in
-    let e4 : a.configuration_epoch ≡ b.configuration_epoch = eqb-true _ _ e.1.1.1.1.0 in
-    let e5 : a.kind ≡ b.kind = eqb-true _ _ e.1.1.1.1.1.0 in
-    let e6 : a.terminal ≡ b.terminal = same_voter_slot_log_id-true _ _ e.1.1.1.1.1.1.0 in
     λ i. record {
-      request_id = e0 i;
-      request_digest = e1 i;
-      incarnation = e2 i;
-      revision = e3 i;
-      configuration_epoch = e4 i;
-      kind = e5 i;
-      terminal = e6 i;
+      request_id = eq_bytes-true a.request_id b.request_id e.0 i;
+      request_digest = eq_bytes-true a.request_digest b.request_digest e.1.0 i;
+      incarnation = eqb-true a.incarnation b.incarnation e.1.1.0 i;
+      revision = eqb-true a.revision b.revision e.1.1.1.0 i;
+      configuration_epoch = eqb-true a.configuration_epoch b.configuration_epoch e.1.1.1.1.0 i;
+      kind = eqb-true a.kind b.kind e.1.1.1.1.1.0 i;
+      terminal = same_voter_slot_log_id-true a.terminal b.terminal e.1.1.1.1.1.1.0 i;
     }
 
 pub same_voter_replacement_result-refl : (a : VoterReplacementResult) → same_voter_replacement_result a a ≡ true
 unfolding all_true same_voter_replacement_result
-same_voter_replacement_result-refl a =
-    rw (
-      eq_bytes-refl a.request_id,
-      eq_bytes-refl a.request_digest,
-      eqb_refl a.incarnation,
-      eqb_refl a.revision,
-      eqb_refl a.configuration_epoch,
-      eqb_refl a.kind,
-      same_voter_slot_log_id-refl a.terminal,
-    )
+same_voter_replacement_result-refl a = simp (eq_bytes-refl, eqb_refl, same_voter_slot_log_id-refl)
 
 pub same_voter_slot_record-true : (a b : VoterSlotRecord) → same_voter_slot_record a b ≡ true → a ≡ b
 unfolding same_voter_slot_record
 same_voter_slot_record-true a b h =
     let e = all-each _ h in
-    let e0 : a.member ≡ b.member = same_voter_slot_member-true _ _ e.0 in
-    let e1 : a.retired_through ≡ b.retired_through = eqb-true _ _ e.1.0 in
-    let e2 : a.phase ≡ b.phase = eqb-true _ _ e.1.1.0 in
-    let e3 : a.has_last_result ≡ b.has_last_result = beq-true _ _ e.1.1.1.0 in
-    let e4 : a.last_result ≡ b.last_result = same_voter_replacement_result-true _ _ e.1.1.1.1.0 in
     λ i. record {
-      member = e0 i;
-      retired_through = e1 i;
-      phase = e2 i;
-      has_last_result = e3 i;
-      last_result = e4 i;
+      member = same_voter_slot_member-true a.member b.member e.0 i;
+      retired_through = eqb-true a.retired_through b.retired_through e.1.0 i;
+      phase = eqb-true a.phase b.phase e.1.1.0 i;
+      has_last_result = beq-true a.has_last_result b.has_last_result e.1.1.1.0 i;
+      last_result = same_voter_replacement_result-true a.last_result b.last_result e.1.1.1.1.0 i;
     }
 
 pub same_voter_slot_record-refl : (a : VoterSlotRecord) → same_voter_slot_record a a ≡ true
 unfolding all_true same_voter_slot_record
 same_voter_slot_record-refl a =
-    rw (
-      same_voter_slot_member-refl a.member,
-      eqb_refl a.retired_through,
-      eqb_refl a.phase,
-      beq-refl a.has_last_result,
-      same_voter_replacement_result-refl a.last_result,
-    )
+    simp (same_voter_slot_member-refl, eqb_refl, beq-refl, same_voter_replacement_result-refl)
 
 pub same_voter_snapshot_evidence-true : (a b : VoterSnapshotEvidence) → same_voter_snapshot_evidence a b ≡ true → a ≡ b
 unfolding same_voter_snapshot_evidence
 same_voter_snapshot_evidence-true a b h =
     let e = all-each _ h in
-    let e0 : a.cut ≡ b.cut = same_voter_slot_log_id-true _ _ e.0 in
-    let e1 : a.snapshot_id ≡ b.snapshot_id = same_snapshot_id-true _ _ e.1.0 in
-    let e2 : a.digest ≡ b.digest = eq_bytes-true _ _ e.1.1.0 in
-    λ i. record { cut = e0 i; snapshot_id = e1 i; digest = e2 i }
+    λ i. record {
+      cut = same_voter_slot_log_id-true a.cut b.cut e.0 i;
+      snapshot_id = same_snapshot_id-true a.snapshot_id b.snapshot_id e.1.0 i;
+      digest = eq_bytes-true a.digest b.digest e.1.1.0 i;
+    }
 
 pub same_voter_snapshot_evidence-refl : (a : VoterSnapshotEvidence) → same_voter_snapshot_evidence a a ≡ true
 unfolding all_true same_voter_snapshot_evidence
-same_voter_snapshot_evidence-refl a =
-    rw (same_voter_slot_log_id-refl a.cut, same_snapshot_id-refl a.snapshot_id, eq_bytes-refl a.digest)
+same_voter_snapshot_evidence-refl a = simp (same_voter_slot_log_id-refl, same_snapshot_id-refl, eq_bytes-refl)
 
 pub same_voter_configuration-true : (a b : VoterConfiguration) → same_voter_configuration a b ≡ true → a ≡ b
 unfolding same_voter_configuration
 same_voter_configuration-true a b h =
     let e = all-each _ h in
-    let e0 : a.epoch ≡ b.epoch = eqb-true _ _ e.0 in
-    let e1 : a.members ≡ b.members = eq_list-true same_voter_slot_member same_voter_slot_member-true _ _ e.1.0 in
-    let e2 : a.count ≡ b.count = eqb-true _ _ e.1.1.0 in
-    λ i. record { epoch = e0 i; members = e1 i; count = e2 i }
+    λ i. record {
+      epoch = eqb-true a.epoch b.epoch e.0 i;
+      members = eq_list-true same_voter_slot_member same_voter_slot_member-true a.members b.members e.1.0 i;
+      count = eqb-true a.count b.count e.1.1.0 i;
+    }
 
 pub same_voter_configuration-refl : (a : VoterConfiguration) → same_voter_configuration a a ≡ true
 unfolding all_true same_voter_configuration
 same_voter_configuration-refl a =
-    rw (
-      eqb_refl a.epoch,
-      eq_list-refl same_voter_slot_member same_voter_slot_member-refl a.members,
-      eqb_refl a.count,
-    )
+    simp (eqb_refl, eq_list-refl same_voter_slot_member same_voter_slot_member-refl)
 
 pub same_lost_voter_attestation_v1-true : (a b : LostVoterAttestationV1) → same_lost_voter_attestation_v1 a b ≡ true → a ≡ b
 unfolding same_lost_voter_attestation_v1
 same_lost_voter_attestation_v1-true a b h =
     let e = all-each _ h in
-    let e0 : a.request_id ≡ b.request_id = eq_bytes-true _ _ e.0 in
-    let e1 : a.request_digest ≡ b.request_digest = eq_bytes-true _ _ e.1.0 in
-    let e2 : a.cluster_instance ≡ b.cluster_instance = eq_bytes-true _ _ e.1.1.0 in
-    let e3 : a.slot ≡ b.slot = eqb-true _ _ e.1.1.1.0 in
-    let e4 : a.expected_incarnation ≡ b.expected_incarnation = eqb-true _ _ e.1.1.1.1.0 in
-    let e5 : a.old_descriptor_digest ≡ b.old_descriptor_digest = eq_bytes-true _ _ e.1.1.1.1.1.0 in
-    let e6 : a.candidate_key_digest ≡ b.candidate_key_digest = eq_bytes-true _ _ e.1.1.1.1.1.1.0 in
-    let e7 : a.admission_generation ≡ b.admission_generation = eqb-true _ _ e.1.1.1.1.1.1.1.0 in
-    let e8 : a.candidate_spiffe_id ≡ b.candidate_spiffe_id = same_spiffe_id-true _ _ e.1.1.1.1.1.1.1.1.0 in
-    let e9 : a.controller_spiffe_id ≡ b.controller_spiffe_id = same_spiffe_id-true _ _ e.1.1.1.1.1.1.1.1.1.0 in
-    let e10 : a.signing_key_digest ≡ b.signing_key_digest = eq_bytes-true _ _ e.1.1.1.1.1.1.1.1.1.1.0 in
-    let e11 : a.reason ≡ b.reason = eqb-true _ _ e.1.1.1.1.1.1.1.1.1.1.1.0 in
-    let e12 : a.policy_digest ≡ b.policy_digest = eq_bytes-true _ _ e.1.1.1.1.1.1.1.1.1.1.1.1.0 in
-    let e13 : a.observation_start_ms ≡ b.observation_start_ms = eqb-true _ _ e.1.1.1.1.1.1.1.1.1.1.1.1.1.0 in
-    let e14 : a.decision_ms ≡ b.decision_ms = eqb-true _ _ e.1.1.1.1.1.1.1.1.1.1.1.1.1.1.0 in
-    let e15 : a.issued_ms ≡ b.issued_ms = eqb-true _ _ e.1.1.1.1.1.1.1.1.1.1.1.1.1.1.1.0 in
-    let e16 : a.expires_ms ≡ b.expires_ms = eqb-true _ _ e.1.1.1.1.1.1.1.1.1.1.1.1.1.1.1.1.0 in
-    let e17 : a.signature ≡ b.signature = eq_bytes-true _ _ e.1.1.1.1.1.1.1.1.1.1.1.1.1.1.1.1.1.0 in
     λ i. record {
-      request_id = e0 i;
-      request_digest = e1 i;
-      cluster_instance = e2 i;
-      slot = e3 i;
-      expected_incarnation = e4 i;
-      old_descriptor_digest = e5 i;
-      candidate_key_digest = e6 i;
-      admission_generation = e7 i;
-      candidate_spiffe_id = e8 i;
-      controller_spiffe_id = e9 i;
-      signing_key_digest = e10 i;
-      reason = e11 i;
-      policy_digest = e12 i;
-      observation_start_ms = e13 i;
-      decision_ms = e14 i;
-      issued_ms = e15 i;
-      expires_ms = e16 i;
-      signature = e17 i;
+      request_id = eq_bytes-true a.request_id b.request_id e.0 i;
+      request_digest = eq_bytes-true a.request_digest b.request_digest e.1.0 i;
+      cluster_instance = eq_bytes-true a.cluster_instance b.cluster_instance e.1.1.0 i;
+      slot = eqb-true a.slot b.slot e.1.1.1.0 i;
+      expected_incarnation = eqb-true a.expected_incarnation b.expected_incarnation e.1.1.1.1.0 i;
+      old_descriptor_digest = eq_bytes-true a.old_descriptor_digest b.old_descriptor_digest e.1.1.1.1.1.0 i;
+      candidate_key_digest = eq_bytes-true a.candidate_key_digest b.candidate_key_digest e.1.1.1.1.1.1.0 i;
+      admission_generation = eqb-true a.admission_generation b.admission_generation e.1.1.1.1.1.1.1.0 i;
+      candidate_spiffe_id = same_spiffe_id-true a.candidate_spiffe_id b.candidate_spiffe_id e.1.1.1.1.1.1.1.1.0 i;
+      controller_spiffe_id = same_spiffe_id-true a.controller_spiffe_id b.controller_spiffe_id e.1.1.1.1.1.1.1.1.1.0 i;
+      signing_key_digest = eq_bytes-true a.signing_key_digest b.signing_key_digest e.1.1.1.1.1.1.1.1.1.1.0 i;
+      reason = eqb-true a.reason b.reason e.1.1.1.1.1.1.1.1.1.1.1.0 i;
+      policy_digest = eq_bytes-true a.policy_digest b.policy_digest e.1.1.1.1.1.1.1.1.1.1.1.1.0 i;
+      observation_start_ms = eqb-true a.observation_start_ms b.observation_start_ms e.1.1.1.1.1.1.1.1.1.1.1.1.1.0 i;
+      decision_ms = eqb-true a.decision_ms b.decision_ms e.1.1.1.1.1.1.1.1.1.1.1.1.1.1.0 i;
+      issued_ms = eqb-true a.issued_ms b.issued_ms e.1.1.1.1.1.1.1.1.1.1.1.1.1.1.1.0 i;
+      expires_ms = eqb-true a.expires_ms b.expires_ms e.1.1.1.1.1.1.1.1.1.1.1.1.1.1.1.1.0 i;
+      signature = eq_bytes-true a.signature b.signature e.1.1.1.1.1.1.1.1.1.1.1.1.1.1.1.1.1.0 i;
     }
 
 pub same_lost_voter_attestation_v1-refl : (a : LostVoterAttestationV1) → same_lost_voter_attestation_v1 a a ≡ true
 unfolding all_true same_lost_voter_attestation_v1
-same_lost_voter_attestation_v1-refl a =
-    rw (
-      eq_bytes-refl a.request_id,
-      eq_bytes-refl a.request_digest,
-      eq_bytes-refl a.cluster_instance,
-      eqb_refl a.slot,
-      eqb_refl a.expected_incarnation,
-      eq_bytes-refl a.old_descriptor_digest,
-      eq_bytes-refl a.candidate_key_digest,
-      eqb_refl a.admission_generation,
-      same_spiffe_id-refl a.candidate_spiffe_id,
-      same_spiffe_id-refl a.controller_spiffe_id,
-      eq_bytes-refl a.signing_key_digest,
-      eqb_refl a.reason,
-      eq_bytes-refl a.policy_digest,
-      eqb_refl a.observation_start_ms,
-      eqb_refl a.decision_ms,
-      eqb_refl a.issued_ms,
-      eqb_refl a.expires_ms,
-      eq_bytes-refl a.signature,
-    )
+same_lost_voter_attestation_v1-refl a = simp (eq_bytes-refl, eqb_refl, same_spiffe_id-refl)
 
 pub same_voter_replacement_evidence-true : (a b : VoterReplacementEvidence) → same_voter_replacement_evidence a b ≡ true → a ≡ b
 unfolding same_voter_replacement_evidence
 same_voter_replacement_evidence-true a b h =
     let e = all-each _ h in
-    let e0 : a.prepare ≡ b.prepare = same_voter_slot_log_id-true _ _ e.0 in
-    let e1 : a.has_snapshot ≡ b.has_snapshot = beq-true _ _ e.1.0 in
-    let e2 : a.snapshot ≡ b.snapshot = same_voter_snapshot_evidence-true _ _ e.1.1.0 in
-    let e3 : a.learner ≡ b.learner = same_optional_log_id-true _ _ e.1.1.1.0 in
-    let e4 : a.caught_up ≡ b.caught_up = same_optional_log_id-true _ _ e.1.1.1.1.0 in
-    let e5 : a.continuation ≡ b.continuation = same_optional_log_id-true _ _ e.1.1.1.1.1.0 in
-    let e6 : a.fence ≡ b.fence = same_optional_log_id-true _ _ e.1.1.1.1.1.1.0 in
-    let e7 : a.joint ≡ b.joint = same_optional_log_id-true _ _ e.1.1.1.1.1.1.1.0 in
-    let e8 : a.uniform ≡ b.uniform = same_optional_log_id-true _ _ e.1.1.1.1.1.1.1.1.0 in
     λ i. record {
-      prepare = e0 i;
-      has_snapshot = e1 i;
-      snapshot = e2 i;
-      learner = e3 i;
-      caught_up = e4 i;
-      continuation = e5 i;
-      fence = e6 i;
-      joint = e7 i;
-      uniform = e8 i;
+      prepare = same_voter_slot_log_id-true a.prepare b.prepare e.0 i;
+      has_snapshot = beq-true a.has_snapshot b.has_snapshot e.1.0 i;
+      snapshot = same_voter_snapshot_evidence-true a.snapshot b.snapshot e.1.1.0 i;
+      learner = same_optional_log_id-true a.learner b.learner e.1.1.1.0 i;
+      caught_up = same_optional_log_id-true a.caught_up b.caught_up e.1.1.1.1.0 i;
+      continuation = same_optional_log_id-true a.continuation b.continuation e.1.1.1.1.1.0 i;
+      fence = same_optional_log_id-true a.fence b.fence e.1.1.1.1.1.1.0 i;
+      joint = same_optional_log_id-true a.joint b.joint e.1.1.1.1.1.1.1.0 i;
+      uniform = same_optional_log_id-true a.uniform b.uniform e.1.1.1.1.1.1.1.1.0 i;
     }
 
 pub same_voter_replacement_evidence-refl : (a : VoterReplacementEvidence) → same_voter_replacement_evidence a a ≡ true
 unfolding all_true same_voter_replacement_evidence
 same_voter_replacement_evidence-refl a =
-    rw (
-      same_voter_slot_log_id-refl a.prepare,
-      beq-refl a.has_snapshot,
-      same_voter_snapshot_evidence-refl a.snapshot,
-      same_optional_log_id-refl a.learner,
-      same_optional_log_id-refl a.caught_up,
-      same_optional_log_id-refl a.continuation,
-      same_optional_log_id-refl a.fence,
-      same_optional_log_id-refl a.joint,
-      same_optional_log_id-refl a.uniform,
-    )
+    simp (same_voter_slot_log_id-refl, beq-refl, same_voter_snapshot_evidence-refl, same_optional_log_id-refl)
 
 pub same_voter_replacement_record-true : (a b : VoterReplacementRecord) → same_voter_replacement_record a b ≡ true → a ≡ b
 unfolding same_voter_replacement_record
 same_voter_replacement_record-true a b h =
     let e = all-each _ h in
-    let e0 : a.expected_revision ≡ b.expected_revision = eqb-true _ _ e.0 in
-    let e1 : a.attestation ≡ b.attestation = same_lost_voter_attestation_v1-true _ _ e.1.0 in
-    let e2 : a.predecessor ≡ b.predecessor = same_voter_configuration-true _ _ e.1.1.0 in
-    let e3 : a.successor ≡ b.successor = same_voter_configuration-true _ _ e.1.1.1.0 in
-    let e4 : a.phase ≡ b.phase = eqb-true _ _ e.1.1.1.1.0 in
-    let e5 : a.evidence ≡ b.evidence = same_voter_replacement_evidence-true _ _ e.1.1.1.1.1.0 in
     λ i. record {
-      expected_revision = e0 i;
-      attestation = e1 i;
-      predecessor = e2 i;
-      successor = e3 i;
-      phase = e4 i;
-      evidence = e5 i;
+      expected_revision = eqb-true a.expected_revision b.expected_revision e.0 i;
+      attestation = same_lost_voter_attestation_v1-true a.attestation b.attestation e.1.0 i;
+      predecessor = same_voter_configuration-true a.predecessor b.predecessor e.1.1.0 i;
+      successor = same_voter_configuration-true a.successor b.successor e.1.1.1.0 i;
+      phase = eqb-true a.phase b.phase e.1.1.1.1.0 i;
+      evidence = same_voter_replacement_evidence-true a.evidence b.evidence e.1.1.1.1.1.0 i;
     }
 
 pub same_voter_replacement_record-refl : (a : VoterReplacementRecord) → same_voter_replacement_record a a ≡ true
 unfolding all_true same_voter_replacement_record
 same_voter_replacement_record-refl a =
-    rw (
-      eqb_refl a.expected_revision,
-      same_lost_voter_attestation_v1-refl a.attestation,
-      same_voter_configuration-refl a.predecessor,
-      same_voter_configuration-refl a.successor,
-      eqb_refl a.phase,
-      same_voter_replacement_evidence-refl a.evidence,
+    simp (
+      eqb_refl,
+      same_lost_voter_attestation_v1-refl,
+      same_voter_configuration-refl,
+      same_voter_replacement_evidence-refl,
     )
 
 pub same_voter_slot_table-true : (a b : VoterSlotTable) → same_voter_slot_table a b ≡ true → a ≡ b
 unfolding same_voter_slot_table
 same_voter_slot_table-true a b h =
     let e = all-each _ h in
-    let e0 : a.cluster_instance ≡ b.cluster_instance = eq_bytes-true _ _ e.0 in
-    let e1 : a.manifest_digest ≡ b.manifest_digest = eq_bytes-true _ _ e.1.0 in
-    let e2 : a.revision ≡ b.revision = eqb-true _ _ e.1.1.0 in
-    let e3 : a.configuration_epoch ≡ b.configuration_epoch = eqb-true _ _ e.1.1.1.0 in
-    let e4 : a.slots ≡ b.slots = eq_list-true same_voter_slot_record same_voter_slot_record-true _ _ e.1.1.1.1.0 in
-    let e5 : a.count ≡ b.count = eqb-true _ _ e.1.1.1.1.1.0 in
-    let e6 : a.has_replacement ≡ b.has_replacement = beq-true _ _ e.1.1.1.1.1.1.0 in
-    let e7 : a.replacement ≡ b.replacement = same_voter_replacement_record-true _ _ e.1.1.1.1.1.1.1.0 in
     λ i. record {
-      cluster_instance = e0 i;
-      manifest_digest = e1 i;
-      revision = e2 i;
-      configuration_epoch = e3 i;
-      slots = e4 i;
-      count = e5 i;
-      has_replacement = e6 i;
-      replacement = e7 i;
+      cluster_instance = eq_bytes-true a.cluster_instance b.cluster_instance e.0 i;
+      manifest_digest = eq_bytes-true a.manifest_digest b.manifest_digest e.1.0 i;
+      revision = eqb-true a.revision b.revision e.1.1.0 i;
+      configuration_epoch = eqb-true a.configuration_epoch b.configuration_epoch e.1.1.1.0 i;
+      slots = eq_list-true same_voter_slot_record same_voter_slot_record-true a.slots b.slots e.1.1.1.1.0 i;
+      count = eqb-true a.count b.count e.1.1.1.1.1.0 i;
+      has_replacement = beq-true a.has_replacement b.has_replacement e.1.1.1.1.1.1.0 i;
+      replacement = same_voter_replacement_record-true a.replacement b.replacement e.1.1.1.1.1.1.1.0 i;
     }
 
 pub same_voter_slot_table-refl : (a : VoterSlotTable) → same_voter_slot_table a a ≡ true
 unfolding all_true same_voter_slot_table
 same_voter_slot_table-refl a =
-    rw (
-      eq_bytes-refl a.cluster_instance,
-      eq_bytes-refl a.manifest_digest,
-      eqb_refl a.revision,
-      eqb_refl a.configuration_epoch,
-      eq_list-refl same_voter_slot_record same_voter_slot_record-refl a.slots,
-      eqb_refl a.count,
-      beq-refl a.has_replacement,
-      same_voter_replacement_record-refl a.replacement,
+    simp (
+      eq_bytes-refl,
+      eqb_refl,
+      eq_list-refl same_voter_slot_record same_voter_slot_record-refl,
+      beq-refl,
+      same_voter_replacement_record-refl,
     )

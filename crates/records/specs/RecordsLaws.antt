@@ -4,12 +4,13 @@
 -- Assumes nothing.
 use Prim.Native.Nat.{ℕ, zero, suc, ◌+◌, ◌-◌, ◌<◌, ◌≤◌}
 use Rattle.std.specs.Prelude.{◌≡◌, refl, Bool, true, false, cond, not, ◌&&◌, ◌||◌, leb, eqb, List, [], ◌∷◌, length, get_or, take}
-use Rattle.std.proofs.Common.{ap, ◌∙◌, add-one, le-leb, eqb-true}
+use Rattle.std.proofs.Common.{ap, sym, ◌∙◌, true≢false, add-one, le-leb, eqb-true, length-take}
 use Rattle.std.proofs.Math.Bool.{and-true, and-eq-true_iff}
 use native.Mathlib.Omega.{arith}
 use Rattle.std.proofs.lemmas.Bool.{lt-leb, eqb-false}
 use Rattle.std.proofs.lemmas.List.{get_or-take}
-use Rattle.std.specs.List.{position_or_len}
+use Rattle.std.specs.List.{IsAllAdjacentAnswer, list_all, list_any, position_or_len}
+use Rattle.std.proofs.lemmas.List.Folds.{list_all_more}
 use Rattle.records.specs.Records.{all_below, first_from}
 
 -- one more place
@@ -51,21 +52,83 @@ pub all_below-eight : (p : ℕ → Bool) (n m : ℕ) → n - 1 ≤ m → all_bel
 all_below-eight p n m h =
     all_below-after p (λ i. leb n (i + 1) || p i) (n - 1) m h (λ i k. rw (lt-leb n (i + 1) (omega arith))) (λ i k. rw (le-leb n (i + 1) (omega arith)))
 
+-- what holds of each number below n holds of one
+at-or-below : (p : ℕ → Bool) (n i : ℕ) (t : Bool) → eqb i n ≡ t → i < suc n → (i < n → p i ≡ true) → p n ≡ true → p i ≡ true
+at-or-below p n i true e l f h = rw (eqb-true i n e) h
+at-or-below p n i false e l f h = let k = eqb-false i n e in f (omega arith)
+
+pub all_below-at : (p : ℕ → Bool) (n i : ℕ) → all_below p n ≡ true → i < n → p i ≡ true
+unfolding all_below
+all_below-at p zero i h l = absurd (omega arith)
+all_below-at p (suc n) i h l =
+    let e = (and-eq-true_iff (all_below p n) (p n)).0 h in
+    at-or-below p n i (eqb i n) refl l (λ k. all_below-at p n i e.0 k) e.1
+
+-- what holds of every number below n
+pub all_below-all : (p : ℕ → Bool) (n : ℕ) → ((i : ℕ) → i < n → p i ≡ true) → all_below p n ≡ true
+unfolding all_below
+all_below-all p zero h = refl
+all_below-all p (suc n) h = rw (all_below-all p n (λ i l. h i (omega arith)), h n (omega arith))
+
+-- what fails of one of them
+all_below-not : (p : ℕ → Bool) (n i : ℕ) → i < n → p i ≡ false → all_below p n ≡ false
+all_below-not p n i l f = by (all_below p n) refl
+  where
+    by : (b : Bool) → all_below p n ≡ b → all_below p n ≡ false
+    by true h = absurd (true≢false (sym (all_below-at p n i h l) ∙ f))
+    by false h = h
+
+-- ---- a test of each of the first n of a list, and of one of them
+
+all-front : {A : Type 0} (p : A → Bool) (d : A) (xs : List A) (n : ℕ) → n ≤ length xs
+    → list_all p (take n xs) ≡ all_below (λ i. p (get_or xs i d)) n
+unfolding all_below
+all-front p d xs zero h = refl
+all-front p d xs (suc n) h =
+    let e : suc n ≡ n + 1 = omega arith in
+    rw (e, list_all_more p xs n d (omega arith), all-front p d xs n (omega arith))
+
+any-all : {A : Type 0} (p : A → Bool) (xs : List A) → list_any p xs ≡ not (list_all (λ x. not (p x)) xs)
+any-all p [] = refl
+any-all p (x ∷ xs) = rw (any-all p xs) (by (p x))
+  where
+    by : (b : Bool) → (b || not (list_all (λ y. not (p y)) xs)) ≡ not (not b && list_all (λ y. not (p y)) xs)
+    by true = refl
+    by false = refl
+
 -- ---- the places in use: the first n of a list
 
 module _ {A : Type 0} (d : A) (xs ys : List A) (n : ℕ) (e : ys ≡ take n xs) (h : length ys ≡ n) where
   pub front-at : (i : ℕ) → i < n → get_or ys i d ≡ get_or xs i d
   front-at i l = ap (λ (zs : List A). get_or zs i d) e ∙ get_or-take n xs i d l
 
+  few : n ≤ length xs
+  few = let l = ap length e in omega (arith, h, l, length-take {A = A})
+
   -- a test of each
   pub front-each : (p : A → Bool) → all_below (λ i. p (get_or ys i d)) (length ys) ≡ all_below (λ i. p (get_or xs i d)) n
   front-each p = rw h (all_below-same _ _ n (λ i l. ap p (front-at i l)))
+
+  -- the same of a test of all, and of one that passes
+  pub front-all : (p : A → Bool) → list_all p ys ≡ all_below (λ i. p (get_or xs i d)) n
+  front-all p = ap (list_all p) e ∙ all-front p d xs n few
+
+  pub front-any : (p : A → Bool) → list_any p ys ≡ not (all_below (λ i. not (p (get_or xs i d))) n)
+  front-any p = any-all p ys ∙ ap not (front-all (λ x. not (p x)))
 
   -- a test of each with the next
   pub front-neighbours : (p : A → A → Bool)
       → all_below (λ i. p (get_or ys i d) (get_or ys (i + 1) d)) (length ys - 1) ≡ all_below (λ i. p (get_or xs i d) (get_or xs (i + 1) d)) (n - 1)
   front-neighbours p =
       rw h (all_below-same _ _ (n - 1) (λ i l. rw (front-at i (omega arith), front-at (i + 1) (omega arith))))
+
+  -- the same of lists that are sorted
+  pub front-sorted : (p : A → A → Bool) (t : Bool) → IsAllAdjacentAnswer (λ a b r. r ≡ p a b) ys t
+      → t ≡ all_below (λ i. p (get_or xs i d) (get_or xs (i + 1) d)) (n - 1)
+  front-sorted p true s =
+      sym (all_below-all (λ i. p (get_or ys i d) (get_or ys (i + 1) d)) (length ys - 1) (λ i l. sym (s i d (omega arith)))) ∙ front-neighbours p
+  front-sorted p false s =
+      sym (all_below-not (λ i. p (get_or ys i d) (get_or ys (i + 1) d)) (length ys - 1) s.0 (let l = s.1 in omega arith) (sym (s.2 d))) ∙ front-neighbours p
 
   -- a test of each with those before it
   pub front-before : (p : A → A → Bool)
@@ -89,24 +152,6 @@ module _ (p : ℕ → Bool) (n i : ℕ) where
   pub first-none : n ≤ i → first_from p (n - i) i ≡ i
   unfolding first_from
   first-none h = let e : n - i ≡ 0 = omega arith in rw e
-
--- what holds of each number below n holds of one
-at-or-below : (p : ℕ → Bool) (n i : ℕ) (t : Bool) → eqb i n ≡ t → i < suc n → (i < n → p i ≡ true) → p n ≡ true → p i ≡ true
-at-or-below p n i true e l f h = rw (eqb-true i n e) h
-at-or-below p n i false e l f h = let k = eqb-false i n e in f (omega arith)
-
-pub all_below-at : (p : ℕ → Bool) (n i : ℕ) → all_below p n ≡ true → i < n → p i ≡ true
-unfolding all_below
-all_below-at p zero i h l = absurd (omega arith)
-all_below-at p (suc n) i h l =
-    let e = (and-eq-true_iff (all_below p n) (p n)).0 h in
-    at-or-below p n i (eqb i n) refl l (λ k. all_below-at p n i e.0 k) e.1
-
--- what holds of every number below n
-pub all_below-all : (p : ℕ → Bool) (n : ℕ) → ((i : ℕ) → i < n → p i ≡ true) → all_below p n ≡ true
-unfolding all_below
-all_below-all p zero h = refl
-all_below-all p (suc n) h = rw (all_below-all p n (λ i l. h i (omega arith)), h n (omega arith))
 
 -- the first of the elements of a list
 pub first-position : {A : Type 0} (p : A → Bool) (d : A) (q : ℕ → Bool) (xs : List A) (i : ℕ)

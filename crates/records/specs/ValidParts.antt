@@ -386,7 +386,7 @@ module _ (t : VoterSlotTable) (op : VoterReplacementRecord) where
   head-valid h =
       passes head-is (lt-ltb _ _ h.some, (lt-ltb _ _ h.earlier, (h.cluster, (le-leb _ _ h.three, (eq-eqb _ _ h.predecessor, (eq-eqb _ _ h.successor, eq-eqb _ _ h.next))))))
 
-  operation-holds : valid_operation t op ≡ true → OperationHolds t op
+  pub operation-holds : valid_operation t op ≡ true → OperationHolds t op
   unfolding is_current_epoch
   operation-holds h =
       let e = says operation-is h in

@@ -11,15 +11,15 @@ use Rattle.records.specs.Equality.{eq_list, eq_bytes}
 use Rattle.records.specs.EqualityLaws.{eq_list-more}
 use Rattle.records.specs.Representable.{is_zero}
 
-zeros-same : (a : List ℕ) → eq_bytes a (replicate (length a) 0) ≡ every is_zero a
+-- of the answer of `are_blank`
+pub zeros_same : (a : List ℕ) → every is_zero a ≡ eq_bytes a (replicate (length a) 0)
 unfolding every
-zeros-same [] = refl
-zeros-same (x ∷ a) = ap (λ (t : Bool). is_zero x && t) (zeros-same a)
+zeros_same [] = refl
+zeros_same (x ∷ a) = ap (λ (t : Bool). is_zero x && t) (zeros_same a)
 
 pub eq_bytes-zeros : (a : List ℕ) (n : ℕ) → length a ≡ n → eq_bytes a (replicate n 0) ≡ every is_zero a
-eq_bytes-zeros a n h = ap (λ (k : ℕ). eq_bytes a (replicate k 0)) (sym h) ∙ zeros-same a
+eq_bytes-zeros a n h = ap (λ (k : ℕ). eq_bytes a (replicate k 0)) (sym h) ∙ sym (zeros_same a)
 
--- of the answer of `zeros`
 pub zeros-blank : (a : List ℕ) (n : ℕ) (t : Bool) → length a ≡ n → t ≡ every is_zero a → t ≡ eq_bytes a (replicate n 0)
 zeros-blank a n t h e = e ∙ sym (eq_bytes-zeros a n h)
 

@@ -18,7 +18,8 @@ pub fn is_valid_log_id(cut: VoterSlotLogId) -> bool
     (0 < cut.term) & (0 < cut.index)
 }
 
-// `VoterSlotLogId::follows`.
+// `VoterSlotLogId::follows`. It is no `PartialOrd`: it takes a third argument, whether equal cuts are
+// allowed, and of two cuts of one index neither follows the other where their terms differ.
 #[tactic(auto, unfolding(crate::specs::Equality::all_true, crate::specs::Equality::same_voter_slot_log_id, crate::specs::Evidence::follows))]
 pub fn log_id_follows(cut: VoterSlotLogId, older: VoterSlotLogId, allow_equal: bool) -> bool
     ensures { result ≡ follows cut older allow_equal }
@@ -38,7 +39,7 @@ impl VoterReplacementEvidence {
         if !is_valid_log_id(self.prepare) {
             return false;
         }
-        if self.has_snapshot && !is_valid_snapshot_id(self.snapshot.snapshot_id) {
+        if self.has_snapshot && !self.snapshot.snapshot_id.is_valid() {
             return false;
         }
         self.are_valid_stages(phase) & self.is_valid_continuation()
@@ -141,38 +142,6 @@ impl VoterReplacementEvidence {
     }
 }
 
-// `VoterReplacementEvidence::validate`.
-pub fn is_valid_evidence(evidence: VoterReplacementEvidence, phase: u8) -> bool
-    ensures { result ≡ valid_evidence evidence phase }
-{
-    evidence.is_valid(phase)
-}
-
-// The snapshot's cut, or none.
-pub fn snapshot_cut(evidence: VoterReplacementEvidence) -> OptionalLogId
-    ensures { result ≡ snapshot_cut evidence }
-{
-    evidence.snapshot_cut()
-}
-
-// `VoterReplacementEvidence::retains`.
-pub fn evidence_retains(
-    new: VoterReplacementEvidence,
-    old: VoterReplacementEvidence,
-    old_phase: u8,
-) -> bool
-    ensures { result ≡ retains new old old_phase }
-{
-    new.retains(&old, old_phase)
-}
-
-// `VoterReplacementEvidence::latest`.
-pub fn latest_cut(evidence: VoterReplacementEvidence) -> VoterSlotLogId
-    ensures { result ≡ latest evidence }
-{
-    evidence.latest()
-}
-
 impl OptionalLogId {
     // A stage is present exactly where it is due, and follows the one before it.
     #[tactic(auto, unfolding(crate::specs::Evidence::valid_stage))]
@@ -228,14 +197,16 @@ pub fn is_in_order(continuation: VoterSlotLogId, other: OptionalLogId, is_snapsh
     log_id_follows(cut, continuation, false)
 }
 
-// A length above the field is a no.
-pub fn is_valid_snapshot_id(id: SnapshotId) -> bool
-    ensures { result ≡ valid_snapshot_id id }
-{
-    if MAX_VOTER_SNAPSHOT_ID_BYTES < id.len {
-        return false;
+impl SnapshotId {
+    // Whether it is the id of a snapshot. A length above the field is a no.
+    pub fn is_valid(&self) -> bool
+        ensures { result ≡ valid_snapshot_id self.now }
+    {
+        if MAX_VOTER_SNAPSHOT_ID_BYTES < self.len {
+            return false;
+        }
+        is_snapshot_id(&self.bytes[..self.len])
     }
-    is_snapshot_id(&id.bytes[..id.len])
 }
 
 // The one of greater index, where the stage is present.

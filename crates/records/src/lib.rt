@@ -3,11 +3,10 @@
 #![tactic(auto)]
 
 pub mod blank;
-pub mod equality;
+pub mod blanks;
 pub mod evidence;
 pub mod number;
 pub mod records;
 pub mod representable;
 pub mod successor;
 pub mod validation;
-pub mod zero;

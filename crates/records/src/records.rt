@@ -4,6 +4,10 @@
 // 717de332e7, Apache-2.0 (see NOTICE). Changed: a `Vec` is nine places and a count, a `String` is
 // bytes and a length, an `Option` is a yes or no next to the record; what is after a count or a
 // length and what is absent is zero; enums that a table holds are numbers with names.
+//
+// Each of these is so since document 01 has it ("What must change shape"): there is no heap for a
+// `Vec` or a `String`, and a caller may hand in any count, length or number, and gets 30 where the
+// Rust types hold none such.
 ghost use Rattle.std.specs.Prelude.{◌≡◌, ◌≤◌, length};
 ghost use Rattle.records.specs.Records.{slots_in_use, members_in_use};
 
@@ -16,6 +20,8 @@ pub const MAX_FIXED_VOTER_SLOTS: usize = 9;
 // Fewest slots of a table with a replacement: fewer leave no surviving quorum.
 pub const MIN_REPLACEMENT_SLOTS: usize = 3;
 
+// Phases, kinds and reasons are numbers, and no enums: document 01 has a caller hand in any number.
+//
 // `VoterSlotPhase`: selected, but no learner membership has been committed.
 pub const PENDING: u8 = 0;
 
@@ -59,10 +65,15 @@ pub const STORAGE_LOST: u8 = 1;
 pub const TIME_BOUND_LOSS: u8 = 2;
 
 // The name of a controller or a candidate: so many bytes, zero after them.
+//
+// It and `SnapshotId` differ in their size alone. They are two structs, each with its own checks,
+// blank and bytes, since the definitions of specs/ name each (`blank_spiffe_id`,
+// `same_snapshot_id`, ..): with one struct of any size each of these would be a case of a more general
+// definition, and the original has two names for the two texts.
 #[repr(C)]
 #[derive(Clone, Copy, PartialEq, Eq)]
 pub struct SpiffeId {
-    // Bytes in use, at most 2,048.
+    // Bytes in use, at most 2,048: document 01 has a length beside the bytes.
     pub len: usize,
     // UTF-8, then zeros.
     pub bytes: [u8; MAX_VOTER_SPIFFE_ID_BYTES],
@@ -72,7 +83,7 @@ pub struct SpiffeId {
 #[repr(C)]
 #[derive(Clone, Copy, PartialEq, Eq)]
 pub struct SnapshotId {
-    // Bytes in use, at most 256.
+    // Bytes in use, at most 256: document 01 has a length beside the bytes.
     pub len: usize,
     // UTF-8, then zeros.
     pub bytes: [u8; MAX_VOTER_SNAPSHOT_ID_BYTES],
@@ -92,7 +103,7 @@ pub struct VoterSlotLogId {
 #[repr(C)]
 #[derive(Clone, Copy, PartialEq, Eq)]
 pub struct OptionalLogId {
-    // Whether the cut is present.
+    // Whether the cut is present: document 01 has a yes or no beside the value.
     pub is_some: bool,
     // The cut, or 0, 0.
     pub cut: VoterSlotLogId,
@@ -142,7 +153,7 @@ pub struct VoterSlotRecord {
     pub retired_through: u64,
     // Selected incarnation's replicated progress: `PENDING` to `VOTING`.
     pub phase: u8,
-    // Whether there is a last result.
+    // Whether there is a last result: document 01 has a yes or no beside the value.
     pub has_last_result: bool,
     // Most recent terminal request, replaced only with a later terminal result.
     pub last_result: VoterReplacementResult,
@@ -168,7 +179,7 @@ pub struct VoterConfiguration {
     pub epoch: ConsensusConfigurationEpoch,
     // Incarnation-qualified members and keys, one per immutable slot; blanks after the count.
     pub members: [VoterSlotMember; MAX_FIXED_VOTER_SLOTS],
-    // Members in use.
+    // Members in use: document 01 has a count beside the nine places.
     pub count: usize,
 }
 
@@ -220,7 +231,7 @@ pub struct LostVoterAttestationV1 {
 pub struct VoterReplacementEvidence {
     // Committed retirement and reservation cut.
     pub prepare: VoterSlotLogId,
-    // Whether there is a snapshot.
+    // Whether there is a snapshot: document 01 has a yes or no beside the value.
     pub has_snapshot: bool,
     // Initial installed snapshot's cut, at or after Prepare.
     pub snapshot: VoterSnapshotEvidence,
@@ -270,32 +281,34 @@ pub struct VoterSlotTable {
     pub configuration_epoch: ConsensusConfigurationEpoch,
     // Exact manifest slots sorted by ordinal, then blanks; retired history is a floor per slot.
     pub slots: [VoterSlotRecord; MAX_FIXED_VOTER_SLOTS],
-    // Slots in use.
+    // Slots in use: document 01 has a count beside the nine places.
     pub count: usize,
-    // Whether a replacement is open.
+    // Whether a replacement is open: document 01 has a yes or no beside the value.
     pub has_replacement: bool,
     // At most one active replacement across the entire installation.
     pub replacement: VoterReplacementRecord,
 }
 
 impl VoterConfiguration {
-    // Its members, without the blanks.
+    // Its members, without the blanks; all nine places where the count is above nine.
+    //
+    // What is done for the members of a configuration and for the slots of a table is one call of the
+    // library each, here and in the other files: one function for both would need a trait of what has
+    // a slot number, with its laws.
     pub fn members_in_use(&self) -> &[VoterSlotMember]
-        requires { self.now.count ≤ 9 }
         ensures members { result.now ≡ members_in_use self.now }
-        ensures count { length result.now ≡ self.now.count }
+        ensures count { self.now.count ≤ 9 → length result.now ≡ self.now.count }
     {
-        &self.members[..self.count]
+        &self.members[..self.count.min(MAX_FIXED_VOTER_SLOTS)]
     }
 }
 
 impl VoterSlotTable {
-    // Its slots, without the blanks.
+    // Its slots, without the blanks; all nine places where the count is above nine.
     pub fn slots_in_use(&self) -> &[VoterSlotRecord]
-        requires { self.now.count ≤ 9 }
         ensures slots { result.now ≡ slots_in_use self.now }
-        ensures count { length result.now ≡ self.now.count }
+        ensures count { self.now.count ≤ 9 → length result.now ≡ self.now.count }
     {
-        &self.slots[..self.count]
+        &self.slots[..self.count.min(MAX_FIXED_VOTER_SLOTS)]
     }
 }

@@ -4,7 +4,7 @@
 // openpacketcore-sdk, commit 717de332e7, Apache-2.0 (see NOTICE). Changed: a check that can only
 // give `Regression` answers yes or no; the representability check comes first. `retains` and
 // `latest`, which it calls, are in evidence.rt.
-ghost use Rattle.std.specs.Prelude.{◌≡◌, ◌+◌, ◌≤◌, eqb, length};
+ghost use Rattle.std.specs.Prelude.{◌≡◌, ◌≤◌, eqb, length};
 ghost use Rattle.identity.specs.Answer.{Accepted};
 ghost use Rattle.std.specs.List.{position};
 ghost use Rattle.records.specs.Equality.{same_voter_slot_table};
@@ -33,27 +33,26 @@ pub fn validate_successor_of(new: VoterSlotTable, old: VoterSlotTable) -> Answer
     new.validate_succession(&old)
 }
 
-// The check of two tables that are valid.
-pub fn validate_succession(new: VoterSlotTable, old: VoterSlotTable) -> Answer
-    requires { new.count ≤ 9 }
-    ensures { result ≡ succession new old }
-{
-    new.validate_succession(&old)
-}
-
-// A no is a regression.
+// A no is a regression: `require` of validation.rt with another refusal.
 fn kept(yes: bool) -> Answer
     ensures { result ≡ or_regression yes Accepted }
 {
-    if yes {
-        Ok(())
-    } else {
-        Err(Refusal::Regression)
-    }
+    yes.then_some(()).ok_or(Refusal::Regression)
 }
 
 impl VoterSlotTable {
-    // Whether the two tables are equal.
+    // The first slot of that number, or the count. The definition gives the count where there is no
+    // such slot; `place_of` gives an `Option`. It asks for the count, since the definition goes on
+    // past the nine places, where it finds blanks, whose slot is 0.
+    pub fn slot_index(&self, slot: SlotId) -> usize
+        requires { self.now.count ≤ 9 }
+        ensures { result ≡ slot_index self.now slot }
+    {
+        place_of(self.slots_in_use(), slot).unwrap_or(self.count)
+    }
+
+    // Whether the two tables are equal. It is a function of its own, so that the fifteen definitions
+    // that say what `==` compares are unfolded in its proof alone, and not in that of the whole check.
     #[tactic(auto, unfolding(crate::specs::Equality::all_true, crate::specs::Equality::same_voter_slot_table, crate::specs::Equality::same_voter_slot_record, crate::specs::Equality::same_voter_slot_member, crate::specs::Equality::same_voter_slot_identity, crate::specs::Equality::same_voter_replacement_result, crate::specs::Equality::same_voter_slot_log_id, crate::specs::Equality::same_voter_replacement_record, crate::specs::Equality::same_lost_voter_attestation_v1, crate::specs::Equality::same_spiffe_id, crate::specs::Equality::same_voter_configuration, crate::specs::Equality::same_voter_replacement_evidence, crate::specs::Equality::same_voter_snapshot_evidence, crate::specs::Equality::same_snapshot_id, crate::specs::Equality::same_optional_log_id))]
     fn equals(&self, other: &VoterSlotTable) -> bool
         ensures { result ≡ same_voter_slot_table self.now other.now }
@@ -61,7 +60,8 @@ impl VoterSlotTable {
         *self == *other
     }
 
-    // The check of two tables that are valid.
+    // The check of two tables that are valid. It asks for the count, and so do those that it calls:
+    // the definitions go on past the nine places, where they find blanks.
     #[tactic(auto, using(crate::proofs::InUse::succession_in_use), unfolding(crate::specs::Successor::succession))]
     fn validate_succession(&self, old: &VoterSlotTable) -> Answer
         requires { self.now.count ≤ 9 }
@@ -122,7 +122,9 @@ impl VoterSlotTable {
     }
 }
 
-// Each slot, against the old one at its place.
+// Each slot, against the old one at its place. The old one is taken by the place, which the invariant
+// counts: in a `for` over a `zip` of the two the proof has iterators and no place, and it did not
+// close. Nor did one for `all` after `zip` (`results_distinct` of validation.rt).
 #[tactic(auto, unfolding(crate::specs::Records::all_below))]
 fn slots_succeed(new: &[VoterSlotRecord], old: &[VoterSlotRecord; MAX_FIXED_VOTER_SLOTS]) -> bool
     requires { length new.now ≤ 9 }
@@ -182,18 +184,19 @@ fn request_succeeds(new: &VoterReplacementRecord, old: &VoterReplacementRecord) 
 }
 
 // The place of the first slot of that number.
-fn place_of(slots: &[VoterSlotRecord], slot: SlotId) -> Option<usize>
+pub fn place_of(slots: &[VoterSlotRecord], slot: SlotId) -> Option<usize>
     ensures { result ≡ position (λ s. eqb s.member.identity.slot slot) slots.now }
 {
     slots.iter().position(|s| s.member.identity.slot == slot)
 }
 
-// The first slot of that number, or the count.
+// The first slot of that number, or the count, as the definition has it. It is by value: where a maker lends its table for the
+// search, the table must lie in memory, and the thin call of a Finalize takes 1.6 times as long.
 pub fn slot_index(table: VoterSlotTable, slot: SlotId) -> usize
     requires { table.count ≤ 9 }
     ensures { result ≡ slot_index table slot }
 {
-    place_of(table.slots_in_use(), slot).unwrap_or(table.count)
+    table.slot_index(slot)
 }
 
 // The receipt of the slot whose request was open tells how the request ended.

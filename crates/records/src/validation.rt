@@ -5,9 +5,10 @@
 // yes or no; the representability check comes first, and has refused each text for which the
 // original gives `TooLarge`; `follows`, `retains` and `latest` are in evidence.rt,
 // `validate_successor_of` in successor.rt.
-ghost use Rattle.std.specs.Prelude.{◌&&◌, ◌≡◌, ◌+◌, ◌-◌, ◌<◌, ◌≤◌, eqb, leb, ltb, not, length};
+ghost use Rattle.std.specs.Prelude.{◌&&◌, ◌≡◌, ◌≤◌, eqb, leb, ltb, length};
+ghost use Rattle.std.specs.List.{IsAllAdjacentAnswer, list_all, list_any};
 ghost use Rattle.identity.specs.Answer.{Accepted};
-ghost use Rattle.records.specs.Records.{all_below, slot_in, member_in, voting};
+ghost use Rattle.records.specs.Records.{all_below, slot_in, voting};
 ghost use Rattle.records.specs.Validation.{require_of, valid_count, valid_configuration, valid_spiffe_id, valid_attestation, is_active, valid_result, valid_slot, distinct_results, valid_slots, target_phase, valid_operation_head, is_current_epoch, valid_operation, claims_of, superseded_receipt, retired_member, valid_target, other_request, validate_member, validate_members, validate_operation, validity, validate};
 
 use crate::evidence::is_valid_log_id;
@@ -39,15 +40,12 @@ pub struct Claims {
     pub prepare: VoterSlotLogId,
 }
 
-// `require`: a no is `InvalidRecord`.
+// `require`: a no is `InvalidRecord`. It and `kept` of successor.rt have a name each, since the
+// definitions do (`require_of`, `or_regression`), and the original says `require(..)?`.
 fn require(valid: bool) -> Answer
     ensures { result ≡ require_of valid Accepted }
 {
-    if valid {
-        Ok(())
-    } else {
-        Err(Refusal::InvalidRecord)
-    }
+    valid.then_some(()).ok_or(Refusal::InvalidRecord)
 }
 
 // `validate_count`.
@@ -72,97 +70,54 @@ impl VoterConfiguration {
 }
 
 // Each admission generation is above 0.
-//
-// This loop and those below have no early exit: in place of `all`, which leaves at the first no,
-// they let the compiler look at several places at a time.
-#[tactic(auto, unfolding(crate::specs::Records::all_below))]
 fn have_generations(members: &[VoterSlotMember]) -> bool
-    ensures { result ≡ all_below (λ i. ltb 0 (member_in members.now i).admission_generation) (length members.now) }
+    ensures { result ≡ list_all (λ m. ltb 0 m.admission_generation) members.now }
 {
-    let mut all = true;
-    for member in members {
-        all = all & (0 < member.admission_generation);
-    }
-    all
+    members.iter().all(|member| 0 < member.admission_generation)
 }
 
 // The slot numbers rise strictly.
-#[tactic(auto, unfolding(crate::specs::Records::all_below))]
 fn members_rise(members: &[VoterSlotMember]) -> bool
-    ensures { result ≡ all_below (λ i. ltb (member_in members.now i).identity.slot (member_in members.now (i + 1)).identity.slot) (length members.now - 1) }
+    ensures { IsAllAdjacentAnswer (λ a b t. t ≡ ltb a.identity.slot b.identity.slot) members.now result }
 {
-    let mut all = true;
-    for i in 1..members.len() {
-        all = all & (members[i - 1].identity.slot < members[i].identity.slot);
-    }
-    all
+    members.is_sorted_by(|member, next| member.identity.slot < next.identity.slot)
 }
 
 impl LostVoterAttestationV1 {
     // `validate`.
     #[tactic(auto, unfolding(crate::specs::Validation::valid_attestation))]
-    fn is_valid(&self) -> bool
+    pub fn is_valid(&self) -> bool
         ensures { result ≡ valid_attestation self.now }
     {
-        if !is_valid_name(
-            self.candidate_spiffe_id.len,
-            &self.candidate_spiffe_id.bytes,
-        ) {
+        if !self.candidate_spiffe_id.is_valid() {
             return false;
         }
-        if !is_valid_name(
-            self.controller_spiffe_id.len,
-            &self.controller_spiffe_id.bytes,
-        ) {
+        if !self.controller_spiffe_id.is_valid() {
             return false;
         }
-        are_valid_times(
-            self.admission_generation,
-            self.observation_start_ms,
-            self.decision_ms,
-            self.issued_ms,
-            self.expires_ms,
-        )
+        self.are_valid_times()
+    }
+
+    // Its numbers: what was observed, decided and issued came in that order.
+    fn are_valid_times(&self) -> bool
+        ensures { result ≡ (ltb 0 self.now.admission_generation && (leb self.now.observation_start_ms self.now.decision_ms && (leb self.now.decision_ms self.now.issued_ms && ltb self.now.issued_ms self.now.expires_ms))) }
+    {
+        (0 < self.admission_generation)
+            & ((self.observation_start_ms <= self.decision_ms)
+                & ((self.decision_ms <= self.issued_ms) & (self.issued_ms < self.expires_ms)))
     }
 }
 
-// `LostVoterAttestationV1::validate`.
-pub fn is_valid_attestation(attestation: LostVoterAttestationV1) -> bool
-    ensures { result ≡ valid_attestation attestation }
-{
-    attestation.is_valid()
-}
-
-// A name of that length. A length above the field is a no.
-pub fn is_valid_spiffe_id(len: usize, bytes: [u8; MAX_VOTER_SPIFFE_ID_BYTES]) -> bool
-    ensures { result ≡ valid_spiffe_id (record { len = len; bytes = bytes }) }
-{
-    is_valid_name(len, &bytes)
-}
-
-// The same where the bytes lie.
-fn is_valid_name(len: usize, bytes: &[u8; MAX_VOTER_SPIFFE_ID_BYTES]) -> bool
-    ensures { result ≡ valid_spiffe_id (record { len = len; bytes = bytes.now }) }
-{
-    if MAX_VOTER_SPIFFE_ID_BYTES < len {
-        return false;
+impl SpiffeId {
+    // Whether it is a name. A length above the field is a no.
+    pub fn is_valid(&self) -> bool
+        ensures { result ≡ valid_spiffe_id self.now }
+    {
+        if MAX_VOTER_SPIFFE_ID_BYTES < self.len {
+            return false;
+        }
+        is_name(&self.bytes[..self.len])
     }
-    is_name(&bytes[..len])
-}
-
-// The numbers of an attestation: what was observed, decided and issued came in that order.
-pub fn are_valid_times(
-    generation: u64,
-    observation_start_ms: u64,
-    decision_ms: u64,
-    issued_ms: u64,
-    expires_ms: u64,
-) -> bool
-    ensures { result ≡ (ltb 0 generation && (leb observation_start_ms decision_ms && (leb decision_ms issued_ms && ltb issued_ms expires_ms))) }
-{
-    (0 < generation)
-        & ((observation_start_ms <= decision_ms)
-            & ((decision_ms <= issued_ms) & (issued_ms < expires_ms)))
 }
 
 // `VoterSlotTable::validate`, after 30.
@@ -176,39 +131,24 @@ pub fn validate_table(table: VoterSlotTable) -> Answer
     table.validate()
 }
 
-// Validity of a table that has passed the representability check.
-pub fn validate_representable(table: VoterSlotTable) -> Answer
-    requires { table.count ≤ 9 }
-    ensures { result ≡ validity table }
-{
-    table.validate()
-}
-
 // With no request open every slot is voting.
-#[tactic(auto, unfolding(crate::specs::Records::all_below))]
 fn all_voting(slots: &[VoterSlotRecord]) -> bool
-    ensures { result ≡ all_below (λ i. eqb (slot_in slots.now i).phase voting) (length slots.now) }
+    ensures { result ≡ list_all (λ s. eqb s.phase voting) slots.now }
 {
-    let mut all = true;
-    for slot in slots {
-        all = all & (slot.phase == VOTING);
-    }
-    all
+    slots.iter().all(|slot| slot.phase == VOTING)
 }
 
 // The slot numbers rise strictly.
-#[tactic(auto, unfolding(crate::specs::Records::all_below))]
 fn slots_rise(slots: &[VoterSlotRecord]) -> bool
-    ensures { result ≡ all_below (λ i. ltb (slot_in slots.now i).member.identity.slot (slot_in slots.now (i + 1)).member.identity.slot) (length slots.now - 1) }
+    ensures { IsAllAdjacentAnswer (λ a b t. t ≡ ltb a.member.identity.slot b.member.identity.slot) slots.now result }
 {
-    let mut all = true;
-    for i in 1..slots.len() {
-        all = all & (slots[i - 1].member.identity.slot < slots[i].member.identity.slot);
-    }
-    all
+    slots.is_sorted_by(|slot, next| slot.member.identity.slot < next.member.identity.slot)
 }
 
 // No request has a receipt in two slots; a slot without one is not compared.
+//
+// The places are counted in a loop, as in slots_succeed (successor.rt) and the places of
+// representable.rt: the check found no proof for `all` after `enumerate` or `zip`.
 #[tactic(auto, unfolding(crate::specs::Records::all_below))]
 fn results_distinct(slots: &[VoterSlotRecord]) -> bool
     ensures { result ≡ all_below (λ i. all_below (λ j. distinct_results (slot_in slots.now j) (slot_in slots.now i)) i) (length slots.now) }
@@ -223,15 +163,12 @@ fn results_distinct(slots: &[VoterSlotRecord]) -> bool
 }
 
 // The receipt of the slot, against those of the slots before it.
-#[tactic(auto, unfolding(crate::specs::Records::all_below))]
 fn is_distinct_from(slot: &VoterSlotRecord, earlier: &[VoterSlotRecord]) -> bool
-    ensures { result ≡ all_below (λ j. distinct_results (slot_in earlier.now j) slot.now) (length earlier.now) }
+    ensures { result ≡ list_all (λ other. distinct_results other slot.now) earlier.now }
 {
-    let mut all = true;
-    for other in earlier {
-        all = all & are_distinct_results(other, slot);
-    }
-    all
+    earlier
+        .iter()
+        .all(|other| are_distinct_results(other, slot))
 }
 
 // The two have no receipt of one request.
@@ -243,22 +180,16 @@ fn are_distinct_results(a: &VoterSlotRecord, b: &VoterSlotRecord) -> bool
 }
 
 // One of the slots has that number.
-#[tactic(auto, unfolding(crate::specs::Records::all_below))]
 fn has_target(slots: &[VoterSlotRecord], target: SlotId) -> bool
-    ensures { result ≡ not (all_below (λ i. not (eqb (slot_in slots.now i).member.identity.slot target)) (length slots.now)) }
+    ensures { result ≡ list_any (λ s. eqb s.member.identity.slot target) slots.now }
 {
-    let mut none = true;
-    for slot in slots {
-        none = none & !(slot.member.identity.slot == target);
-    }
-    !none
+    slots.iter().any(|slot| slot.member.identity.slot == target)
 }
 
 impl VoterSlotTable {
     // `validate`, of a table that has passed the representability check.
     #[tactic(auto, unfolding(crate::specs::Validation::validity))]
     pub fn validate(&self) -> Answer
-        requires { self.now.count ≤ 9 }
         ensures { result ≡ validity self.now }
     {
         require(self.are_valid_slots())?;
@@ -283,24 +214,30 @@ impl VoterSlotTable {
         slots_rise(slots) & (self.is_each_slot_valid(slots) & results_distinct(slots))
     }
 
-    // Each of the slots by itself; the one that is being replaced is active.
-    #[tactic(auto, unfolding(crate::specs::Records::all_below))]
+    // Each of the slots by itself.
     fn is_each_slot_valid(&self, slots: &[VoterSlotRecord]) -> bool
-        ensures { result ≡ all_below (λ i. valid_slot self.now.revision self.now.configuration_epoch (is_active self.now (slot_in slots.now i)) (slot_in slots.now i)) (length slots.now) }
+        ensures { result ≡ list_all (λ s. valid_slot self.now.revision self.now.configuration_epoch (is_active self.now s) s) slots.now }
     {
-        let mut all = true;
-        for slot in slots {
-            let active = self.has_replacement
-                & (self.replacement.attestation.slot == slot.member.identity.slot);
-            all = all & is_valid_slot(self.revision, self.configuration_epoch, active, slot);
-        }
-        all
+        slots.iter().all(|slot| {
+            is_valid_slot(
+                self.revision,
+                self.configuration_epoch,
+                self.is_active(slot),
+                slot,
+            )
+        })
+    }
+
+    // The slot is the one that is being replaced.
+    fn is_active(&self, slot: &VoterSlotRecord) -> bool
+        ensures { result ≡ is_active self.now slot.now }
+    {
+        self.has_replacement & (self.replacement.attestation.slot == slot.member.identity.slot)
     }
 
     // `validate_operation`.
-    #[tactic(auto, unfolding(crate::specs::Validation::validate_operation))]
+    #[tactic(auto, using(crate::proofs::InUse::operation_few), unfolding(crate::specs::Validation::validate_operation))]
     fn validate_operation(&self) -> Answer
-        requires { self.now.count ≤ 9 }
         ensures { result ≡ validate_operation self.now }
     {
         require(self.is_valid_operation())?;
@@ -361,12 +298,16 @@ impl VoterSlotTable {
     }
 
     // The first refusal, slot by slot: 3 in an earlier slot comes before 6 in a later one.
+    //
+    // It asks for the count, since the definition would go on past the nine places. The members are
+    // taken by the slot's place, which the invariant counts: in a `for` over a `zip` of the three the
+    // proof has iterators and no place, and it did not close.
     #[tactic(auto, unfolding(crate::specs::Validation::validate_members))]
     fn validate_members(&self) -> Answer
         requires { self.now.count ≤ 9 }
         ensures { result ≡ validate_members self.now self.now.count }
     {
-        let claims = Claims::of(&self.replacement);
+        let claims = Claims::from(&self.replacement);
         let predecessor = &self.replacement.predecessor.members;
         let successor = &self.replacement.successor.members;
         for (i, slot) in self.slots_in_use().iter().enumerate() {
@@ -417,11 +358,11 @@ fn is_valid_result(
                     | ((slot.phase == VOTING) & (result.kind == COMPLETED)))))
 }
 
-impl Claims {
-    // What the open request claims.
-    fn of(operation: &VoterReplacementRecord) -> Claims
-        ensures { result ≡ claims_of operation.now }
-    {
+// What the open request claims.
+impl From<&VoterReplacementRecord> for Claims {
+    ghost from_gives = { λ operation claims. claims ≡ claims_of operation.now };
+
+    fn from(operation: &VoterReplacementRecord) -> Claims {
         Claims {
             request_id: operation.attestation.request_id,
             slot: operation.attestation.slot,
@@ -433,7 +374,9 @@ impl Claims {
             prepare: operation.evidence.prepare,
         }
     }
+}
 
+impl Claims {
     // One slot and its two members.
     #[tactic(auto, unfolding(crate::specs::Equality::all_true, crate::specs::Equality::same_voter_slot_member, crate::specs::Equality::same_voter_slot_identity, crate::specs::Validation::validate_member))]
     fn validate_member(

@@ -7,29 +7,22 @@
 
 #![tactic(auto)]
 
-ghost use Rattle.std.specs.Prelude.{◌+◌, ◌-◌, ◌≤◌, ◌≡◌, length, take, drop};
+ghost use Rattle.std.specs.Prelude.{◌+◌, ◌-◌, ◌≤◌, ◌≡◌, length, take, drop, IfSome};
 ghost use Rattle.journal.specs.Play.{play_of};
 
 use journal::play::*;
-use std::io;
 use std::io::{ErrorKind, Read};
 
-// The bytes that are read and not played yet lie from `start` to `held`; `last`: no more will come;
-// `failed`: a read failed, so that what is cut short by it is not played.
+// The bytes that are read and not played yet lie from `start` to `held`; `last`: no more will come. They
+// are two places and no slice: a slice that is lent would keep the buffer from being read into.
+//
+// The buffer and this are passed on as two parameters. In one struct the buffer of 128 KB would be moved
+// with it, or a struct that lends the buffer be made anew for each turn.
 #[derive(Clone, Copy)]
 struct Input {
     start: usize,
     held: usize,
     last: bool,
-    failed: bool,
-}
-
-// How many bytes a read brought, and whether it was interrupted, or failed.
-#[derive(Clone, Copy)]
-struct Got {
-    more: usize,
-    interrupted: bool,
-    failed: bool,
 }
 
 // Room for the longest record, of 65,539 bytes, and for as much again to be read at once.
@@ -59,7 +52,6 @@ fn run(
         start: 0,
         held: 0,
         last: false,
-        failed: false,
     };
     for _ in 0..u64::MAX {
         let played = play_part(journal, input, at, output);
@@ -72,10 +64,10 @@ fn run(
             break;
         }
         if played.read == 0 {
-            at = refill(input, at, from, rt);
-        }
-        if at.failed {
-            break;
+            let Some(next) = refill(input, at, from, rt) else {
+                break;
+            };
+            at = next;
         }
     }
 }
@@ -108,48 +100,47 @@ fn put(bytes: &[u8], rt: &(impl Print + Eprint)) -> bool {
     }
 }
 
-// Moves what is left to the front, and reads once. A read that is interrupted brings nothing, and
-// is tried again after a turn in which nothing is ready.
-fn refill(input: &mut [u8; INPUT_SIZE], at: Input, from: &mut impl Read, rt: &impl Eprint) -> Input
+// Moves what is left to the front, and reads once; none where the read failed, so that what is cut
+// short by it is not played. A read that is interrupted brings nothing, and is tried again after a turn
+// in which nothing is ready.
+fn refill(
+    input: &mut [u8; INPUT_SIZE],
+    at: Input,
+    from: &mut impl Read,
+    rt: &impl Eprint,
+) -> Option<Input>
     requires { (at.start ≤ at.held) × (at.held ≤ 131072) }
-    ensures { ((result.start ≡ 0) × (result.held ≤ 131072)) × ((at.held - at.start ≤ result.held) × (take (at.held - at.start) input.new ≡ take (at.held - at.start) (drop at.start input.old))) }
+    ensures { IfSome result (λ to. (to.start ≡ 0) × ((to.held ≤ 131072) × (at.held - at.start ≤ to.held))) × (take (at.held - at.start) input.new ≡ take (at.held - at.start) (drop at.start input.old)) }
 {
     let held = shift(input, at.start, at.held);
-    let got = read_more(input, held, from, rt);
-    Input {
+    let more = read_more(input, held, from, rt)?;
+    Some(Input {
         start: 0,
-        held: held + got.more,
-        last: (got.more == 0) & !got.interrupted & !got.failed,
-        failed: got.failed,
-    }
+        held: held + more.unwrap_or(0),
+        last: more == Some(0),
+    })
 }
 
-fn read_more(input: &mut [u8], held: usize, from: &mut impl Read, rt: &impl Eprint) -> Got
+// How many bytes a read brought: the inner `Option` is none where the read was interrupted. The outer one
+// is none where the read failed, and then that is written to standard error.
+fn read_more(
+    input: &mut [u8],
+    held: usize,
+    from: &mut impl Read,
+    rt: &impl Eprint,
+) -> Option<Option<usize>>
     requires { held ≤ length input.old }
-    ensures { (held + result.more ≤ length input.new) × (take held input.new ≡ take held input.old) }
+    ensures { IfSome result (λ read. IfSome read (λ more. held + more ≤ length input.new)) × (take held input.new ≡ take held input.old) }
 {
     match from.read(&mut input[held..]) {
-        Ok(more) => Got {
-            more,
-            interrupted: false,
-            failed: false,
-        },
-        Err(error) => not_read(&error, rt),
-    }
-}
-
-// What a read brought that gave an error. One that failed is said.
-fn not_read(error: &io::Error, rt: &impl Eprint) -> Got
-    ensures { result.more ≡ 0 }
-{
-    let interrupted = error.kind() == ErrorKind::Interrupted;
-    if !interrupted {
-        let _ = eprintln!(rt; "replay: standard input: {error}");
-    }
-    Got {
-        more: 0,
-        interrupted,
-        failed: !interrupted,
+        Ok(more) => Some(Some(more)),
+        Err(error) => {
+            if error.kind() == ErrorKind::Interrupted {
+                return Some(None);
+            }
+            let _ = eprintln!(rt; "replay: standard input: {error}");
+            None
+        }
     }
 }
 

@@ -1,10 +1,11 @@
 -- What is asked of a table, from the answers of its judges to what the exported functions give and leave.
 -- Assumes nothing.
-use Rattle.std.specs.Prelude.{ℕ, ◌≤◌, ◌<◌, ◌≡◌, refl, Bool, true, false, cond, List, length, eqb, leb}
+use Rattle.std.specs.Prelude.{ℕ, ◌≤◌, ◌<◌, ◌≡◌, refl, Bool, true, false, cond, List, length, eqb, leb, Result, Err}
+use Rattle.identity.specs.declared.answer.Refusal.{Refusal}
 use Rattle.std.proofs.Common.{sym, ◌∙◌, arith, le-leb, ne_eqb}
 use Rattle.std.proofs.Math.Path.{ap}
 use Rattle.std.proofs.lemmas.Bool.{false≢true, lt-leb}
-use Rattle.identity.specs.Answer.{is_accepted, number_of, Answer, BadRecord}
+use Rattle.identity.specs.Answer.{is_accepted, number_of, number_of_refusal, Answer, BadRecord}
 use Rattle.identity.specs.AnswerLaws.{accepted-is-0, number-injective}
 use Rattle.format.specs.Combinators.{Bytes}
 use Rattle.format.specs.Res.{Res}
@@ -31,7 +32,8 @@ use Rattle.journal.specs.Replay.Standing.{absent, stands}
 use Rattle.journal.specs.Step.{Judges, answer_of_called, is_changing, is_made, made_by}
 use Rattle.journal.proofs.StepLaws.{step-called}
 use Rattle.voter_slots.specs.Calls.{asked_of, command_of, is_formed, marked_command, most_body, observation_of, settled}
-use Rattle.voter_slots.specs.Export.{ReadAs, leaves, with_table, written}
+use Rattle.voter_slots.specs.declared.result.VoterSlotsResult.{VoterSlotsResult}
+use Rattle.voter_slots.specs.Export.{ReadAs, leaves, said, with_table, written}
 use Rattle.voter_slots.specs.ExportLaws.{read-accepted, read_as}
 
 -- ---- what is asked, told apart
@@ -143,6 +145,23 @@ observed-by (moves m) h = refl
 pub change-accepted : (c : Called) → is_changing c ≡ true → is_accepted (answer_of_called c) ≡ true
 change-accepted (Command judged) h = change-by (verdict_of judged) h
 change-accepted (Observation observed) h = observed-by (verdict_of_observed observed) h
+
+-- a refusal that is passed on
+pub passed-err : (x : Result VoterSlotsResult Refusal) (e : Refusal) (out : List ℕ) → x ≡ Err e → ◌≡◌ {A = VoterSlotsResult × List ℕ} (said x, out) (leaves (number_of_refusal e) out)
+passed-err x e out r = ap (λ (y : Result VoterSlotsResult Refusal). (said y, out)) r
+
+-- one that is what is settled
+pub settled-err : (x : Result VoterSlotsResult Refusal) (e : Refusal) (a : Answer) (u : VoterSlotTable) (out : List ℕ) → x ≡ Err e → Err e ≡ a
+    → ◌≡◌ {A = VoterSlotsResult × List ℕ} (said x, out) (settled (a, u) out)
+settled-err x e a u out r h = passed-err x e out r ∙ ap (λ (b : Answer). settled (b, u) out) h
+
+-- what is refused changes nothing
+pub refused-stays : (c : Called) (e : Refusal) → Err e ≡ answer_of_called c → is_changing c ≡ false
+refused-stays c e h = by (is_changing c) refl
+  where
+    by : (b : Bool) → is_changing c ≡ b → is_changing c ≡ false
+    by true p = absurd (false≢true (ap is_accepted h ∙ change-accepted c p))
+    by false p = p
 
 pub settles : (a : Answer) (u : VoterSlotTable) (out : List ℕ) → is_accepted a ≡ true → written u out ≡ settled (a, u) out
 settles a u out h = sym (cond-true (is_accepted a) (written u out) (leaves (number_of a) out) h)

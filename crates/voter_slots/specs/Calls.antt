@@ -3,7 +3,7 @@
 -- table reader's number; the attestation reader's; 30; 31; the call; 32 last.
 -- Document 01: "The Rust service calls through functions over numbers and bytes."
 -- Assumes nothing.
-use Rattle.std.specs.Prelude.{ℕ, Bool, cond, false, true, List, eqb, leb, length}
+use Rattle.std.specs.Prelude.{ℕ, Bool, cond, false, true, List, eqb, leb, length, Option, Some, None}
 use Rattle.identity.specs.Answer.{is_accepted, number_of, Answer}
 use Rattle.records.specs.declared.records.VoterSlotTable.{VoterSlotTable}
 use Rattle.codec.specs.Codec.{decode_voter_slot_table}
@@ -11,6 +11,8 @@ use Rattle.journal.specs.declared.replay.Mark.{Mark}
 use Rattle.journal.specs.declared.replay.Mark.TheVariants.{Ad, Bg, Mk, Ob, Unknown}
 use Rattle.journal.specs.Replay.{Asking, answered, asking, bad_record}
 use Rattle.journal.specs.Replay.Asking.{bad, refused, asks}
+use Rattle.voter_slots.specs.declared.call.CommandKind.{CommandKind}
+use Rattle.voter_slots.specs.declared.call.CommandKind.TheVariants.{Marker, Advance, Begin}
 use Rattle.voter_slots.specs.declared.result.VoterSlotsResult.{VoterSlotsResult}
 use Rattle.voter_slots.specs.Export.{leaves, with_table, written}
 
@@ -31,6 +33,13 @@ begin_mark = 0x4247
 -- any other number is no command's
 unfoldable pub marked_command : ℕ → Mark
 marked_command n = cond (eqb n marker_mark) Mk (cond (eqb n advance_mark) Ad (cond (eqb n begin_mark) Bg Unknown))
+
+-- the mark of a command that a service may ask for
+abbrev pub mark_of : Option CommandKind → Mark
+mark_of (Some Marker) = Mk
+mark_of (Some Advance) = Ad
+mark_of (Some Begin) = Bg
+mark_of None = Unknown
 
 -- a body that no record has room for asks nothing
 unfoldable pub command_of : ℕ → ℕ → Mark

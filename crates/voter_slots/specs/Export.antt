@@ -3,7 +3,9 @@
 -- table reader's number; the call; 32 last. A call that is refused leaves every lent byte as it
 -- was. Document 01: "The Rust service calls through functions over numbers and bytes."
 -- Assumes nothing.
-use Rattle.std.specs.Prelude.{ℕ, ◌≡◌, cond, List, length}
+use Rattle.std.specs.Prelude.{ℕ, ◌≡◌, cond, List, length, Result, Ok, Err}
+use Rattle.identity.specs.Answer.{number_of_refusal}
+use Rattle.identity.specs.declared.answer.Refusal.{Refusal}
 use Rattle.format.specs.Res.{Res}
 use Rattle.format.specs.Res.Res.{ok, no}
 use Rattle.records.specs.Blank.{blank_voter_slot_table}
@@ -21,6 +23,11 @@ no_phase = 255
 -- refused by a number: every other number as of no table
 abbrev pub refused_result : ℕ → VoterSlotsResult
 refused_result n = record { answer = n; slots = 0; count = 0; revision = 0; epoch = 0; open_slot = 0; open_phase = no_phase }
+
+-- what a call says, or its refusal
+abbrev pub said : Result VoterSlotsResult Refusal → VoterSlotsResult
+said (Ok r) = r
+said (Err e) = refused_result (number_of_refusal e)
 
 -- accepted: what a service asks of the table, and how many bytes it takes
 abbrev pub numbers_of : VoterSlotTable → ℕ → VoterSlotsResult

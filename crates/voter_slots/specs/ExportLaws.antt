@@ -13,7 +13,6 @@ use Rattle.format.specs.Put.{Put}
 use Rattle.format.specs.Res.{Res}
 use Rattle.format.specs.Res.Res.{ok, no}
 use Rattle.records.specs.Blank.{blank_voter_slot_table}
-use Rattle.records.specs.TestLaws.{cond-true, cond-false}
 use Rattle.records.specs.Validation.{validate}
 use Rattle.records.specs.ValidParts.{valid-parts}
 use Rattle.records.specs.declared.records.VoterSlotTable.{VoterSlotTable}
@@ -54,6 +53,11 @@ module _ (bs : List ℕ) (answer : Answer) (t : VoterSlotTable) (met : ◌≡◌
   -- the reader refused
   pub is-refused : is_accepted answer ≡ false → decode_voter_slot_table bs ≡ no (number_of answer)
   is-refused h = no-by (decode_voter_slot_table bs) refl met h
+
+-- a place that was filled
+pub filled_as : (bs : List ℕ) (t : VoterSlotTable) (n : ℕ) → ok t n ≡ decode_voter_slot_table bs → ReadAs bs t
+unfolding decoded
+filled_as bs t n e = ap (decoded blank_voter_slot_table) (sym e)
 
 module _ (bs : List ℕ) (t : VoterSlotTable) (z : Bytes bs) (e : ReadAs bs t) where
   pub read-accepted : validate t ≡ Accepted
@@ -124,3 +128,7 @@ module _ (bs : List ℕ) (t : VoterSlotTable) (node : ℕ) (z : Bytes bs) (e : R
   pub says-no : is_retired t node ≡ false → 100 ≡ retired_of bs node
   says-no h =
       retired-as (ap retired_number (test-says t node (valid-parts t (read-accepted bs t z e)).0 ∙ ap (λ (b : Bool). Ok b) h))
+
+  -- either
+  pub says : retired_number (Ok (is_retired t node)) ≡ retired_of bs node
+  says = retired-as (ap retired_number (test-says t node (valid-parts t (read-accepted bs t z e)).0))

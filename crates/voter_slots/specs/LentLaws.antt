@@ -1,6 +1,7 @@
 -- Each way that a call on a lent table can go, from what its parts answer.
 -- Assumes nothing.
-use Rattle.std.specs.Prelude.{ℕ, ◌<◌, ◌≤◌, ◌≡◌, Bool, cond, ◌&&◌, List, length, eqb}
+use Rattle.std.specs.Prelude.{ℕ, ◌<◌, ◌≤◌, ◌≡◌, Bool, cond, ◌&&◌, List, length, eqb, Result, Err}
+use Rattle.identity.specs.declared.answer.Refusal.{Refusal}
 use Rattle.std.proofs.Math.Path.{refl, ap}
 use Rattle.std.proofs.Common.{sym, ◌∙◌, arith, ne_eqb}
 use Rattle.std.proofs.Math.Bool.{true, false}
@@ -37,7 +38,7 @@ use Rattle.journal.proofs.StepLaws.{fits_marker, no-observation, observes, step-
 use Rattle.voter_slots.specs.declared.result.VoterSlotsResult.{VoterSlotsResult}
 use Rattle.voter_slots.specs.Calls.{most_body}
 use Rattle.voter_slots.specs.CallLaws.{never-zero, observation-long, same-table}
-use Rattle.voter_slots.specs.Export.{ReadAs, leaves, refused_result, numbers_of, written_by}
+use Rattle.voter_slots.specs.Export.{ReadAs, leaves, refused_result, numbers_of, said, written_by}
 use Rattle.voter_slots.specs.ExportLaws.{read_as}
 use Rattle.voter_slots.specs.Lent.{asked_at, read_over, refusal_at, stays, table_observe_of, table_read_of, table_write_of, told}
 
@@ -66,6 +67,10 @@ tells a u h = ap (λ (r : VoterSlotsResult). (r, u)) (sym (cond-true (is_accepte
 
 pub tells-not : (a : Answer) (u : VoterSlotTable) → is_accepted a ≡ false → stays (number_of a) u ≡ told (a, u)
 tells-not a u h = ap (λ (r : VoterSlotsResult). (r, u)) (sym (cond-false (is_accepted a) (numbers_of u 0) (refused_result (number_of a)) h))
+
+-- a refusal that is passed on
+pub told-err : (x : Result VoterSlotsResult Refusal) (e : Refusal) (a : Answer) (t u : VoterSlotTable) → x ≡ Err e → Err e ≡ a → t ≡ u → ◌≡◌ {A = Outcome} (said x, t) (told (a, u))
+told-err x e a t u r h s = ap (λ (y : Result VoterSlotsResult Refusal). (said y, t)) r ∙ (λ i. told (h i, s i))
 
 -- a refusal by its number
 told-no : (a : Answer) (t u : VoterSlotTable) (k : ℕ) → k ≡ number_of a → (k ≡ 0 → ⊥) → t ≡ u → told (a, u) ≡ stays k t

@@ -1,11 +1,10 @@
 // The exports on a table value that the caller lends: a service that keeps its table in memory pays
-// for no reading and no writing. Each is document 01's "one thin call" over the call by value of
-// `lent`: it copies the table out, and where it may change it, stores the table afterwards.
+// for no reading and no writing. Each is a call of `lent`, with its refusal as a number.
 ghost use Rattle.std.specs.Prelude.{◌≡◌};
 ghost use Rattle.voter_slots.specs.Lent.{table_apply_of, table_observe_of, table_read_of, table_retired_of, table_write_of};
 
 use crate::lent::*;
-use crate::result::VoterSlotsResult;
+use crate::result::{VoterSlotsResult, said};
 use records::records::VoterSlotTable;
 
 // Reads a table into the one that is lent.
@@ -16,9 +15,7 @@ pub extern "C" fn voter_slots_table_read(
 ) -> VoterSlotsResult
     ensures { (result, table.new) ≡ table_read_of table.old bytes.now }
 {
-    let after = read_over(*table, bytes);
-    *table = after.table;
-    after.result
+    said(read_over(table, bytes))
 }
 
 // Writes the table.
@@ -29,7 +26,7 @@ pub extern "C" fn voter_slots_table_write(
 ) -> VoterSlotsResult
     ensures { (result, out.new) ≡ table_write_of table.now out.old }
 {
-    write_lent(*table, out)
+    said(write_lent(*table, out))
 }
 
 // Applies a command to the table.
@@ -41,9 +38,7 @@ pub extern "C" fn voter_slots_table_apply(
 ) -> VoterSlotsResult
     ensures { (result, table.new) ≡ table_apply_of table.old mark body.now }
 {
-    let after = apply_to(*table, mark, body);
-    *table = after.table;
-    after.result
+    said(apply_to(table, mark, body))
 }
 
 // Applies an observation to the table.
@@ -54,9 +49,7 @@ pub extern "C" fn voter_slots_table_observe(
 ) -> VoterSlotsResult
     ensures { (result, table.new) ≡ table_observe_of table.old body.now }
 {
-    let after = observe_at(*table, body);
-    *table = after.table;
-    after.result
+    said(observe_at(table, body))
 }
 
 // Whether the table says that a node must not count any more.

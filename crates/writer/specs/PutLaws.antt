@@ -1,19 +1,21 @@
 -- What the bytes of a form are, as a `Writer` writes them: what the proofs of the writers use.
 -- `writing` has what nearly all of them do.
 -- Assumes nothing.
-use Rattle.std.specs.Prelude.{ℕ, zero, suc, ◌+◌, ◌-◌, ◌≤◌, ◌<◌, ◌≡◌, Bool, true, false, List, length, take, get_or}
-use Rattle.std.proofs.Common.{arith, add-one, zero-add, suc-add, sub-add_cancel, sym, ◌∙◌, subst, length-append, length-take-le, take-take, get_or-take}
+use Rattle.std.specs.Prelude.{ℕ, zero, suc, ◌+◌, ◌≤◌, ◌<◌, ◌≡◌, Bool, true, false, cond, List, length, take, get_or, flat_map}
+use Rattle.std.proofs.Common.{arith, add-one, sym, ◌∙◌, length-append, length-take-le, take-take, take-suc}
+use Rattle.std.proofs.lemmas.List.{flat_map_more, take_all}
+use Rattle.std.proofs.lemmas.List.Folds.{length-flat_map-take}
 use Rattle.std.proofs.Math.Path.{refl, ap, ap₂}
-use mathlib.Core.List.{List, [], ◌++◌, append-nil}
+use mathlib.Core.List.{[], ◌++◌, append-nil}
 use Rattle.format.specs.Combinators.{Codec, dep, via, check, always}
 use Rattle.format.specs.List.{vec, enc_vec, padded, flag, of_flag, either, opt}
 use Rattle.format.specs.Num.{uint, raw, raw_same}
 use Rattle.format.specs.Through.{boxed, boxed-bytes}
-use Rattle.format.specs.Put.{writes_two, writes_three, writes_four, put_next, put_none, length-put}
+use Rattle.format.specs.Put.{writes_two, writes_three, writes_four, put, put_next, put_none, length-put}
 use Rattle.records.specs.Blank.{blank_voter_slot_log_id, blank_voter_slot_member, blank_voter_slot_record, blank_voter_replacement_record}
-use Rattle.records.specs.Records.{no_member, no_slot_record}
 use Rattle.layout.specs.Parts.{table_head_of}
-use Rattle.writer.specs.SizeLaws.{get_d_any}
+use Rattle.writer.specs.Writes.{optional_bytes, HasRoom, Wrote}
+use Rattle.writer.specs.declared.writer.Writer.{Writer}
 use Rattle.records.specs.declared.records.VoterSlotTable.{VoterSlotTable}
 use Rattle.records.specs.declared.records.SpiffeId.{SpiffeId}
 use Rattle.records.specs.declared.records.SnapshotId.{SnapshotId}
@@ -69,20 +71,27 @@ pub of_yes : (b : Bool) → flag.enc b ≡ (uint 1).enc (of_flag b)
 unfolding flag via check
 of_yes b = refl
 
--- a flag, and after a yes the value
-module _ {A : Type 0} (C : Codec A) (blank a : A) (b : Bool) where
-  pub of_some : b ≡ true → (opt C blank).enc (b, a) ≡ flag.enc b ++ C.enc a
-  unfolding opt dep either
-  of_some e = ap (λ t. flag.enc b ++ (either t C (always blank)).enc a) e
+-- a part that may be absent: a flag, and after a yes the bytes
+module _ {A : Type 0} (f : A → List ℕ) (b : Bool) (a : A) where
+  pub of_some : b ≡ true → optional_bytes f b a ≡ flag.enc b ++ f a
+  unfolding optional_bytes
+  of_some e = ap (λ t. flag.enc b ++ cond t (f a) []) e
 
-  pub of_none : b ≡ false → (opt C blank).enc (b, a) ≡ flag.enc b
-  unfolding opt dep either always
-  of_none e = ap (λ t. flag.enc b ++ (either t C (always blank)).enc a) e ∙ append-nil (flag.enc b)
+  pub of_none : b ≡ false → optional_bytes f b a ≡ flag.enc b
+  unfolding optional_bytes
+  of_none e = ap (λ t. flag.enc b ++ cond t (f a) []) e ∙ append-nil (flag.enc b)
 
   -- there is room for the flag
-  pub flag_first : length (flag.enc b) ≤ length ((opt C blank).enc (b, a))
-  unfolding opt dep
-  flag_first = omega (arith, length-append (flag.enc b) ((either b C (always blank)).enc a))
+  pub flag_first : length (flag.enc b) ≤ length (optional_bytes f b a)
+  unfolding optional_bytes
+  flag_first = omega (arith, length-append (flag.enc b) (cond b (f a) []))
+
+-- and so the form has it
+module _ {A : Type 0} (C : Codec A) (blank : A) where
+  pub of_opt : (b : Bool) (a : A) → (opt C blank).enc (b, a) ≡ optional_bytes C.enc b a
+  unfolding optional_bytes opt dep either always
+  of_opt true a = refl
+  of_opt false a = refl
 
 -- an attestation in its box: its size, and its bytes
 pub of_boxed : (a : LostVoterAttestationV1) → (boxed attestation 8192).enc a ≡ (uint 2).enc (length (claims.enc a)) ++ claims.enc a
@@ -94,73 +103,67 @@ pub of_optional_log_id : (o : OptionalLogId) → optional_log_id.enc o ≡ (opt 
 unfolding optional_log_id via
 of_optional_log_id o = refl
 
--- what is written of the first i of a list
+-- a turn of a loop over a list, whose bytes are written one after another: those so far and those
+-- of one more, for which there is room
+module _ {A : Type 0} (f : A → List ℕ) (l : List A) where
+  pub all_none : flat_map f (take 0 l) ≡ []
+  all_none = refl
+
+  pub all_step : (i : ℕ) (d : A) → i < length l
+      → (flat_map f (take (i + 1) l) ≡ flat_map f (take i l) ++ f (get_or l i d)) × (length (flat_map f (take i l)) + length (f (get_or l i d)) ≤ length (flat_map f l))
+  all_step i d h = (
+    ap (λ n. flat_map f (take n l)) (add-one i) ∙ ap (flat_map f) (take-suc l i d h)
+        ∙ sym (flat_map_more f [] (take i l) (get_or l i d)),
+    length-flat_map-take f l i d h,
+  )
+
+-- and the writer that has written those so far
+module _ {A : Type 0} (f : A → List ℕ) (l : List A) (i : ℕ) (x : A) (v w : Writer) (room : HasRoom (flat_map f l) v) (h : i < length l) (e : x ≡ get_or l i x) (so : Wrote (flat_map f (take i l)) v w) where
+  pub all_room : HasRoom (f x) w
+  all_room =
+      omega (arith, (all_step f l i x h).1, ap (λ y. length (f y)) e, so.1, ap length so.2, length-put (flat_map f (take i l)) v.at v.buffer.now (omega (arith, (all_step f l i x h).1)))
+
+  pub all_more : (u : Writer) → Wrote (f x) w u → Wrote (flat_map f (take (i + 1) l)) v u
+  all_more u s =
+      let now : flat_map f (take (i + 1) l) ≡ flat_map f (take i l) ++ f x = (all_step f l i x h).0 ∙ ap (λ y. flat_map f (take i l) ++ f y) (sym e) in
+      let long = length-append (flat_map f (take i l)) (f x) in (
+        s.0 ∙ so.0,
+        omega (arith, s.1, so.1, ap length now, long),
+        s.2 ∙ ap₂ (put (f x)) so.1 so.2
+            ∙ sym (put_next (flat_map f (take i l)) (f x) v.at v.buffer.now (omega (arith, (all_step f l i x h).1, ap (λ y. length (f y)) e, long)))
+            ∙ ap (λ b. put b v.at v.buffer.now) (sym now),
+      )
+
+-- the first n of a list, in a place of nine
 module _ {A : Type 0} (C : Codec A) (blank : A) where
-  unfoldable pub firsts : ℕ → List A → List ℕ
-  firsts i l = enc_vec C blank i (take i l)
+  all_vec : (n : ℕ) (l : List A) → n ≤ length l → enc_vec C blank n l ≡ flat_map C.enc (take n l)
+  unfolding enc_vec
+  all_vec zero l h = refl
+  all_vec (suc n) l h =
+      ap (λ m. m ++ C.enc (get_or l n blank))
+      (all_vec n (take n l) (omega (arith, length-take-le n l (omega arith))) ∙ ap (flat_map C.enc) (take-take n n l (omega arith)))
+      ∙ flat_map_more C.enc [] (take n l) (get_or l n blank)
+      ∙ ap (flat_map C.enc) (sym (take-suc l n blank h))
 
-  -- of none, nothing
-  pub firsts-none : (l : List A) → firsts 0 l ≡ []
-  unfolding firsts enc_vec
-  firsts-none l = refl
+  vec_front : (n : ℕ) (l : List A) → length (take n l) ≡ n → enc_vec C blank n (take n l) ≡ flat_map C.enc (take n l)
+  vec_front n l h = all_vec n (take n l) (omega (arith, h)) ∙ ap (flat_map C.enc) (take-take n n l (omega arith))
 
-  firsts-suc : (i : ℕ) (l : List A) → firsts (suc i) l ≡ firsts i l ++ C.enc (get_or l i blank)
-  unfolding firsts enc_vec
-  firsts-suc i l =
-      ap₂ (λ m x. enc_vec C blank i m ++ C.enc x) (take-take i (suc i) l (omega arith)) (get_or-take (suc i) l i blank (omega arith))
-
-  -- one more, at `i + 1` as a loop counts
-  pub firsts_more : (i : ℕ) (l : List A) → firsts (i + 1) l ≡ firsts i l ++ C.enc (get_or l i blank)
-  firsts_more i l = ap (λ n. firsts n l) (add-one i) ∙ firsts-suc i l
-
-  grows : (i d : ℕ) (l : List A) → length (firsts i l) ≤ length (firsts (d + i) l)
-  grows i zero l = subst (λ n. length (firsts i l) ≤ length (firsts n l)) (sym (zero-add i)) (omega arith)
-  grows i (suc d) l =
-      subst (λ n. length (firsts i l) ≤ length (firsts n l)) (sym (suc-add d i))
-      (omega (arith, grows i d l, ap length (firsts-suc (d + i) l), length-append (firsts (d + i) l) (C.enc (get_or l (d + i) blank))))
-
-  -- fewer take no more room
-  pub firsts-within : (i n : ℕ) (l : List A) → i ≤ n → length (firsts i l) ≤ length (firsts n l)
-  firsts-within i n l h = subst (λ k. length (firsts i l) ≤ length (firsts k l)) (sub-add_cancel h) (grows i (n - i) l)
-
-  -- a turn of a loop over them, and the room for what it writes
-  pub firsts_step : (i : ℕ) (l : List A) → i < length l
-      → (firsts i l ≡ firsts i l) × (firsts (i + 1) l ≡ firsts i l ++ C.enc (get_or l i blank)) × (length (firsts i l ++ C.enc (get_or l i blank)) ≤ length (firsts (length l) l))
-  firsts_step i l h =
-      let e = firsts_more i l in
-      (refl, e, omega (arith, ap length e, firsts-within (i + 1) (length l) l (omega arith)))
-
-  -- they are all of the front
-  pub firsts_front : (n : ℕ) (l : List A) → n ≤ length l → firsts n l ≡ firsts (length (take n l)) (take n l)
-  unfolding firsts
-  firsts_front n l h =
-      ap (λ k. enc_vec C blank n k) (sym (take-take n n l (omega arith)))
-      ∙ ap (λ k. enc_vec C blank k (take k (take n l))) (sym (length-take-le n l h))
-
--- a value that stands past the end of a list does not matter
-module _ {A : Type 0} (C : Codec A) (c d : A) where
-  pub firsts_any : (n : ℕ) (l : List A) → n ≤ length l → firsts C c n l ≡ firsts C d n l
-  unfolding firsts enc_vec
-  firsts_any zero l h = refl
-  firsts_any (suc n) l h =
-      firsts-suc C c n l ∙ ap₂ (λ a x. a ++ C.enc x) (firsts_any n l (omega arith)) (get_d_any l n c d h) ∙ sym (firsts-suc C d n l)
-
--- the members in use, as a part of the nine places
-pub of_members : (n : ℕ) (l : List VoterSlotMember) → n ≤ length l → (members n).enc l ≡ firsts member no_member (length (take n l)) (take n l)
-unfolding members padded via vec firsts
-of_members n l h = firsts_any member blank_voter_slot_member no_member n l h ∙ firsts_front member no_member n l h
+-- the members in use
+pub of_members : (n : ℕ) (l : List VoterSlotMember) → length (take n l) ≡ n → (members n).enc l ≡ flat_map member.enc (take n l)
+unfolding members padded via vec
+of_members n l h = vec_front member blank_voter_slot_member n l h
 
 -- and the slots
-pub of_slots : (n : ℕ) (l : List VoterSlotRecord) → n ≤ length l → (slots n).enc l ≡ firsts slot no_slot_record (length (take n l)) (take n l)
-unfolding slots padded via vec firsts
-of_slots n l h = firsts_any slot blank_voter_slot_record no_slot_record n l h ∙ firsts_front slot no_slot_record n l h
+pub of_slots : (n : ℕ) (l : List VoterSlotRecord) → length (take n l) ≡ n → (slots n).enc l ≡ flat_map slot.enc (take n l)
+unfolding slots padded via vec
+of_slots n l h = vec_front slot blank_voter_slot_record n l h
 
 pub ruleset writing =
     (writes_two, writes_three, writes_four, of_slot_id, of_incarnation, of_epoch, of_slot_count, of_choice, of_version, of_head, of_spiffe_id, of_snapshot_id, raw_same, length-take-le, put_next, length-put, length-append)
 
-pub ruleset optional = (of_optional_log_id, of_yes, of_some, of_none, flag_first, writing)
+pub ruleset optional = (of_optional_log_id, of_yes, of_some, of_none, flag_first, of_opt, writing)
 
-pub ruleset listed = (of_members, of_slots, firsts-none, firsts_step, put_none, writing)
+pub ruleset listed = (of_members, of_slots, all_none, all_step, take_all, put_none, writing)
 
 -- a table, one part after the other
 pub of_table : (t : VoterSlotTable) → table.enc t
@@ -168,4 +171,4 @@ pub of_table : (t : VoterSlotTable) → table.enc t
 unfolding table via dep
 of_table t = refl
 
-pub ruleset tabled = (of_table, optional)
+pub ruleset tabled = (of_table, of_slots, optional)

@@ -4,18 +4,14 @@
 // 717de332e7, Apache-2.0 (see NOTICE). Changed: groups of fields that stand together have a writer
 // of their own (layout's parts.rt); the size of what varies is computed first.
 ghost use Rattle.std.specs.Prelude.{◌≡◌, ◌+◌, ◌≤◌, length};
-ghost use Rattle.format.specs.List.{opt};
 ghost use Rattle.format.specs.Put.{Put};
 ghost use Rattle.format.specs.Through.{boxed};
-ghost use Rattle.records.specs.Blank.{blank_voter_replacement_result, blank_voter_snapshot_evidence, blank_voter_replacement_record};
-ghost use Rattle.records.specs.Records.{no_member, no_slot_record};
-ghost use Rattle.layout.specs.Parts.{NamesFit, ReplacementFits, TableFits, binding_of, result_head_of, slot_member_of, claims_request_of, claims_slot_of, claims_names_of, claims_end_of, change_of, table_head_of};
+ghost use Rattle.layout.specs.Parts.{NamesFit, ReplacementFits, TableFits, binding_of, result_head_of, claims_request_of, claims_slot_of, claims_end_of};
 ghost use Rattle.layout.specs.Layout as layout;
-ghost use Rattle.writer.specs.PutLaws.{firsts};
 ghost use Rattle.writer.specs.Size.{attestation_size, slots_size, cut_size, three_cuts_size, configuration_size, evidence_size, replacement_size};
 ghost use Rattle.writer.specs.Writes.{HasRoom, IsSized, Wrote};
 
-use crate::writer::Writer;
+use crate::writer::{Encode, Writer};
 use identity::identity::VoterSlotIdentity;
 use layout::parts::*;
 use records::records::*;
@@ -101,43 +97,9 @@ impl<'a> Writer<'a> {
         self.u64(member.admission_generation);
     }
 
-    // A member of a configuration.
-    #[tactic(auto, using(crate::specs::PutLaws::writing), unfolding(layout::specs::Layout::member))]
-    fn member(&mut self, member: &VoterSlotMember)
-        requires { HasRoom ((layout.member).enc member.now) self.old }
-        ensures { Wrote ((layout.member).enc member.now) self.old self.new }
-    {
-        self.identity(member.identity);
-        self.binding(member);
-    }
-
-    // The first so many of the nine places. It takes the array itself, whose length is known then, and
-    // of an array within a record behind a `&` is not. (`slots` is no twin that one generic function
-    // would spare: a trait for both would say both contracts again.)
-    #[tactic(auto, using(crate::specs::PutLaws::listed))]
-    fn members(&mut self, members: &[VoterSlotMember; MAX_FIXED_VOTER_SLOTS], count: usize)
-        requires room { HasRoom ((layout.members count).enc members.now) self.old }
-        requires small { count ≤ 9 }
-        ensures { Wrote ((layout.members count).enc members.now) self.old self.new }
-    {
-        for member in &members[..count] {
-            self.member(member);
-        }
-    }
-
-    // `configuration`
-    #[tactic(auto, using(crate::specs::PutLaws::writing), unfolding(layout::specs::Layout::configuration))]
-    fn configuration(&mut self, configuration: &VoterConfiguration)
-        requires room { HasRoom ((layout.configuration).enc configuration.now) self.old }
-        requires small { configuration.now.count ≤ 9 }
-        ensures { Wrote ((layout.configuration).enc configuration.now) self.old self.new }
-    {
-        self.u64(configuration.epoch);
-        self.u8(configuration.count as u8);
-        self.members(&configuration.members, configuration.count);
-    }
-
-    // The front of a receipt.
+    // The front of a receipt. It is a function of its own, since the search for a proof gives up at a
+    // limit of steps: it finds one for this half and one for the whole receipt that calls it, and none
+    // for both in one function.
     #[tactic(auto, using(crate::specs::PutLaws::writing), unfolding(layout::specs::Layout::result_head))]
     fn result_head(&mut self, res: &VoterReplacementResult)
         requires { HasRoom ((layout.result_head).enc (result_head_of res.now)) self.old }
@@ -149,56 +111,8 @@ impl<'a> Writer<'a> {
         self.u64(res.revision);
     }
 
-    // A receipt.
-    #[tactic(auto, using(crate::specs::PutLaws::writing), unfolding(layout::specs::Layout::replacement_result))]
-    fn replacement_result(&mut self, res: &VoterReplacementResult)
-        requires { HasRoom ((layout.replacement_result).enc res.now) self.old }
-        ensures { Wrote ((layout.replacement_result).enc res.now) self.old self.new }
-    {
-        self.result_head(res);
-        self.u64(res.configuration_epoch);
-        self.u8(res.kind);
-        self.log_id(res.terminal);
-    }
-
-    // The front of a slot.
-    #[tactic(auto, using(crate::specs::PutLaws::writing), unfolding(layout::specs::Layout::slot_member))]
-    fn slot_member(&mut self, slot: &VoterSlotRecord)
-        requires { HasRoom ((layout.slot_member).enc (slot_member_of slot.now)) self.old }
-        ensures { Wrote ((layout.slot_member).enc (slot_member_of slot.now)) self.old self.new }
-    {
-        self.identity(slot.member.identity);
-        self.u64(slot.retired_through);
-        self.binding(&slot.member);
-    }
-
-    // A slot.
-    #[tactic(auto, using(crate::specs::PutLaws::optional), unfolding(layout::specs::Layout::slot))]
-    fn slot(&mut self, slot: &VoterSlotRecord)
-        requires { HasRoom ((layout.slot).enc slot.now) self.old }
-        ensures { Wrote ((layout.slot).enc slot.now) self.old self.new }
-    {
-        self.slot_member(slot);
-        self.u8(slot.phase);
-        self.flag(slot.has_last_result);
-        if slot.has_last_result {
-            self.replacement_result(&slot.last_result);
-        }
-    }
-
-    // The first so many of the nine places.
-    #[tactic(auto, using(crate::specs::PutLaws::listed))]
-    fn slots(&mut self, slots: &[VoterSlotRecord; MAX_FIXED_VOTER_SLOTS], count: usize)
-        requires room { HasRoom ((layout.slots count).enc slots.now) self.old }
-        requires small { count ≤ 9 }
-        ensures { Wrote ((layout.slots count).enc slots.now) self.old self.new }
-    {
-        for slot in &slots[..count] {
-            self.slot(slot);
-        }
-    }
-
-    // `unsigned_claims` and the signature, in four groups.
+    // `unsigned_claims`, and the signature after it, are written in three groups and the names. This is
+    // the first group: which request the attestation is of.
     #[tactic(auto, using(crate::specs::PutLaws::writing), unfolding(layout::specs::Layout::claims_request))]
     fn claims_request(&mut self, claims: &LostVoterAttestationV1)
         requires { HasRoom ((layout.claims_request).enc (claims_request_of claims.now)) self.old }
@@ -209,32 +123,23 @@ impl<'a> Writer<'a> {
         self.bytes(&claims.request_digest);
     }
 
+    // The second group: of which slot the attestation is, and for which candidate.
     #[tactic(auto, using(crate::specs::PutLaws::writing), unfolding(layout::specs::Layout::claims_slot))]
     fn claims_slot(&mut self, claims: &LostVoterAttestationV1)
         requires { HasRoom ((layout.claims_slot).enc (claims_slot_of claims.now)) self.old }
         ensures { Wrote ((layout.claims_slot).enc (claims_slot_of claims.now)) self.old self.new }
     {
-        self.bytes(&claims.cluster_instance);
-        self.identity(VoterSlotIdentity {
+        let identity = VoterSlotIdentity {
             slot: claims.slot,
             incarnation: claims.expected_incarnation,
-        });
+        };
+        self.bytes(&claims.cluster_instance);
+        identity.put(self);
         self.bytes(&claims.old_descriptor_digest);
         self.bytes(&claims.candidate_key_digest);
     }
 
-    #[tactic(auto, using(crate::specs::PutLaws::writing), unfolding(layout::specs::Layout::claims_names))]
-    fn claims_names(&mut self, claims: &LostVoterAttestationV1)
-        requires room { HasRoom ((layout.claims_names).enc (claims_names_of claims.now)) self.old }
-        requires small { NamesFit claims.now }
-        ensures { Wrote ((layout.claims_names).enc (claims_names_of claims.now)) self.old self.new }
-    {
-        self.u64(claims.admission_generation);
-        self.spiffe_id(&claims.candidate_spiffe_id);
-        self.spiffe_id(&claims.controller_spiffe_id);
-        self.bytes(&claims.signing_key_digest);
-    }
-
+    // The last group: why and when the candidate is admitted, and the signature.
     #[tactic(auto, using(crate::specs::PutLaws::writing), unfolding(layout::specs::Layout::claims_end))]
     fn claims_end(&mut self, claims: &LostVoterAttestationV1)
         requires { HasRoom ((layout.claims_end).enc (claims_end_of claims.now)) self.old }
@@ -246,19 +151,6 @@ impl<'a> Writer<'a> {
         self.bytes(&claims.signature);
     }
 
-    // `encode_lost_voter_attestation`, of one that is valid.
-    #[tactic(auto, using(crate::specs::PutLaws::writing), unfolding(layout::specs::Layout::claims))]
-    fn attestation(&mut self, claims: &LostVoterAttestationV1)
-        requires room { HasRoom ((layout.claims).enc claims.now) self.old }
-        requires small { NamesFit claims.now }
-        ensures { Wrote ((layout.claims).enc claims.now) self.old self.new }
-    {
-        self.claims_request(claims);
-        self.claims_slot(claims);
-        self.claims_names(claims);
-        self.claims_end(claims);
-    }
-
     // `sized_bytes`, of an attestation
     #[tactic(auto, using(crate::specs::PutLaws::writing, crate::specs::PutLaws::of_boxed))]
     fn boxed_attestation(&mut self, claims: &LostVoterAttestationV1)
@@ -268,115 +160,163 @@ impl<'a> Writer<'a> {
         ensures { Wrote ((boxed layout.attestation 8192).enc claims.now) self.old self.new }
     {
         self.u16(attestation_size(claims) as u16);
-        self.attestation(claims);
+        claims.put(self);
     }
+}
 
-    // The evidence of a snapshot.
+// A member of a configuration.
+impl Encode for VoterSlotMember {
+    ghost bytes = { (layout.member).enc };
+
+    #[tactic(auto, using(crate::specs::PutLaws::writing), unfolding(layout::specs::Layout::member))]
+    fn put(&self, output: &mut Writer) {
+        self.identity.put(output);
+        output.binding(self);
+    }
+}
+
+// `configuration`
+impl Encode for VoterConfiguration {
+    ghost bytes = { (layout.configuration).enc };
+
+    ghost fits = { λ c. c.count ≤ 9 };
+
+    #[tactic(auto, using(crate::specs::PutLaws::listed), unfolding(layout::specs::Layout::configuration))]
+    fn put(&self, output: &mut Writer) {
+        output.u64(self.epoch);
+        output.u8(self.count as u8);
+        output.all(self.members_in_use());
+    }
+}
+
+// A receipt.
+impl Encode for VoterReplacementResult {
+    ghost bytes = { (layout.replacement_result).enc };
+
+    #[tactic(auto, using(crate::specs::PutLaws::writing), unfolding(layout::specs::Layout::replacement_result))]
+    fn put(&self, output: &mut Writer) {
+        output.result_head(self);
+        output.u64(self.configuration_epoch);
+        output.u8(self.kind);
+        self.terminal.put(output);
+    }
+}
+
+// A slot.
+impl Encode for VoterSlotRecord {
+    ghost bytes = { (layout.slot).enc };
+
+    #[tactic(auto, using(crate::specs::PutLaws::optional), unfolding(layout::specs::Layout::slot, layout::specs::Layout::slot_member))]
+    fn put(&self, output: &mut Writer) {
+        self.member.identity.put(output);
+        output.u64(self.retired_through);
+        output.binding(&self.member);
+        output.u8(self.phase);
+        output.optional(self.has_last_result, &self.last_result);
+    }
+}
+
+// `encode_lost_voter_attestation`, of one that is valid.
+impl Encode for LostVoterAttestationV1 {
+    ghost bytes = { (layout.claims).enc };
+
+    ghost fits = { NamesFit };
+
+    #[tactic(auto, using(crate::specs::PutLaws::writing), unfolding(layout::specs::Layout::claims, layout::specs::Layout::claims_names))]
+    fn put(&self, output: &mut Writer) {
+        output.claims_request(self);
+        output.claims_slot(self);
+        output.u64(self.admission_generation);
+        self.candidate_spiffe_id.put(output);
+        self.controller_spiffe_id.put(output);
+        output.bytes(&self.signing_key_digest);
+        output.claims_end(self);
+    }
+}
+
+// The evidence of a snapshot.
+impl Encode for VoterSnapshotEvidence {
+    ghost bytes = { (layout.snapshot).enc };
+
+    ghost fits = { λ s. s.snapshot_id.len ≤ 256 };
+
     #[tactic(auto, using(crate::specs::PutLaws::writing), unfolding(layout::specs::Layout::snapshot))]
-    fn snapshot(&mut self, snapshot: &VoterSnapshotEvidence)
-        requires room { HasRoom ((layout.snapshot).enc snapshot.now) self.old }
-        requires small { snapshot.now.snapshot_id.len ≤ 256 }
-        ensures { Wrote ((layout.snapshot).enc snapshot.now) self.old self.new }
-    {
-        self.log_id(snapshot.cut);
-        self.snapshot_id(&snapshot.snapshot_id);
-        self.bytes(&snapshot.digest);
+    fn put(&self, output: &mut Writer) {
+        self.cut.put(output);
+        self.snapshot_id.put(output);
+        output.bytes(&self.digest);
     }
+}
 
-    // A snapshot, or none: a function of its own, since more is written after it.
-    #[tactic(auto, using(crate::specs::PutLaws::optional))]
-    fn optional_snapshot(&mut self, is_some: bool, snapshot: &VoterSnapshotEvidence)
-        requires room { HasRoom ((opt layout.snapshot blank_voter_snapshot_evidence).enc (is_some, snapshot.now)) self.old }
-        requires small { snapshot.now.snapshot_id.len ≤ 256 }
-        ensures { Wrote ((opt layout.snapshot blank_voter_snapshot_evidence).enc (is_some, snapshot.now)) self.old self.new }
-    {
-        self.flag(is_some);
-        if is_some {
-            self.snapshot(snapshot);
-        }
+// The evidence of a replacement.
+impl Encode for VoterReplacementEvidence {
+    ghost bytes = { (layout.evidence).enc };
+
+    ghost fits = { λ e. e.snapshot.snapshot_id.len ≤ 256 };
+
+    #[tactic(auto, using(crate::specs::PutLaws::optional), unfolding(layout::specs::Layout::evidence))]
+    fn put(&self, output: &mut Writer) {
+        self.prepare.put(output);
+        output.optional(self.has_snapshot, &self.snapshot);
+        early_cuts(self).put(output);
+        late_cuts(self).put(output);
     }
+}
 
-    // The evidence of a replacement.
-    #[tactic(auto, using(crate::specs::PutLaws::writing), unfolding(layout::specs::Layout::evidence))]
-    fn evidence(&mut self, evidence: &VoterReplacementEvidence)
-        requires room { HasRoom ((layout.evidence).enc evidence.now) self.old }
-        requires small { evidence.now.snapshot.snapshot_id.len ≤ 256 }
-        ensures { Wrote ((layout.evidence).enc evidence.now) self.old self.new }
-    {
-        self.log_id(evidence.prepare);
-        self.optional_snapshot(evidence.has_snapshot, &evidence.snapshot);
-        self.three_cuts(early_cuts(evidence));
-        self.three_cuts(late_cuts(evidence));
-    }
+// An open request.
+impl Encode for VoterReplacementRecord {
+    ghost bytes = { (layout.replacement).enc };
 
-    // What an open request changes, and how far it is.
-    #[tactic(auto, using(crate::specs::PutLaws::writing), unfolding(layout::specs::Layout::change))]
-    fn change(&mut self, operation: &VoterReplacementRecord)
-        requires room { HasRoom ((layout.change).enc (change_of operation.now)) self.old }
-        requires small { ReplacementFits operation.now }
-        ensures { Wrote ((layout.change).enc (change_of operation.now)) self.old self.new }
-    {
-        self.configuration(&operation.predecessor);
-        self.configuration(&operation.successor);
-        self.u8(operation.phase);
-    }
+    ghost fits = { λ r. ReplacementFits r × IsSized r.attestation };
 
-    // An open request.
-    #[tactic(auto, using(crate::specs::PutLaws::writing), unfolding(layout::specs::Layout::replacement))]
-    fn replacement(&mut self, operation: &VoterReplacementRecord)
-        requires room { HasRoom ((layout.replacement).enc operation.now) self.old }
-        requires small { ReplacementFits operation.now }
-        requires sized { IsSized operation.now.attestation }
-        ensures { Wrote ((layout.replacement).enc operation.now) self.old self.new }
-    {
-        self.u64(operation.expected_revision);
-        self.boxed_attestation(&operation.attestation);
-        self.change(operation);
-        self.evidence(&operation.evidence);
-    }
-
-    // The front of a table, after the magic and the version.
-    #[tactic(auto, using(crate::specs::PutLaws::writing), unfolding(layout::specs::Layout::table_head))]
-    fn table_head(&mut self, table: &VoterSlotTable)
-        requires { HasRoom ((layout.table_head).enc (table_head_of table.now)) self.old }
-        ensures { Wrote ((layout.table_head).enc (table_head_of table.now)) self.old self.new }
-    {
-        self.bytes(&table.cluster_instance);
-        self.bytes(&table.manifest_digest);
-        self.u64(table.revision);
-        self.u64(table.configuration_epoch);
-    }
-
-    // `encode_voter_slot_table`, of a table that is valid.
-    #[tactic(auto, using(crate::specs::PutLaws::tabled))]
-    fn table(&mut self, table: &VoterSlotTable)
-        requires room { HasRoom ((layout.table).enc table.now) self.old }
-        requires small { TableFits table.now }
-        requires sized { IsSized table.now.replacement.attestation }
-        ensures { Wrote ((layout.table).enc table.now) self.old self.new }
-    {
-        self.magic_and_version();
-        self.table_head(table);
-        self.u8(table.count as u8);
-        self.slots(&table.slots, table.count);
-        self.flag(table.has_replacement);
-        if table.has_replacement {
-            self.replacement(&table.replacement);
-        }
+    #[tactic(auto, using(crate::specs::PutLaws::writing), unfolding(layout::specs::Layout::replacement, layout::specs::Layout::change))]
+    fn put(&self, output: &mut Writer) {
+        output.u64(self.expected_revision);
+        output.boxed_attestation(&self.attestation);
+        self.predecessor.put(output);
+        self.successor.put(output);
+        output.u8(self.phase);
+        self.evidence.put(output);
     }
 }
 
 // `encode_voter_slot_table`, of a table that is valid.
+impl Encode for VoterSlotTable {
+    ghost bytes = { (layout.table).enc };
+
+    ghost fits = { λ t. TableFits t × IsSized t.replacement.attestation };
+
+    #[tactic(auto, using(crate::specs::PutLaws::tabled), unfolding(layout::specs::Layout::table_head))]
+    fn put(&self, output: &mut Writer) {
+        output.magic_and_version();
+        output.bytes(&self.cluster_instance);
+        output.bytes(&self.manifest_digest);
+        output.u64(self.revision);
+        output.u64(self.configuration_epoch);
+        output.u8(self.count as u8);
+        output.all(self.slots_in_use());
+        output.optional(self.has_replacement, &self.replacement);
+    }
+}
+
+// `encode_voter_slot_table`, of a table that is valid. It takes the place in the buffer as `put_bytes`
+// does, which all that is written goes through. It and `table_size` take the table by value: of
+// one that lies behind a `&` the check does not know that its arrays have their lengths, and so not
+// how many bytes they take.
 pub fn put_table(buffer: &mut [u8], at: usize, table: VoterSlotTable) -> usize
     requires { (at + length ((layout.table).enc table) ≤ length buffer.old) × TableFits table }
     ensures { Put ((layout.table).enc table) at buffer.old buffer.new result }
 {
     let mut output = Writer::new(buffer, at);
-    output.table(&table);
+    table.put(&mut output);
     output.at
 }
 
-// How many bytes each takes (Size.antt): an attestation,
+// The functions from here on say how many bytes a value takes, as Size.antt does. Each has a size of
+// its own, and is called once or twice: as a method of `Encode` there would be a size, with its clause,
+// of the other writers too, which nobody asks for.
+//
+// How many bytes an attestation takes.
 fn attestation_size(claims: &LostVoterAttestationV1) -> usize
     requires { NamesFit claims.now }
     ensures { result ≡ attestation_size claims.now }
@@ -384,14 +324,15 @@ fn attestation_size(claims: &LostVoterAttestationV1) -> usize
     ATTESTATION_SIZE + claims.candidate_spiffe_id.len + claims.controller_spiffe_id.len
 }
 
-// the slots in use,
+// How many bytes the slots in use take. The definition is a sum over the places below a count, and so
+// is the loop's.
 #[tactic(auto, using(crate::specs::SizeLaws::sizes), unfolding(crate::specs::Size::slots_size))]
-fn slots_size(slots: &[VoterSlotRecord; MAX_FIXED_VOTER_SLOTS], count: usize) -> usize
-    requires { count ≤ 9 }
-    ensures { result ≡ slots_size slots.now count }
+fn slots_size(slots: &[VoterSlotRecord]) -> usize
+    requires { length slots.now ≤ 9 }
+    ensures { result ≡ slots_size slots.now (length slots.now) }
 {
     let mut size = 0;
-    for slot in &slots[..count] {
+    for slot in slots {
         size += if slot.has_last_result {
             FULL_SLOT_SIZE
         } else {
@@ -401,7 +342,7 @@ fn slots_size(slots: &[VoterSlotRecord; MAX_FIXED_VOTER_SLOTS], count: usize) ->
     size
 }
 
-// a cut, with its flag,
+// How many bytes a cut takes, with its flag.
 fn cut_size(optional: OptionalLogId) -> usize
     ensures { result ≡ cut_size optional }
 {
@@ -412,7 +353,7 @@ fn cut_size(optional: OptionalLogId) -> usize
     }
 }
 
-// three of them,
+// How many bytes three cuts take.
 #[tactic(auto, using(crate::specs::SizeLaws::sizes))]
 fn three_cuts_size(cuts: ThreeCuts) -> usize
     ensures { result ≡ three_cuts_size cuts }
@@ -420,7 +361,8 @@ fn three_cuts_size(cuts: ThreeCuts) -> usize
     cut_size(cuts.first) + cut_size(cuts.second) + cut_size(cuts.third)
 }
 
-// a configuration,
+// How many bytes a configuration takes. It asks for the count, as `slots_size` does, so that the sum
+// is no more than a number holds; where a table is written `TableFits` has it.
 fn configuration_size(configuration: &VoterConfiguration) -> usize
     requires { configuration.now.count ≤ 9 }
     ensures { result ≡ configuration_size configuration.now }
@@ -428,7 +370,7 @@ fn configuration_size(configuration: &VoterConfiguration) -> usize
     CONFIGURATION_SIZE + MEMBER_SIZE * configuration.count
 }
 
-// the evidence of a replacement,
+// How many bytes the evidence of a replacement takes.
 #[tactic(auto, using(crate::specs::SizeLaws::sizes), unfolding(crate::specs::Size::evidence_size))]
 fn evidence_size(evidence: &VoterReplacementEvidence) -> usize
     requires { evidence.now.snapshot.snapshot_id.len ≤ 256 }
@@ -441,7 +383,7 @@ fn evidence_size(evidence: &VoterReplacementEvidence) -> usize
     EVIDENCE_SIZE + cuts
 }
 
-// an open request,
+// How many bytes an open request takes.
 #[tactic(auto, using(crate::specs::SizeLaws::sizes), unfolding(crate::specs::Size::replacement_size))]
 fn replacement_size(operation: &VoterReplacementRecord) -> usize
     requires { ReplacementFits operation.now }
@@ -455,13 +397,13 @@ fn replacement_size(operation: &VoterReplacementRecord) -> usize
         + evidence_size(&operation.evidence)
 }
 
-// and a table.
+// How many bytes a table takes.
 #[tactic(auto, using(crate::specs::SizeLaws::sizes))]
 pub fn table_size(table: VoterSlotTable) -> usize
     requires { TableFits table }
     ensures { result ≡ length ((layout.table).enc table) }
 {
-    let front = TABLE_SIZE + slots_size(&table.slots, table.count);
+    let front = TABLE_SIZE + slots_size(table.slots_in_use());
     if table.has_replacement {
         return front + replacement_size(&table.replacement);
     }

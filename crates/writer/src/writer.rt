@@ -6,13 +6,14 @@
 // the size of what varies is computed first.
 //
 // Each method asks for room for the bytes of its form, and promises that it wrote them (`HasRoom`
-// and `Wrote` of Writes.antt).
-ghost use Rattle.std.specs.Prelude.{◌≡◌, ◌++◌, ◌≤◌, length};
+// and `Wrote` of Writes.antt). A record with a form of its own is `Encode`, which has these two
+// clauses once for all.
+ghost use Rattle.std.specs.Prelude.{◌≡◌, ◌++◌, ◌≤◌, List, ℕ, flat_map, length};
 ghost use Rattle.format.specs.List.{flag};
 ghost use Rattle.format.specs.Num.{uint};
 ghost use Rattle.layout.specs.Layout as layout;
 ghost use Rattle.layout.specs.Parts.{times_of};
-ghost use Rattle.writer.specs.Writes.{HasRoom, Wrote};
+ghost use Rattle.writer.specs.Writes.{HasRoom, Wrote, optional_bytes};
 
 use identity::identity::VoterSlotIdentity;
 use layout::parts::{ThreeCuts, VERSION};
@@ -24,6 +25,20 @@ use records::records::*;
 pub struct Writer<'a> {
     pub buffer: &'a mut [u8],
     pub at: usize,
+}
+
+// What is written by one call.
+pub trait Encode {
+    // The bytes of its form.
+    ghost bytes: { Self → List ℕ };
+
+    // That its lengths are no more than it has places for. Most values have no length.
+    ghost fits: { Self → Type 0 } = { λ _. Unit {0} };
+
+    fn put(&self, output: &mut Writer)
+        requires room { HasRoom (bytes self.now) output.old }
+        requires small { fits self.now }
+        ensures { Wrote (bytes self.now) output.old output.new };
 }
 
 impl<'a> Writer<'a> {
@@ -44,7 +59,8 @@ impl<'a> Writer<'a> {
         self.at = put_bytes(self.buffer, self.at, bytes);
     }
 
-    // `u8`
+    // `u8`. There is a method for each width, since the library has no trait of all numbers; the bytes
+    // of each are given by its own `to_be_bytes`, and have a lemma of their own.
     #[tactic(auto, using(format::specs::Put::bytes_of_1))]
     pub fn u8(&mut self, value: u8)
         requires { HasRoom ((uint 1).enc value) self.old }
@@ -71,26 +87,6 @@ impl<'a> Writer<'a> {
         self.bytes(&value.to_be_bytes());
     }
 
-    // `identity`
-    #[tactic(auto, using(crate::specs::PutLaws::writing), unfolding(layout::specs::Layout::identity))]
-    pub fn identity(&mut self, identity: VoterSlotIdentity)
-        requires { HasRoom ((layout.identity).enc identity) self.old }
-        ensures { Wrote ((layout.identity).enc identity) self.old self.new }
-    {
-        self.u16(identity.slot);
-        self.u64(identity.incarnation);
-    }
-
-    // `log_id`
-    #[tactic(auto, using(crate::specs::PutLaws::writing), unfolding(layout::specs::Layout::log_id))]
-    pub fn log_id(&mut self, id: VoterSlotLogId)
-        requires { HasRoom ((layout.log_id).enc id) self.old }
-        ensures { Wrote ((layout.log_id).enc id) self.old self.new }
-    {
-        self.u64(id.term);
-        self.u64(id.index);
-    }
-
     // The byte in front of an optional part.
     #[tactic(auto, using(crate::specs::PutLaws::of_yes))]
     pub fn flag(&mut self, yes: bool)
@@ -98,29 +94,6 @@ impl<'a> Writer<'a> {
         ensures { Wrote (flag.enc yes) self.old self.new }
     {
         self.u8(u8::from(yes));
-    }
-
-    // A cut, or none.
-    #[tactic(auto, using(crate::specs::PutLaws::optional))]
-    pub fn optional_log_id(&mut self, optional: OptionalLogId)
-        requires { HasRoom ((layout.optional_log_id).enc optional) self.old }
-        ensures { Wrote ((layout.optional_log_id).enc optional) self.old self.new }
-    {
-        self.flag(optional.is_some);
-        if optional.is_some {
-            self.log_id(optional.cut);
-        }
-    }
-
-    // Three of the cuts that end the evidence.
-    #[tactic(auto, using(crate::specs::PutLaws::writing), unfolding(layout::specs::Layout::three_cuts))]
-    pub fn three_cuts(&mut self, cuts: ThreeCuts)
-        requires { HasRoom ((layout.three_cuts).enc cuts) self.old }
-        ensures { Wrote ((layout.three_cuts).enc cuts) self.old self.new }
-    {
-        self.optional_log_id(cuts.first);
-        self.optional_log_id(cuts.second);
-        self.optional_log_id(cuts.third);
     }
 
     // The times of an attestation.
@@ -146,26 +119,6 @@ impl<'a> Writer<'a> {
         self.bytes(bytes);
     }
 
-    // `sized_bytes`, of a name
-    #[tactic(auto, using(crate::specs::PutLaws::writing))]
-    pub fn spiffe_id(&mut self, id: &SpiffeId)
-        requires room { HasRoom ((layout.spiffe_id).enc id.now) self.old }
-        requires small { id.now.len ≤ 2048 }
-        ensures { Wrote ((layout.spiffe_id).enc id.now) self.old self.new }
-    {
-        self.sized_bytes(&id.bytes[..id.len]);
-    }
-
-    // `sized_bytes`, of a snapshot id
-    #[tactic(auto, using(crate::specs::PutLaws::writing))]
-    pub fn snapshot_id(&mut self, id: &SnapshotId)
-        requires room { HasRoom ((layout.snapshot_id).enc id.now) self.old }
-        requires small { id.now.len ≤ 256 }
-        ensures { Wrote ((layout.snapshot_id).enc id.now) self.old self.new }
-    {
-        self.sized_bytes(&id.bytes[..id.len]);
-    }
-
     // The version of a table and of an attestation.
     #[tactic(auto, using(crate::specs::PutLaws::writing))]
     pub fn version(&mut self)
@@ -183,5 +136,99 @@ impl<'a> Writer<'a> {
     {
         self.bytes(b"OPVI");
         self.version();
+    }
+
+    // All of these, one after another.
+    #[tactic(auto, using(crate::specs::PutLaws::listed))]
+    pub fn all<T: Encode>(&mut self, values: &[T])
+        requires room { HasRoom (flat_map T.bytes values.now) self.old }
+        requires small { (x : T) → T.fits x }
+        ensures { Wrote (flat_map T.bytes values.now) self.old self.new }
+    {
+        for value in values {
+            value.put(self);
+        }
+    }
+
+    // A part that may be absent. It is no `Option`: the records have the flag beside the value
+    // (document 01).
+    #[tactic(auto, using(crate::specs::PutLaws::optional))]
+    pub fn optional<T: Encode>(&mut self, is_some: bool, value: &T)
+        requires room { HasRoom (optional_bytes T.bytes is_some value.now) self.old }
+        requires small { T.fits value.now }
+        ensures { Wrote (optional_bytes T.bytes is_some value.now) self.old self.new }
+    {
+        self.flag(is_some);
+        if is_some {
+            value.put(self);
+        }
+    }
+}
+
+// `identity`
+impl Encode for VoterSlotIdentity {
+    ghost bytes = { (layout.identity).enc };
+
+    #[tactic(auto, using(crate::specs::PutLaws::writing), unfolding(layout::specs::Layout::identity))]
+    fn put(&self, output: &mut Writer) {
+        output.u16(self.slot);
+        output.u64(self.incarnation);
+    }
+}
+
+// `log_id`
+impl Encode for VoterSlotLogId {
+    ghost bytes = { (layout.log_id).enc };
+
+    #[tactic(auto, using(crate::specs::PutLaws::writing), unfolding(layout::specs::Layout::log_id))]
+    fn put(&self, output: &mut Writer) {
+        output.u64(self.term);
+        output.u64(self.index);
+    }
+}
+
+// A cut, or none.
+impl Encode for OptionalLogId {
+    ghost bytes = { (layout.optional_log_id).enc };
+
+    #[tactic(auto, using(crate::specs::PutLaws::optional))]
+    fn put(&self, output: &mut Writer) {
+        output.optional(self.is_some, &self.cut);
+    }
+}
+
+// Three of the cuts that end the evidence.
+impl Encode for ThreeCuts {
+    ghost bytes = { (layout.three_cuts).enc };
+
+    #[tactic(auto, using(crate::specs::PutLaws::writing), unfolding(layout::specs::Layout::three_cuts))]
+    fn put(&self, output: &mut Writer) {
+        self.first.put(output);
+        self.second.put(output);
+        self.third.put(output);
+    }
+}
+
+// `sized_bytes`, of a name
+impl Encode for SpiffeId {
+    ghost bytes = { (layout.spiffe_id).enc };
+
+    ghost fits = { λ id. id.len ≤ 2048 };
+
+    #[tactic(auto, using(crate::specs::PutLaws::writing))]
+    fn put(&self, output: &mut Writer) {
+        output.sized_bytes(&self.bytes[..self.len]);
+    }
+}
+
+// `sized_bytes`, of a snapshot id
+impl Encode for SnapshotId {
+    ghost bytes = { (layout.snapshot_id).enc };
+
+    ghost fits = { λ id. id.len ≤ 256 };
+
+    #[tactic(auto, using(crate::specs::PutLaws::writing))]
+    fn put(&self, output: &mut Writer) {
+        output.sized_bytes(&self.bytes[..self.len]);
     }
 }

@@ -20,9 +20,9 @@ returns-then-body-gt-MOST_BODY c =
 pub returns-then-body-le-USUAL_BODY : goal.returns-then-body-le-USUAL_BODY
 returns-then-body-le-USUAL_BODY c =
     let s = c.args in
-    c.observe_bytes.ensures ∙ fits s.table.now s.body.now s.out.now (omega arith)
+    ap (λ (r : VoterSlotsResult). (r, c.observe_bytes.new.out)) c.said.ensures ∙ c.observe_bytes.ensures.gives ∙ fits s.table.now s.body.now s.out.now (omega arith)
 
 pub returns : goal.returns
 returns c =
     let s = c.args in
-    c.observe_bytes-2.ensures ∙ fits s.table.now s.body.now s.out.now (omega arith)
+    ap (λ (r : VoterSlotsResult). (r, c.observe_bytes-2.new.out)) c.said-2.ensures ∙ c.observe_bytes-2.ensures.gives ∙ fits s.table.now s.body.now s.out.now (omega arith)

@@ -1,58 +1,39 @@
--- `control::begin::begun_slots` meets its contract: what is left to find is the first of the places not passed, and its slot is replaced. Assumes nothing.
+-- `control::begin::begun_slots` meets its contract: the place that is found is that of the slot that the request names. Assumes nothing.
 use Prim.Native.Nat.{ℕ}
-use mathlib.Core.List.{List}
-use mathlib.Core.Bool.{true, false}
 use mathlib.Core.Path.{◌≡◌, refl, sym, ap, ◌∙◌}
 use native.Mathlib.Omega.{arith}
-use native.Mathlib.Nat.{sub-zero}
-use lib.ListN.{get_or, set}
-use borrow.Author.Tests.{eq-eqb, ne_eqb}
-use Rattle.records.specs.RecordsLaws.{first_more, first-none, first-stop}
-use Rattle.records.specs.Records.{first_from, no_slot_record, slot_at}
+use lib.ListN.{length, length-take, set, take}
+use Rattle.std.specs.Option.{unwrap_or}
+use Rattle.std.specs.Prelude.{Option}
+use Rattle.records.proofs.Held.{held-voter-slot-table}
+use Rattle.records.proofs.InUse.{index-in-use}
+use Rattle.records.specs.Records.{slot_at}
 use Rattle.records.specs.declared.records.VoterSlotRecord.{VoterSlotRecord}
-use Rattle.control.specs.Control.{begun_slot}
+use Rattle.control.specs.Control.{begun_slot, named_index}
 use Rattle.control.specs.BeginJudge.{slot_from}
 use Rattle.control.proofs.begin.begun_slots.Goals as goal
-use Rattle.control.proofs.begin.begun_slots.Invariants.{bears}
+use Rattle.control.proofs.begin.begun_slots.Goals.{After-place_of}
 
-pub loop-i-init : goal.loop-i-init
-loop-i-init c =
+-- the place that was found, or the count
+place : (c : After-place_of) → unwrap_or c.place_of.result c.args.table.count ≡ named_index c.args.table c.args.begin.request
+place c =
     let t = c.args.table in
-    ((omega arith, c.requires.1.0), (refl, ap (λ (n : ℕ). first_from (bears t.slots c.args.begin.request.attestation.slot) n 0) (sym (sub-zero t.count))))
+    let nine = (held-voter-slot-table t _ c.well_formed.0).slots.count in
+    let h : length (take t.count t.slots) ≡ t.count = simp length-take (omega (arith, nine, c.requires.1.0)) in
+    ap (λ (o : Option ℕ). unwrap_or o t.count) c.place_of.ensures ∙ index-in-use t (take t.count t.slots) refl h c.args.begin.request.attestation.slot
 
-pub begun_slot-slot-requires : goal.begun_slot-slot-requires
-begun_slot-slot-requires c = c.requires.0
-
-pub returns-then-slots-i : goal.returns-then-slots-i
+pub returns-in-Some : goal.returns-in-Some
 unfolding begun_slot
-returns-then-slots-i c =
+returns-in-Some c =
     let t = c.args.table in
     let r = c.args.begin.request in
     let cut = c.args.begin.cut in
-    let i = c.loop-i.i in
-    let l = c.loop-i.slots in
-    let h = c.loop-i.invariant in
-    let p = bears t.slots r.attestation.slot in
-    let here : p i ≡ true = eq-eqb _ _ (sym (ap (λ (x : List VoterSlotRecord). (get_or x i no_slot_record).member.identity.slot) h.1.0) ∙ c.if-slots-i.true) in
-    let e = h.1.1 ∙ first-stop p t.count i (omega arith) here in
-    ap (λ (x : VoterSlotRecord). set l i x) c.begun_slot-slot.ensures
-    ∙ (ap (λ (x : List VoterSlotRecord). set x i (slot_from t r cut (get_or x i no_slot_record))) h.1.0
-    ∙ ap (λ (k : ℕ). set t.slots k (slot_from t r cut (slot_at t k))) (sym e))
+    let e = ap (λ (o : Option ℕ). unwrap_or o t.count) (sym c.in-Some.is) ∙ place c.before.before.before in
+    ap (λ (x : VoterSlotRecord). set t.slots c.in-Some.at x) c.begun_slot.ensures
+    ∙ ap (λ (k : ℕ). set t.slots k (slot_from t r cut (slot_at t k))) e
 
-pub loop-i-preserved : goal.loop-i-preserved
-loop-i-preserved c =
+pub returns-in_default : goal.returns-in_default
+returns-in_default c =
     let t = c.args.table in
-    let i = c.loop-i.i in
-    let h = c.loop-i.invariant in
-    let p = bears t.slots c.args.begin.request.attestation.slot in
-    let off : p i ≡ false = ne_eqb _ _ (λ e. c.if-slots-i.false (ap (λ (x : List VoterSlotRecord). (get_or x i no_slot_record).member.identity.slot) h.1.0 ∙ e)) in
-    ((omega arith, omega arith), (h.1.0, h.1.1 ∙ first_more p t.count i (omega arith) off))
-
-pub returns : goal.returns
-returns c =
-    let t = c.args.table in
-    let i = c.loop-i.i in
-    let h = c.loop-i.invariant in
-    let p = bears t.slots c.args.begin.request.attestation.slot in
-    let e = h.1.1 ∙ first-none p t.count i (omega arith) in
+    let e = ap (λ (o : Option ℕ). unwrap_or o t.count) (sym c.in_default.is) ∙ place c.before in
     absurd (omega (arith, e, c.requires.1.1))

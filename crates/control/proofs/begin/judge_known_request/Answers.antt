@@ -24,7 +24,7 @@ judged c y is =
     let a = c.args.request.attestation in
     let nine = (held-voter-slot-table t _ c.well_formed.0).slots.count in
     let e = ap (λ (x : Option Bool). option_or x c.find_receipt-receipt.result) (sym c.then_some.ensures) ∙ (sym c.or.ensures ∙ is) in
-    known-judged t nine a.request_id a.request_digest _ _ _ _ _ _ c.same16-same_id.ensures c.same32-own.ensures c.find_receipt-receipt.ensures y e
+    known-judged t nine a.request_id a.request_digest _ _ _ _ _ _ c.eq-same_id.ensures c.eq-own.ensures c.find_receipt-receipt.ensures y e
 
 pub returns-in-None : goal.returns-in-None
 returns-in-None c = judged c.before None c.in-None.is

@@ -12,7 +12,7 @@ use Rattle.control.specs.ObserveSightLaws.{front-listed, idle-is}
 use Rattle.control.proofs.observe.judge_closed.Goals as goal
 use Rattle.control.proofs.observe.judge_closed.Goals.{After-judge_members}
 
-supplied : (c : After-judge_members) → Supplied c.args.membership.now.sets.now c.args.membership.now.counts.now c.args.membership.now.nodes.now
+supplied : (c : After-judge_members) → Supplied c.args.membership.now.observation.sets.now c.args.membership.now.observation.counts.now c.args.membership.now.observation.nodes.now
 supplied c =
     let m = c.args.membership.now in
     record { counted = m.counted; held = m.held; rising = m.rising; nodes-rise = m.nodes_rise }
@@ -20,9 +20,9 @@ supplied c =
 pub returns : goal.returns
 returns c =
     let a = c.args in
-    let sets = a.membership.now.sets.now in
-    let counts = a.membership.now.counts.now in
-    let nodes = a.membership.now.nodes.now in
+    let sets = a.membership.now.observation.sets.now in
+    let counts = a.membership.now.observation.counts.now in
+    let nodes = a.membership.now.observation.nodes.now in
     let e = ap (take a.table.now.count) c.ids_of_slots-ids.ensures ∙ front-listed (slot_members a.table.now) 9 a.table.now.count c.requires.0 in
     c.judge_members.ensures
     ∙ (ap (λ (l : List ℕ). judge_members l sets counts nodes) e

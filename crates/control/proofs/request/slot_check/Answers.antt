@@ -3,7 +3,7 @@ use mathlib.Core.Path.{◌≡◌, sym, ◌∙◌}
 use mathlib.Core.Bool.{false, true, cond, ◌&&◌}
 use native.Mathlib.Omega.{arith}
 use lib.Dec.{eqb, leb}
-use Rattle.identity.specs.Answer.{NoSurvivingQuorum, StaleIncarnation, Answer, Accepted, InvalidLossEvidence}
+use Rattle.identity.specs.Answer.{NoSurvivingQuorum, StaleIncarnation, Accepted, InvalidLossEvidence}
 use Rattle.records.proofs.Held.{held-lost-voter-attestation-v1, held-voter-slot-table}
 use Rattle.records.specs.Successor.{first_refusal}
 use Rattle.records.specs.TestLaws.{cond-false, cond-true}
@@ -13,7 +13,7 @@ use Rattle.control.proofs.request.slot_check.Goals as goal
 use Rattle.control.proofs.request.slot_check.Goals.{After-is_newer-newer}
 
 judged : (c : After-is_newer-newer)
-    → cond (eqb c.args.table.revision c.args.request.expected_revision && (c.is_expected-expected.result && (c.same32-same_cluster.result && c.is_attested-attested.result)))
+    → cond (eqb c.args.table.revision c.args.request.expected_revision && (c.is_expected-expected.result && (c.eq-same_cluster.result && c.is_attested-attested.result)))
     (cond (leb 3 c.args.table.count) (cond c.is_newer-newer.result Accepted InvalidLossEvidence) NoSurvivingQuorum) StaleIncarnation
     ≡ first_refusal (stale_check c.args.table c.args.request) (candidate_check c.args.table c.args.request)
 judged c =
@@ -21,7 +21,7 @@ judged c =
     let r = c.args.request in
     let nine = (held-voter-slot-table t _ c.well_formed.0).slots.count in
     let bytes = (held-lost-voter-attestation-v1 r.attestation _ c.well_formed.1.0.1.1.1.1.1.0).old_descriptor_digest.count in
-    slot-judged t r nine bytes c.in-Some.member _ _ _ _ c.in-Some.ensures c.is_expected-expected.ensures c.same32-same_cluster.ensures
+    slot-judged t r nine bytes c.in-Some.member _ _ _ _ c.in-Some.ensures c.is_expected-expected.ensures c.eq-same_cluster.ensures
     c.is_attested-attested.ensures c.is_newer-newer.ensures
 
 pub returns-in_default : goal.returns-in_default

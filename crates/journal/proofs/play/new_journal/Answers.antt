@@ -10,4 +10,4 @@ abbrev journal_with : VoterSlotTable → Journal
 journal_with t = record { stands = false; count = 0; ended = false; table = t }
 
 pub returns : goal.returns
-returns c = ap journal_with c.blank_voter_slot_table-table.ensures
+returns c = ap journal_with c.default-table.ensures

@@ -7,7 +7,6 @@ use mathlib.Core.Logic.◌⊎◌.{inl, inr}
 use lib.ListN.{length, length-take, length-drop}
 use Rattle.std.proofs.Common.{rules}
 use Rattle.control.specs.Verdicts.{step_made}
-use Rattle.control.specs.ObserveSight.{verdict_of_observed}
 use Rattle.control.specs.Judgement.Addition.{adds_learner, adds_joint, adds_uniform}
 use Rattle.control.specs.Judgement.Move.{records_snapshot, records_caught_up, continues, fences, finalizes}
 use Rattle.journal.specs.declared.play.Opened.{Opened}
@@ -99,7 +98,7 @@ judge_begin_body-requires c = valid-at c.loop-place.t (c.loop-place.invariant.1.
 pub judge_observation_body-requires : goal.judge_observation_body-requires
 judge_observation_body-requires c =
     let h = found c.args.input.now c.args.last c.loop-place.place.read c.loop-place.invariant.1.within c.type_inv.input c.record_at-found.result c.record_at-found.ensures in
-    (valid-at c.loop-place.t (c.loop-place.invariant.1.valid (omega arith)), simp (length-take, length-drop) (omega arith))
+    simp (length-take, length-drop) (omega arith)
 
 pub snapshot_table-t-requires : goal.snapshot_table-t-requires
 snapshot_table-t-requires c =

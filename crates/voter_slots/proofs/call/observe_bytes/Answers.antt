@@ -1,63 +1,71 @@
 -- `voter_slots::call::observe_bytes` meets its contract. Assumes nothing.
-use Rattle.std.proofs.Common.{◌≡◌, refl, sym, ap, ◌∙◌, arith, rules}
+use Rattle.std.specs.Prelude.{◌≡◌, refl, length, Err}
+use Rattle.std.proofs.Common.{rules, sym, ap, ◌∙◌}
+use Rattle.identity.specs.Answer.{number_of_refusal}
+use Rattle.identity.specs.declared.answer.Refusal.TheVariants as refusal
+use Rattle.format.specs.Res.Res.{ok, no}
+use Rattle.codec.specs.Codec.{decode_voter_slot_table}
 use Rattle.control.specs.ObserveSight.{verdict_of_observed}
 use Rattle.journal.specs.declared.replay.Mark.TheVariants.{Ob}
 use Rattle.journal.specs.declared.step.Called.TheVariants.{Observation}
 use Rattle.journal.specs.Replay.{Asking, asking}
 use Rattle.journal.specs.Replay.Asking.{bad}
-use Rattle.voter_slots.specs.Calls.{asked_of}
 use Rattle.journal.specs.Step.{numbered, observation_verdict}
 use Rattle.journal.proofs.StepLaws.{made-valid, makes}
-use Rattle.voter_slots.specs.declared.result.VoterSlotsResult.{VoterSlotsResult}
-use Rattle.voter_slots.specs.CallLaws.{asked-ok, formed-refused}
-use Rattle.voter_slots.specs.Export.{ReadAs}
-use Rattle.voter_slots.specs.ExportLaws.{is_read, is-refused, read-accepted}
+use Rattle.voter_slots.specs.Calls.{asked_of}
+use Rattle.voter_slots.specs.CallLaws.{asked-ok, formed-refused, passed-err}
+use Rattle.voter_slots.specs.ExportLaws.{filled_as, read-accepted}
 use Rattle.voter_slots.proofs.Typed.{lent_bytes}
 use Rattle.voter_slots.proofs.call.observe_bytes.Goals as goal
 
-pub returns-in_default : goal.returns-in_default
+pub returns-in_err-observation : goal.returns-in_err-observation
 unfolding asked_of
-returns-in_default c =
+returns-in_err-observation g c =
     let s = c.args in
     let b : bad ≡ asking Ob s.body.now = search rules in
-    ap (λ (r : VoterSlotsResult). (r, s.out.now)) c.refused.ensures ∙ ap (λ (x : Asking). asked_of x s.table.now s.out.now) b
+    record {
+      gives =
+          passed-err c.from_residual.result refusal.BadRecord s.out.now (search rules) ∙ ap (λ (x : Asking). asked_of x s.table.now s.out.now) b;
+      good = search rules;
+    }
 
-pub returns-then-not-accepted : goal.returns-then-not-accepted
-returns-then-not-accepted c =
+pub returns-in_err-fill_voter_slot_table : goal.returns-in_err-fill_voter_slot_table
+returns-in_err-fill_voter_slot_table g c =
     let s = c.args in
-    let d = c.decode_voter_slot_table-decoded in
-    ap (λ (r : VoterSlotsResult). (r, s.out.now)) c.refused-then-not-accepted.ensures
-    ∙ formed-refused (asking Ob s.body.now) s.table.now s.out.now d.result.answer (search rules)
-    (is-refused s.table.now d.result.answer d.result.table d.ensures (sym c.accepted.ensures ∙ c.if-not-accepted.true))
-
-pub weigh_read-observed-requires : goal.weigh_read-observed-requires
-weigh_read-observed-requires c =
-    let e = c.in-Some.ensures in
-    omega (arith, e.1.0, e.1.1, c.requires.1.0, c.requires.1.1)
+    let e = c.in_err-fill_voter_slot_table.field-0.0 in
+    let h : no (number_of_refusal e) ≡ decode_voter_slot_table s.table.now = search rules in
+    record {
+      gives =
+          passed-err c.from_residual-in_err-fill_voter_slot_table.result e s.out.now (search rules)
+          ∙ formed-refused (asking Ob s.body.now) s.table.now s.out.now (Err e) (search rules) (sym h);
+      good = search rules;
+    }
 
 pub finish-requires : goal.finish-requires
 unfolding observation_verdict
-finish-requires c =
-    let s = c.args in
-    let d = c.decode_voter_slot_table-decoded in
-    let w = c.weigh_read-observed in
-    let t = d.result.table in
-    let v = Observation w.result in
-    let e : ReadAs s.table.now t = is_read s.table.now d.result.answer t d.ensures (sym c.accepted.ensures ∙ c.if-not-accepted.false) in
-    let j : numbered (verdict_of_observed w.result) ≡ observation_verdict t (asking Ob s.body.now) =
-    search rules in
-    let a = read-accepted s.table.now t (lent_bytes s.table.now c.type_inv.table) e in
-    (e, (makes t Ob s.body.now v (refl, j), made-valid t a Ob s.body.now v (refl, j)))
+finish-requires g c =
+    let bs = c.args.table.now in
+    let body = c.args.body.now in
+    let t = c.fill_voter_slot_table.new.table in
+    let w = c.weigh-observed in
+    let e : ok t (length bs) ≡ decode_voter_slot_table bs = search rules in
+    let j : numbered (verdict_of_observed w.result) ≡ observation_verdict t (asking Ob body) = search rules in
+    let a = filled_as bs t (length bs) e in
+    let v = read-accepted bs t (lent_bytes bs c.type_inv.table) a in
+    (a, (makes t Ob body (Observation w.result) (refl, j), made-valid t v Ob body (Observation w.result) (refl, j)))
 
 pub returns : goal.returns
 unfolding observation_verdict
-returns c =
-    let s = c.args in
-    let d = c.decode_voter_slot_table-decoded in
-    let w = c.weigh_read-observed in
-    let t = d.result.table in
-    let e : ReadAs s.table.now t = is_read s.table.now d.result.answer t d.ensures (sym c.accepted.ensures ∙ c.if-not-accepted.false) in
-    let j : numbered (verdict_of_observed w.result) ≡ observation_verdict t (asking Ob s.body.now) =
-    search rules in
-    c.finish.ensures
-    ∙ asked-ok s.table.now t Ob s.body.now s.out.now (Observation w.result) (lent_bytes s.table.now c.type_inv.table) e (refl, j)
+returns g c =
+    let bs = c.args.table.now in
+    let body = c.args.body.now in
+    let t = c.fill_voter_slot_table.new.table in
+    let w = c.weigh-observed in
+    let e : ok t (length bs) ≡ decode_voter_slot_table bs = search rules in
+    let j : numbered (verdict_of_observed w.result) ≡ observation_verdict t (asking Ob body) = search rules in
+    record {
+      gives =
+          c.finish.ensures.gives
+          ∙ asked-ok bs t Ob body c.args.out.now (Observation w.result) (lent_bytes bs c.type_inv.table) (filled_as bs t (length bs) e) (refl, j);
+      good = c.finish.ensures.good;
+    }

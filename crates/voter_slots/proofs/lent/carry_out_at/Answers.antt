@@ -1,39 +1,46 @@
 -- `voter_slots::lent::carry_out_at` meets its contract. Assumes nothing.
-use Prim.Native.Nat.{◌≤◌}
-use mathlib.Core.Path.{sym, ap, subst, ◌∙◌}
+use Rattle.std.specs.Prelude.{◌≡◌, ◌≤◌, Ok, Err}
+use Rattle.std.proofs.Common.{rules, sym, ap, subst, ◌∙◌}
 use Rattle.records.specs.declared.records.VoterSlotTable.{VoterSlotTable}
 use Rattle.journal.specs.Step.{answer_of_called, made_by}
 use Rattle.journal.proofs.StepLaws.{unchanged}
 use Rattle.voter_slots.specs.declared.result.VoterSlotsResult.{VoterSlotsResult}
-use Rattle.voter_slots.specs.CallLaws.{change-accepted}
-use Rattle.voter_slots.specs.Export.{numbers_of}
+use Rattle.voter_slots.specs.CallLaws.{refused-stays}
 use Rattle.voter_slots.specs.Lent.{told}
-use Rattle.voter_slots.specs.LentLaws.{tells, tells-not, valid-count}
+use Rattle.voter_slots.specs.LentLaws.{told-err, valid-count}
 use Rattle.voter_slots.proofs.lent.carry_out_at.Goals as goal
+use Rattle.voter_slots.proofs.lent.carry_out_at.Goals.{then-is_change, else-is_change}
+
+pub returns-in_err-answer_of_called : goal.returns-in_err-answer_of_called
+returns-in_err-answer_of_called c =
+    let s = c.args in
+    let e = c.in_err-answer_of_called.field-0.0 in
+    let h : Err e ≡ answer_of_called s.called = search rules in
+    record {
+      gives =
+          told-err c.from_residual.result e (answer_of_called s.called) s.valid.now (made_by s.valid.now s.body.now s.called) (search rules) h
+          (unchanged s.valid.now s.body.now s.called (refused-stays s.called e h));
+      good = search rules;
+    }
 
 pub numbers_of-requires : goal.numbers_of-requires
-numbers_of-requires c = subst (λ (t : VoterSlotTable). t.count ≤ 9) (sym c.make_record-next.ensures) (valid-count _ c.requires.1.1)
-
-pub returns-then-is_change : goal.returns-then-is_change
-returns-then-is_change c =
+numbers_of-requires c =
     let s = c.args in
-    let e = c.make_record-next.ensures in
-    (λ i. ((c.numbers_of.ensures ∙ ap (λ (t : VoterSlotTable). numbers_of t 0) e) i, e i))
-    ∙ tells (answer_of_called s.called) (made_by s.table s.body.now s.called) (change-accepted s.called (sym c.is_change.ensures ∙ c.if-is_change.true))
-
-pub returns-then-not-accepted : goal.returns-then-not-accepted
-returns-then-not-accepted c =
-    let s = c.args in
-    let a = c.answer_of_called-answer.ensures in
-    let u = unchanged s.table s.body.now s.called (sym c.is_change.ensures ∙ c.if-is_change.false) in
-    c.stay.ensures ∙ tells-not c.answer_of_called-answer.result s.table (sym c.accepted.ensures ∙ c.if-not-accepted.true) ∙ (λ i. told (a i, u i))
-
-pub numbers_of-requires-2 : goal.numbers_of-requires-2
-numbers_of-requires-2 c = valid-count _ c.requires.1.0
+    let u : c.if-is_change.valid ≡ made_by s.valid.now s.body.now s.called = elim c.if-is_change.branch [
+      | then-is_change w ↦ w.valid-is ∙ w.make_record.ensures
+      | else-is_change w ↦ w.valid-is ∙ unchanged s.valid.now s.body.now s.called (sym c.is_change.ensures ∙ w.if-is_change.false)
+    ] in
+    subst (λ (t : VoterSlotTable). t.count ≤ 9) (sym u) (valid-count _ c.requires.1.1)
 
 pub returns : goal.returns
 returns c =
     let s = c.args in
-    let a = c.answer_of_called-answer.ensures in
-    let u = unchanged s.table s.body.now s.called (sym c.is_change.ensures ∙ c.if-is_change.false) in
-    ap (λ (r : VoterSlotsResult). (r, s.table)) c.numbers_of-2.ensures ∙ tells c.answer_of_called-answer.result s.table (sym c.accepted.ensures ∙ c.if-not-accepted.false) ∙ (λ i. told (a i, u i))
+    let h : Ok tt ≡ answer_of_called s.called = search rules in
+    let u : c.if-is_change.valid ≡ made_by s.valid.now s.body.now s.called = elim c.if-is_change.branch [
+      | then-is_change w ↦ w.valid-is ∙ w.make_record.ensures
+      | else-is_change w ↦ w.valid-is ∙ unchanged s.valid.now s.body.now s.called (sym c.is_change.ensures ∙ w.if-is_change.false)
+    ] in
+    record {
+      gives = ap (λ (r : VoterSlotsResult). (r, c.if-is_change.valid)) c.numbers_of.ensures ∙ (λ i. told (h i, u i));
+      good = ap (λ (r : VoterSlotsResult). r.answer) c.numbers_of.ensures;
+    }

@@ -16,11 +16,21 @@ fits t body h = ap (λ (m : Mark). asked_at (asking m body) t) (sym (observation
 
 pub returns-then-body-gt-MOST_BODY : goal.returns-then-body-gt-MOST_BODY
 returns-then-body-gt-MOST_BODY c =
-    let s = c.args in
-    c.stay.ensures ∙ long-observation s.table s.body.now (omega arith)
+    record {
+      gives = long-observation c.args.table.now c.args.body.now (omega arith);
+      good = tt;
+    }
 
 pub returns-then-body-le-USUAL_BODY : goal.returns-then-body-le-USUAL_BODY
-returns-then-body-le-USUAL_BODY c = c.observe_body.ensures ∙ fits c.args.table c.args.body.now (omega arith)
+returns-then-body-le-USUAL_BODY c =
+    record {
+      gives = c.observe_body.ensures.gives ∙ fits c.args.table.now c.args.body.now (omega arith);
+      good = c.observe_body.ensures.good;
+    }
 
 pub returns : goal.returns
-returns c = c.observe_body-2.ensures ∙ fits c.args.table c.args.body.now (omega arith)
+returns c =
+    record {
+      gives = c.observe_body-2.ensures.gives ∙ fits c.args.table.now c.args.body.now (omega arith);
+      good = c.observe_body-2.ensures.good;
+    }

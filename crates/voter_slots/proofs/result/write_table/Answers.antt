@@ -1,12 +1,12 @@
 -- `voter_slots::result::write_table` meets its contract. Assumes nothing.
-use mathlib.Core.Path.{ap, ◌∙◌}
 use native.Mathlib.Omega.{arith}
 use Rattle.layout.specs.Parts.{TableFits}
 use Rattle.codec.specs.Codec.{table_bytes}
 use Rattle.codec.specs.FitsLaws.{table_fits}
 use Rattle.records.specs.ValidParts.{valid-parts}
-use Rattle.voter_slots.specs.declared.result.VoterSlotsResult.{VoterSlotsResult}
 use Rattle.voter_slots.specs.ExportLaws.{written-ok, written-short}
+use Rattle.std.proofs.Common.{ap}
+use Rattle.voter_slots.specs.declared.result.VoterSlotsResult.{VoterSlotsResult}
 use Rattle.voter_slots.proofs.result.write_table.Goals as goal
 use Rattle.voter_slots.proofs.result.write_table.Goals.{Start}
 
@@ -20,8 +20,10 @@ table_size-requires c = fits c.before.before
 pub returns-then-out-table_size : goal.returns-then-out-table_size
 unfolding table_bytes
 returns-then-out-table_size c =
-    ap (λ (r : VoterSlotsResult). (r, c.args.out.now)) c.refused.ensures
-    ∙ written-short c.args.table c.args.out.now c.requires (omega (arith, c.table_size.ensures))
+    record {
+      gives = written-short c.args.table c.args.out.now c.requires (omega (arith, c.table_size.ensures));
+      good = tt;
+    }
 
 pub put_table-count-requires : goal.put_table-count-requires
 put_table-count-requires c = (omega (arith, c.table_size.ensures), fits c.before.before.before.before)
@@ -31,4 +33,8 @@ numbers_of-requires c = (fits c.before.before.before.before.before.before.before
 
 pub returns : goal.returns
 returns c =
-    written-ok c.args.table c.args.out.now c.requires (omega (arith, c.table_size.ensures)) c.put_table-count.ensures c.numbers_of.ensures
+    record {
+      gives =
+          written-ok c.args.table c.args.out.now c.requires (omega (arith, c.table_size.ensures)) c.put_table-count.ensures c.numbers_of.ensures;
+      good = ap (λ (r : VoterSlotsResult). r.answer) c.numbers_of.ensures;
+    }

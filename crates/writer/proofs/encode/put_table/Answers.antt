@@ -4,8 +4,8 @@ use Rattle.records.proofs.Held.{held-voter-slot-table}
 use Rattle.writer.specs.SizeLaws.{claims-long}
 use Rattle.writer.proofs.encode.put_table.Goals as goal
 
-pub table-requires-clause-sized : goal.table-requires-clause-sized
-table-requires-clause-sized c =
+pub put-requires-clause-small : goal.put-requires-clause-small
+put-requires-clause-small c =
     let t = c.args.table in
     let f = c.requires.1.replacement in
-    sym (claims-long t.replacement.attestation (held-voter-slot-table t _ c.well_formed.1.1.0).replacement.attestation f.candidate f.controller)
+    (c.requires.1, sym (claims-long t.replacement.attestation (held-voter-slot-table t _ c.well_formed.1.1.0).replacement.attestation f.candidate f.controller))

@@ -9,5 +9,5 @@ pub returns : goal.returns
 unfolding ended_succeeds
 returns c =
     let u = c.slots_in_use-slots in
-    let e = place-in-use c.args.self.now u.result.now u.ensures.slots u.ensures.count c.args.old.now.attestation.slot in
+    let e = place-in-use c.args.self.now u.result.now u.ensures.slots (u.ensures.count c.requires) c.args.old.now.attestation.slot in
     grind (arith, common_steps, e)

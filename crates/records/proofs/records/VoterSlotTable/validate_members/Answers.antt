@@ -19,10 +19,10 @@ answered c =
     let t = c.args.self.now in
     let i = c.loop-i.i in
     let u = c.slots_in_use-slot-items in
-    let at = front-at no_slot_record t.slots u.result.now t.count u.ensures.slots u.ensures.count i (below c) in
+    let at = front-at no_slot_record t.slots u.result.now t.count u.ensures.slots (u.ensures.count c.requires) i (below c) in
     c.validate_member.ensures
-    ∙ (ap (λ (s : VoterSlotRecord). validate_member c.of-claims.result s (member_at t.replacement.predecessor i) (member_at t.replacement.successor i)) at
-    ∙ member-claims t c.of-claims.result i c.of-claims.ensures)
+    ∙ (ap (λ (s : VoterSlotRecord). validate_member c.from-claims.result s (member_at t.replacement.predecessor i) (member_at t.replacement.successor i)) at
+    ∙ member-claims t c.from-claims.result i c.from-claims.ensures)
 
 pub returns-in_err-validate_member : goal.returns-in_err-validate_member
 returns-in_err-validate_member c =

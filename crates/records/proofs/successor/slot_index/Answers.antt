@@ -1,9 +1,0 @@
--- `records::successor::slot_index` meets its contract: the slot's place is its place among those in use. Assumes nothing.
-use Rattle.records.proofs.InUse.{index-in-use}
-use Rattle.records.proofs.successor.slot_index.Goals as goal
-
-pub returns : goal.returns
-returns c =
-    let u = c.slots_in_use in
-    let e = index-in-use c.args.table u.result.now u.ensures.slots u.ensures.count c.args.slot in
-    cc
