@@ -8,7 +8,7 @@ ghost use Rattle.identity.specs.Text.{is_utf8, is_name, is_snapshot_id};
 
 use codec::codec::encode_voter_slot_table;
 use identity::answer::{Answer, Refusal, number};
-use raw::table::table_in;
+use raw::table::{TABLE_SIZE, table_of};
 use records::blank::are_blank;
 use records::records::VoterSlotTable;
 use records::successor::validate_successor_of;
@@ -123,7 +123,11 @@ fn representable(table: VoterSlotTable) -> Answer {
         .ok_or(Refusal::Unrepresentable)
 }
 
-// The blank one where the bytes are none of the raw form.
+// The table that the bytes stand for, whatever they are: bytes of the raw form that are missing at the
+// end are zeros.
 fn table_of_bytes(bytes: &[u8]) -> VoterSlotTable {
-    bytes.first_chunk().and_then(table_in).unwrap_or_default()
+    let mut raw = [0; TABLE_SIZE];
+    let held = bytes.len().min(TABLE_SIZE);
+    raw[..held].copy_from_slice(&bytes[..held]);
+    table_of(&raw)
 }

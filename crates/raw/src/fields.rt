@@ -8,12 +8,25 @@ ghost use Rattle.std.specs.Prelude.{◌≡◌, length, IfSome};
 #[derive(Clone, Copy)]
 pub struct Fields<'a> {
     pub left: &'a [u8],
+    // A flag may be any number: what is not 1 is a no.
+    pub any_flag: bool,
 }
 
 impl<'a> Fields<'a> {
     // The fields of a body, of which nothing is read yet.
     pub fn of(body: &'a [u8]) -> Fields<'a> {
-        Fields { left: body }
+        Fields {
+            left: body,
+            any_flag: false,
+        }
+    }
+
+    // The same where a flag may be any number, so that bytes of any content are fields.
+    pub fn of_any(body: &'a [u8]) -> Fields<'a> {
+        Fields {
+            left: body,
+            any_flag: true,
+        }
     }
 
     // So many bytes.
@@ -53,12 +66,12 @@ impl<'a> Fields<'a> {
         Some(u64::from_be_bytes(self.array()?))
     }
 
-    // A flag is 0 or 1: another number is not of the form.
+    // A flag is 0 or 1. Another number is not of the form, or a no where any is taken.
     pub fn flag(&mut self) -> Option<bool> {
         match self.u8()? {
             0 => Some(false),
             1 => Some(true),
-            _ => None,
+            _ => self.any_flag.then_some(false),
         }
     }
 

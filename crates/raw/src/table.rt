@@ -52,6 +52,12 @@ pub fn table_in(raw: &[u8; TABLE_SIZE]) -> Option<VoterSlotTable> {
     Raw::read(&mut Fields::of(raw))
 }
 
+// The table that the bytes stand for, whatever they are: a flag that is not 1 is a no. All fields are
+// there, since the bytes are as many as those of the raw form.
+pub fn table_of(raw: &[u8; TABLE_SIZE]) -> VoterSlotTable {
+    Raw::read(&mut Fields::of_any(raw)).unwrap_or_default()
+}
+
 // The checksum of a value's raw form, which is laid to the start of `raw`: it stands for the value in
 // a reply.
 pub fn raw_checksum<T: Raw>(value: &T, raw: &mut [u8]) -> u64 {

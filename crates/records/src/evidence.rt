@@ -71,7 +71,7 @@ impl VoterReplacementEvidence {
     }
 
     // The snapshot's cut, or none.
-    fn snapshot_cut(&self) -> OptionalLogId
+    pub fn snapshot_cut(&self) -> OptionalLogId
         ensures { result ≡ snapshot_cut self.now }
     {
         OptionalLogId {

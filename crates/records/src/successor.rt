@@ -54,7 +54,7 @@ impl VoterSlotTable {
     // Whether the two tables are equal. It is a function of its own, so that the fifteen definitions
     // that say what `==` compares are unfolded in its proof alone, and not in that of the whole check.
     #[tactic(auto, unfolding(crate::specs::Equality::all_true, crate::specs::Equality::same_voter_slot_table, crate::specs::Equality::same_voter_slot_record, crate::specs::Equality::same_voter_slot_member, crate::specs::Equality::same_voter_slot_identity, crate::specs::Equality::same_voter_replacement_result, crate::specs::Equality::same_voter_slot_log_id, crate::specs::Equality::same_voter_replacement_record, crate::specs::Equality::same_lost_voter_attestation_v1, crate::specs::Equality::same_spiffe_id, crate::specs::Equality::same_voter_configuration, crate::specs::Equality::same_voter_replacement_evidence, crate::specs::Equality::same_voter_snapshot_evidence, crate::specs::Equality::same_snapshot_id, crate::specs::Equality::same_optional_log_id))]
-    fn equals(&self, other: &VoterSlotTable) -> bool
+    pub fn equals(&self, other: &VoterSlotTable) -> bool
         ensures { result ≡ same_voter_slot_table self.now other.now }
     {
         *self == *other
@@ -63,7 +63,7 @@ impl VoterSlotTable {
     // The check of two tables that are valid. It asks for the count, and so do those that it calls:
     // the definitions go on past the nine places, where they find blanks.
     #[tactic(auto, using(crate::proofs::InUse::succession_in_use), unfolding(crate::specs::Successor::succession))]
-    fn validate_succession(&self, old: &VoterSlotTable) -> Answer
+    pub fn validate_succession(&self, old: &VoterSlotTable) -> Answer
         requires { self.now.count ≤ 9 }
         ensures { result ≡ succession self.now old.now }
     {

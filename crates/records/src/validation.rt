@@ -95,17 +95,30 @@ impl LostVoterAttestationV1 {
         if !self.controller_spiffe_id.is_valid() {
             return false;
         }
-        self.are_valid_times()
+        are_valid_times(
+            self.admission_generation,
+            self.observation_start_ms,
+            self.decision_ms,
+            self.issued_ms,
+            self.expires_ms,
+        )
     }
+}
 
-    // Its numbers: what was observed, decided and issued came in that order.
-    fn are_valid_times(&self) -> bool
-        ensures { result ≡ (ltb 0 self.now.admission_generation && (leb self.now.observation_start_ms self.now.decision_ms && (leb self.now.decision_ms self.now.issued_ms && ltb self.now.issued_ms self.now.expires_ms))) }
-    {
-        (0 < self.admission_generation)
-            & ((self.observation_start_ms <= self.decision_ms)
-                & ((self.decision_ms <= self.issued_ms) & (self.issued_ms < self.expires_ms)))
-    }
+// The numbers of an attestation: what was observed, decided and issued came in that order. It is given
+// the five numbers, so that a caller needs no attestation for it.
+pub fn are_valid_times(
+    generation: u64,
+    observation_start_ms: u64,
+    decision_ms: u64,
+    issued_ms: u64,
+    expires_ms: u64,
+) -> bool
+    ensures { result ≡ (ltb 0 generation && (leb observation_start_ms decision_ms && (leb decision_ms issued_ms && ltb issued_ms expires_ms))) }
+{
+    (0 < generation)
+        & ((observation_start_ms <= decision_ms)
+            & ((decision_ms <= issued_ms) & (issued_ms < expires_ms)))
 }
 
 impl SpiffeId {
