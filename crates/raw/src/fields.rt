@@ -38,6 +38,13 @@ impl<'a> Fields<'a> {
         Some(part)
     }
 
+    // Bytes into a place, as many as it has.
+    pub fn bytes(&mut self, place: &mut [u8]) -> Option<()> {
+        let part = self.part(place.len())?;
+        place.copy_from_slice(part);
+        Some(())
+    }
+
     // So many bytes, where the type says how many.
     pub fn array<const N: usize>(&mut self) -> Option<[u8; N]> {
         let (array, left) = self.left.split_first_chunk()?;

@@ -6,18 +6,30 @@ use crate::room::Room;
 use identity::identity::VoterSlotIdentity;
 use records::records::*;
 
-// What has a raw form: read from the fields of a body, none where they are not of the form, and
-// written the same way.
+// What has a raw form: filled from the fields of a body, and written the same way. It is none where
+// they are not of the form. A value is filled where it lies: an `Option` with a table in it would be
+// copied at each `?`.
 pub trait Raw: Sized {
-    fn read(fields: &mut Fields) -> Option<Self>;
+    fn fill(&mut self, fields: &mut Fields) -> Option<()>;
 
     fn write(&self, room: &mut Room);
+
+    // The same by value, for the small ones.
+    fn read(fields: &mut Fields) -> Option<Self>
+    where
+        Self: Default + Drop,
+    {
+        let mut value = Self::default();
+        value.fill(fields)?;
+        Some(value)
+    }
 }
 
 // There is an `impl` for each type of number, since the library has no trait of all of them.
 impl Raw for u8 {
-    fn read(fields: &mut Fields) -> Option<u8> {
-        fields.u8()
+    fn fill(&mut self, fields: &mut Fields) -> Option<()> {
+        *self = fields.u8()?;
+        Some(())
     }
 
     fn write(&self, room: &mut Room) {
@@ -26,8 +38,9 @@ impl Raw for u8 {
 }
 
 impl Raw for u16 {
-    fn read(fields: &mut Fields) -> Option<u16> {
-        fields.u16()
+    fn fill(&mut self, fields: &mut Fields) -> Option<()> {
+        *self = fields.u16()?;
+        Some(())
     }
 
     fn write(&self, room: &mut Room) {
@@ -36,8 +49,9 @@ impl Raw for u16 {
 }
 
 impl Raw for u64 {
-    fn read(fields: &mut Fields) -> Option<u64> {
-        fields.u64()
+    fn fill(&mut self, fields: &mut Fields) -> Option<()> {
+        *self = fields.u64()?;
+        Some(())
     }
 
     fn write(&self, room: &mut Room) {
@@ -46,8 +60,9 @@ impl Raw for u64 {
 }
 
 impl Raw for bool {
-    fn read(fields: &mut Fields) -> Option<bool> {
-        fields.flag()
+    fn fill(&mut self, fields: &mut Fields) -> Option<()> {
+        *self = fields.flag()?;
+        Some(())
     }
 
     fn write(&self, room: &mut Room) {
@@ -55,15 +70,13 @@ impl Raw for bool {
     }
 }
 
-// One place after another. There is a first one: no array of these records is empty. The array is
-// filled by hand, since a closure that the library makes one by cannot pass on the `?` of a field.
-impl<T: Raw + Copy, const N: usize> Raw for [T; N] {
-    fn read(fields: &mut Fields) -> Option<[T; N]> {
-        let mut places = [T::read(fields)?; N];
-        for place in places.iter_mut().skip(1) {
-            *place = T::read(fields)?;
+// One place after another. Bytes are filled by `bytes` of the fields, all at once.
+impl<T: Raw, const N: usize> Raw for [T; N] {
+    fn fill(&mut self, fields: &mut Fields) -> Option<()> {
+        for place in self {
+            place.fill(fields)?;
         }
-        Some(places)
+        Some(())
     }
 
     fn write(&self, room: &mut Room) {
@@ -74,17 +87,15 @@ impl<T: Raw + Copy, const N: usize> Raw for [T; N] {
 }
 
 impl Raw for VoterSlotTable {
-    fn read(fields: &mut Fields) -> Option<VoterSlotTable> {
-        Some(VoterSlotTable {
-            cluster_instance: Raw::read(fields)?,
-            manifest_digest: Raw::read(fields)?,
-            revision: Raw::read(fields)?,
-            configuration_epoch: Raw::read(fields)?,
-            slots: Raw::read(fields)?,
-            count: usize::from(fields.u8()?),
-            has_replacement: Raw::read(fields)?,
-            replacement: Raw::read(fields)?,
-        })
+    fn fill(&mut self, fields: &mut Fields) -> Option<()> {
+        fields.bytes(&mut self.cluster_instance)?;
+        fields.bytes(&mut self.manifest_digest)?;
+        self.revision.fill(fields)?;
+        self.configuration_epoch.fill(fields)?;
+        self.slots.fill(fields)?;
+        self.count = usize::from(fields.u8()?);
+        self.has_replacement.fill(fields)?;
+        self.replacement.fill(fields)
     }
 
     fn write(&self, room: &mut Room) {
@@ -100,14 +111,12 @@ impl Raw for VoterSlotTable {
 }
 
 impl Raw for VoterSlotRecord {
-    fn read(fields: &mut Fields) -> Option<VoterSlotRecord> {
-        Some(VoterSlotRecord {
-            member: Raw::read(fields)?,
-            retired_through: Raw::read(fields)?,
-            phase: Raw::read(fields)?,
-            has_last_result: Raw::read(fields)?,
-            last_result: Raw::read(fields)?,
-        })
+    fn fill(&mut self, fields: &mut Fields) -> Option<()> {
+        self.member.fill(fields)?;
+        self.retired_through.fill(fields)?;
+        self.phase.fill(fields)?;
+        self.has_last_result.fill(fields)?;
+        self.last_result.fill(fields)
     }
 
     fn write(&self, room: &mut Room) {
@@ -120,13 +129,11 @@ impl Raw for VoterSlotRecord {
 }
 
 impl Raw for VoterSlotMember {
-    fn read(fields: &mut Fields) -> Option<VoterSlotMember> {
-        Some(VoterSlotMember {
-            identity: Raw::read(fields)?,
-            key_digest: Raw::read(fields)?,
-            descriptor_digest: Raw::read(fields)?,
-            admission_generation: Raw::read(fields)?,
-        })
+    fn fill(&mut self, fields: &mut Fields) -> Option<()> {
+        self.identity.fill(fields)?;
+        fields.bytes(&mut self.key_digest)?;
+        fields.bytes(&mut self.descriptor_digest)?;
+        self.admission_generation.fill(fields)
     }
 
     fn write(&self, room: &mut Room) {
@@ -138,11 +145,9 @@ impl Raw for VoterSlotMember {
 }
 
 impl Raw for VoterSlotIdentity {
-    fn read(fields: &mut Fields) -> Option<VoterSlotIdentity> {
-        Some(VoterSlotIdentity {
-            slot: Raw::read(fields)?,
-            incarnation: Raw::read(fields)?,
-        })
+    fn fill(&mut self, fields: &mut Fields) -> Option<()> {
+        self.slot.fill(fields)?;
+        self.incarnation.fill(fields)
     }
 
     fn write(&self, room: &mut Room) {
@@ -152,16 +157,14 @@ impl Raw for VoterSlotIdentity {
 }
 
 impl Raw for VoterReplacementResult {
-    fn read(fields: &mut Fields) -> Option<VoterReplacementResult> {
-        Some(VoterReplacementResult {
-            request_id: Raw::read(fields)?,
-            request_digest: Raw::read(fields)?,
-            incarnation: Raw::read(fields)?,
-            revision: Raw::read(fields)?,
-            configuration_epoch: Raw::read(fields)?,
-            kind: Raw::read(fields)?,
-            terminal: Raw::read(fields)?,
-        })
+    fn fill(&mut self, fields: &mut Fields) -> Option<()> {
+        fields.bytes(&mut self.request_id)?;
+        fields.bytes(&mut self.request_digest)?;
+        self.incarnation.fill(fields)?;
+        self.revision.fill(fields)?;
+        self.configuration_epoch.fill(fields)?;
+        self.kind.fill(fields)?;
+        self.terminal.fill(fields)
     }
 
     fn write(&self, room: &mut Room) {
@@ -176,15 +179,13 @@ impl Raw for VoterReplacementResult {
 }
 
 impl Raw for VoterReplacementRecord {
-    fn read(fields: &mut Fields) -> Option<VoterReplacementRecord> {
-        Some(VoterReplacementRecord {
-            expected_revision: Raw::read(fields)?,
-            attestation: Raw::read(fields)?,
-            predecessor: Raw::read(fields)?,
-            successor: Raw::read(fields)?,
-            phase: Raw::read(fields)?,
-            evidence: Raw::read(fields)?,
-        })
+    fn fill(&mut self, fields: &mut Fields) -> Option<()> {
+        self.expected_revision.fill(fields)?;
+        self.attestation.fill(fields)?;
+        self.predecessor.fill(fields)?;
+        self.successor.fill(fields)?;
+        self.phase.fill(fields)?;
+        self.evidence.fill(fields)
     }
 
     fn write(&self, room: &mut Room) {
@@ -198,27 +199,25 @@ impl Raw for VoterReplacementRecord {
 }
 
 impl Raw for LostVoterAttestationV1 {
-    fn read(fields: &mut Fields) -> Option<LostVoterAttestationV1> {
-        Some(LostVoterAttestationV1 {
-            request_id: Raw::read(fields)?,
-            request_digest: Raw::read(fields)?,
-            cluster_instance: Raw::read(fields)?,
-            slot: Raw::read(fields)?,
-            expected_incarnation: Raw::read(fields)?,
-            old_descriptor_digest: Raw::read(fields)?,
-            candidate_key_digest: Raw::read(fields)?,
-            admission_generation: Raw::read(fields)?,
-            candidate_spiffe_id: Raw::read(fields)?,
-            controller_spiffe_id: Raw::read(fields)?,
-            signing_key_digest: Raw::read(fields)?,
-            reason: Raw::read(fields)?,
-            policy_digest: Raw::read(fields)?,
-            observation_start_ms: Raw::read(fields)?,
-            decision_ms: Raw::read(fields)?,
-            issued_ms: Raw::read(fields)?,
-            expires_ms: Raw::read(fields)?,
-            signature: Raw::read(fields)?,
-        })
+    fn fill(&mut self, fields: &mut Fields) -> Option<()> {
+        fields.bytes(&mut self.request_id)?;
+        fields.bytes(&mut self.request_digest)?;
+        fields.bytes(&mut self.cluster_instance)?;
+        self.slot.fill(fields)?;
+        self.expected_incarnation.fill(fields)?;
+        fields.bytes(&mut self.old_descriptor_digest)?;
+        fields.bytes(&mut self.candidate_key_digest)?;
+        self.admission_generation.fill(fields)?;
+        self.candidate_spiffe_id.fill(fields)?;
+        self.controller_spiffe_id.fill(fields)?;
+        fields.bytes(&mut self.signing_key_digest)?;
+        self.reason.fill(fields)?;
+        fields.bytes(&mut self.policy_digest)?;
+        self.observation_start_ms.fill(fields)?;
+        self.decision_ms.fill(fields)?;
+        self.issued_ms.fill(fields)?;
+        self.expires_ms.fill(fields)?;
+        fields.bytes(&mut self.signature)
     }
 
     fn write(&self, room: &mut Room) {
@@ -244,12 +243,11 @@ impl Raw for LostVoterAttestationV1 {
 }
 
 impl Raw for VoterConfiguration {
-    fn read(fields: &mut Fields) -> Option<VoterConfiguration> {
-        Some(VoterConfiguration {
-            epoch: Raw::read(fields)?,
-            members: Raw::read(fields)?,
-            count: usize::from(fields.u8()?),
-        })
+    fn fill(&mut self, fields: &mut Fields) -> Option<()> {
+        self.epoch.fill(fields)?;
+        self.members.fill(fields)?;
+        self.count = usize::from(fields.u8()?);
+        Some(())
     }
 
     fn write(&self, room: &mut Room) {
@@ -260,18 +258,16 @@ impl Raw for VoterConfiguration {
 }
 
 impl Raw for VoterReplacementEvidence {
-    fn read(fields: &mut Fields) -> Option<VoterReplacementEvidence> {
-        Some(VoterReplacementEvidence {
-            prepare: Raw::read(fields)?,
-            has_snapshot: Raw::read(fields)?,
-            snapshot: Raw::read(fields)?,
-            learner: Raw::read(fields)?,
-            caught_up: Raw::read(fields)?,
-            continuation: Raw::read(fields)?,
-            fence: Raw::read(fields)?,
-            joint: Raw::read(fields)?,
-            uniform: Raw::read(fields)?,
-        })
+    fn fill(&mut self, fields: &mut Fields) -> Option<()> {
+        self.prepare.fill(fields)?;
+        self.has_snapshot.fill(fields)?;
+        self.snapshot.fill(fields)?;
+        self.learner.fill(fields)?;
+        self.caught_up.fill(fields)?;
+        self.continuation.fill(fields)?;
+        self.fence.fill(fields)?;
+        self.joint.fill(fields)?;
+        self.uniform.fill(fields)
     }
 
     fn write(&self, room: &mut Room) {
@@ -288,12 +284,10 @@ impl Raw for VoterReplacementEvidence {
 }
 
 impl Raw for VoterSnapshotEvidence {
-    fn read(fields: &mut Fields) -> Option<VoterSnapshotEvidence> {
-        Some(VoterSnapshotEvidence {
-            cut: Raw::read(fields)?,
-            snapshot_id: Raw::read(fields)?,
-            digest: Raw::read(fields)?,
-        })
+    fn fill(&mut self, fields: &mut Fields) -> Option<()> {
+        self.cut.fill(fields)?;
+        self.snapshot_id.fill(fields)?;
+        fields.bytes(&mut self.digest)
     }
 
     fn write(&self, room: &mut Room) {
@@ -305,11 +299,9 @@ impl Raw for VoterSnapshotEvidence {
 
 // A length, which may be more than its place holds, and the place.
 impl Raw for SnapshotId {
-    fn read(fields: &mut Fields) -> Option<SnapshotId> {
-        Some(SnapshotId {
-            len: usize::from(fields.u16()?),
-            bytes: Raw::read(fields)?,
-        })
+    fn fill(&mut self, fields: &mut Fields) -> Option<()> {
+        self.len = usize::from(fields.u16()?);
+        fields.bytes(&mut self.bytes)
     }
 
     fn write(&self, room: &mut Room) {
@@ -320,11 +312,9 @@ impl Raw for SnapshotId {
 
 // A name is read and written as the id of a snapshot is: its length may be more than its place holds.
 impl Raw for SpiffeId {
-    fn read(fields: &mut Fields) -> Option<SpiffeId> {
-        Some(SpiffeId {
-            len: usize::from(fields.u16()?),
-            bytes: Raw::read(fields)?,
-        })
+    fn fill(&mut self, fields: &mut Fields) -> Option<()> {
+        self.len = usize::from(fields.u16()?);
+        fields.bytes(&mut self.bytes)
     }
 
     fn write(&self, room: &mut Room) {
@@ -334,11 +324,9 @@ impl Raw for SpiffeId {
 }
 
 impl Raw for OptionalLogId {
-    fn read(fields: &mut Fields) -> Option<OptionalLogId> {
-        Some(OptionalLogId {
-            is_some: Raw::read(fields)?,
-            cut: Raw::read(fields)?,
-        })
+    fn fill(&mut self, fields: &mut Fields) -> Option<()> {
+        self.is_some.fill(fields)?;
+        self.cut.fill(fields)
     }
 
     fn write(&self, room: &mut Room) {
@@ -348,11 +336,9 @@ impl Raw for OptionalLogId {
 }
 
 impl Raw for VoterSlotLogId {
-    fn read(fields: &mut Fields) -> Option<VoterSlotLogId> {
-        Some(VoterSlotLogId {
-            term: Raw::read(fields)?,
-            index: Raw::read(fields)?,
-        })
+    fn fill(&mut self, fields: &mut Fields) -> Option<()> {
+        self.term.fill(fields)?;
+        self.index.fill(fields)
     }
 
     fn write(&self, room: &mut Room) {

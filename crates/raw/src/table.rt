@@ -12,7 +12,8 @@ pub const TABLE_SIZE: usize = 8062;
 
 // The table that the next pieces of a body make.
 pub fn sparse_table(fields: &mut Fields) -> Option<VoterSlotTable> {
-    let raw = lay_pieces(fields)?;
+    let mut raw = [0; TABLE_SIZE];
+    lay_pieces(&mut raw, fields)?;
     table_in(&raw)
 }
 
@@ -23,14 +24,13 @@ pub fn last_table(mut fields: Fields) -> Option<VoterSlotTable> {
     Some(table)
 }
 
-// The pieces are laid over zeros.
-fn lay_pieces(fields: &mut Fields) -> Option<[u8; TABLE_SIZE]> {
-    let mut raw = [0; TABLE_SIZE];
+// Lays the next pieces of a body over what is lent.
+fn lay_pieces(raw: &mut [u8; TABLE_SIZE], fields: &mut Fields) -> Option<()> {
     let mut free = 0;
     for _ in 0..fields.u16()? {
-        free = lay_piece(&mut raw, free, fields)?;
+        free = lay_piece(raw, free, fields)?;
     }
-    Some(raw)
+    Some(())
 }
 
 // Lays one piece, an offset, a size and the bytes, and gives its end. It begins where the one
