@@ -109,9 +109,20 @@ impl<'a> Reader<'a> {
         })
     }
 
-    // The fields of an attestation, into a place that is blank; anything may come after them.
+    // The fields of an attestation; anything may come after them. An open request is read by
+    // `fill_attestation`, and no code here calls this: it stays for callers in Rust, who have no place
+    // to lend and are asked nothing.
+    pub fn attestation(&mut self) -> Result<LostVoterAttestationV1, Refusal>
+        ensures { told result self.new.bytes.now ≡ reads claims self.old.bytes.now }
+    {
+        let mut attestation = LostVoterAttestationV1::default();
+        self.fill_attestation(&mut attestation)?;
+        Ok(attestation)
+    }
+
+    // The same, into a place that is blank.
     #[tactic(auto, using(layout::specs::ReadingLaws::reads_claims, layout::specs::ReadingLaws::blank_candidate, layout::specs::ReadingLaws::blank_controller))]
-    fn attestation(&mut self, place: &mut LostVoterAttestationV1) -> Result<(), Refusal>
+    fn fill_attestation(&mut self, place: &mut LostVoterAttestationV1) -> Result<(), Refusal>
         requires { place.old ≡ blank_lost_voter_attestation_v1 }
         ensures { told_at result place.new self.new.bytes.now ≡ reads claims self.old.bytes.now }
     {
@@ -130,8 +141,8 @@ impl<'a> Reader<'a> {
         place.old_descriptor_digest = old_descriptor_digest;
         place.candidate_key_digest = candidate_key_digest;
         place.admission_generation = self.u64()?;
-        self.spiffe_id(&mut place.candidate_spiffe_id)?;
-        self.spiffe_id(&mut place.controller_spiffe_id)?;
+        self.fill_spiffe_id(&mut place.candidate_spiffe_id)?;
+        self.fill_spiffe_id(&mut place.controller_spiffe_id)?;
         let signing_key_digest = self.array()?;
         place.signing_key_digest = signing_key_digest;
         let end = self.claims_end()?;
@@ -296,7 +307,7 @@ pub fn fill_whole_attestation(
     ensures { told_whole_at result place.new (length bytes.now) ≡ whole attestation bytes.now }
 {
     let mut input = Reader::new(bytes);
-    input.attestation(place)?;
+    input.fill_attestation(place)?;
     input.finish()?;
     if !place.is_valid() {
         return Err(Refusal::InvalidRecord);
