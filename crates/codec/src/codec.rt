@@ -56,25 +56,34 @@ pub fn read_voter_slot_table(bytes: &[u8]) -> Result<VoterSlotTable, Refusal>
 }
 
 // The reading that answers with a table in every case. The table is read where it stands, and not
-// taken out of the answer of `read_voter_slot_table`: that copies its 8 KB once more, and an idle table takes 8 percent longer.
-#[tactic(auto, unfolding(crate::specs::Codec::decoded))]
+// taken out of the answer of `read_voter_slot_table`: that copies its 8 KB once more, and an idle table
+// takes 8 percent longer.
 pub fn decode_voter_slot_table(bytes: &[u8]) -> DecodedTable
     ensures { (number_of result.answer, result.table) ≡ decoded blank_voter_slot_table (decode_voter_slot_table bytes.now) }
 {
     let mut table = VoterSlotTable::default();
-    match fill_voter_slot_table(bytes, &mut table) {
-        Ok(()) => DecodedTable {
-            answer: Ok(()),
-            table,
-        },
-        Err(refusal) => no_table(refusal),
-    }
+    let answer = fill_voter_slot_table(bytes, &mut table);
+    DecodedTable { answer, table }
 }
 
-// What `read_voter_slot_table` and `decode_voter_slot_table` share: the table is read into a place
-// whose content does not matter.
-#[tactic(auto, using(format::specs::ReadsMore::reads_whole, crate::specs::EntryLaws::gate_accepts, crate::specs::EntryLaws::gate_refuses), unfolding(crate::specs::Codec::decode_voter_slot_table, crate::specs::Codec::bounded, format::specs::Num::pick, format::specs::Res::and_then))]
+// What `read_voter_slot_table` and `decode_voter_slot_table` share, and what the exports read by: the
+// table is read into a place whose content does not matter. Refused, the place is blank: it is blanked
+// in that case alone, so that a table that is accepted takes no longer.
+#[tactic(auto, unfolding(crate::specs::Codec::decoded))]
 pub fn fill_voter_slot_table(bytes: &[u8], table: &mut VoterSlotTable) -> Result<(), Refusal>
+    ensures read { told_whole_at result table.new (length bytes.now) ≡ decode_voter_slot_table bytes.now }
+    ensures blank { (number_of result, table.new) ≡ decoded blank_voter_slot_table (decode_voter_slot_table bytes.now) }
+{
+    let answer = read_in_place(bytes, table);
+    if answer.is_err() {
+        *table = Default::default();
+    }
+    answer
+}
+
+// The same, but for what stands in the place after a refusal: what was read up to there.
+#[tactic(auto, using(format::specs::ReadsMore::reads_whole, crate::specs::EntryLaws::gate_accepts, crate::specs::EntryLaws::gate_refuses), unfolding(crate::specs::Codec::decode_voter_slot_table, crate::specs::Codec::bounded, format::specs::Num::pick, format::specs::Res::and_then))]
+fn read_in_place(bytes: &[u8], table: &mut VoterSlotTable) -> Result<(), Refusal>
     ensures { told_whole_at result table.new (length bytes.now) ≡ decode_voter_slot_table bytes.now }
 {
     if MAX_VOTER_SLOT_TABLE_BYTES < bytes.len() {
@@ -108,28 +117,38 @@ pub fn read_lost_voter_attestation(bytes: &[u8]) -> Result<LostVoterAttestationV
 }
 
 // The reading that answers with an attestation in every case, the blank one with a refusal.
-#[tactic(auto, unfolding(crate::specs::Codec::decoded))]
 pub fn decode_lost_voter_attestation(bytes: &[u8]) -> DecodedAttestation
     ensures { (number_of result.answer, result.attestation) ≡ decoded blank_lost_voter_attestation_v1 (decode_lost_voter_attestation bytes.now) }
 {
     let mut attestation = LostVoterAttestationV1::default();
-    match fill_lost_voter_attestation(bytes, &mut attestation) {
-        Ok(()) => DecodedAttestation {
-            answer: Ok(()),
-            attestation,
-        },
-        Err(refusal) => DecodedAttestation {
-            answer: Err(refusal),
-            attestation: LostVoterAttestationV1::default(),
-        },
+    let answer = fill_lost_voter_attestation(bytes, &mut attestation);
+    DecodedAttestation {
+        answer,
+        attestation,
     }
 }
 
 // What `read_lost_voter_attestation` and `decode_lost_voter_attestation` share: the attestation is read
-// into a place whose content does not matter. It is blanked before the bound is
+// into a place whose content does not matter. Refused, the place is blank, as that of a table is.
+#[tactic(auto, unfolding(crate::specs::Codec::decoded))]
+pub fn fill_lost_voter_attestation(
+    bytes: &[u8],
+    attestation: &mut LostVoterAttestationV1,
+) -> Result<(), Refusal>
+    ensures read { told_whole_at result attestation.new (length bytes.now) ≡ decode_lost_voter_attestation bytes.now }
+    ensures blank { (number_of result, attestation.new) ≡ decoded blank_lost_voter_attestation_v1 (decode_lost_voter_attestation bytes.now) }
+{
+    let answer = read_attestation_in_place(bytes, attestation);
+    if answer.is_err() {
+        *attestation = Default::default();
+    }
+    answer
+}
+
+// The same, but for what stands in the place after a refusal. It is blanked before the bound is
 // tested: so it is not blanked twice where the caller has just made it.
 #[tactic(auto, unfolding(crate::specs::Codec::decode_lost_voter_attestation, crate::specs::Codec::bounded, format::specs::Num::pick))]
-pub fn fill_lost_voter_attestation(
+fn read_attestation_in_place(
     bytes: &[u8],
     attestation: &mut LostVoterAttestationV1,
 ) -> Result<(), Refusal>

@@ -2,13 +2,14 @@
 -- Document 01: "The writer fills the lent buffer from its start, gives the count, and the bytes
 -- behind keep their values."
 -- Assumes nothing.
-use Rattle.std.specs.Prelude.{ℕ, ◌+◌, ◌-◌, ◌≤◌, ◌<◌, ◌≡◌, List, [], ◌∷◌, ◌++◌, length, take, drop}
-use Rattle.std.proofs.Common.{arith, add_assoc, add-zero, sym, ap, ap₂, ◌∙◌, append_assoc, length-append, length-drop, take-append-drop, length-take-le, take_at, drop_at, drop-drop}
+use Rattle.std.specs.Prelude.{ℕ, suc, ◌+◌, ◌-◌, ◌/◌, ◌%◌, ◌≤◌, ◌<◌, ◌≡◌, List, [], ◌∷◌, ◌++◌, length, take, drop, set}
+use Rattle.std.proofs.Common.{arith, add_assoc, add-zero, add-suc, sym, ap, ap₂, ◌∙◌, append_assoc, length-append, length-drop, take-append-drop, length-set, drop-cons, get_or-set_same, drop-set-lt, length-take-le, take_at, drop_at, drop-drop}
 use Rattle.std.proofs.Math.Path.{refl}
 use Rattle.std.specs.Int.{w16, w64, to_be_bytes}
 use borrow.Rule.Slice.PartMut.{put_mid, Post-is}
 use Rattle.format.specs.Combinators.{Codec, dep, via, held}
-use Rattle.format.specs.Num.{uint, raw, be}
+use Rattle.format.specs.Num.{uint, raw, be, length-be}
+use Rattle.std.proofs.Math.Seq.{take-length, paste}
 
 -- e at the place `at` of xs
 unfoldable pub put : List ℕ → ℕ → List ℕ → List ℕ
@@ -60,6 +61,30 @@ module _ {a : List ℕ} (b : List ℕ) {at : ℕ} {xs ys : List ℕ} {r : ℕ} w
 -- room for the whole is room for what comes first
 pub room-left : (a b : List ℕ) (at n : ℕ) → at + length (a ++ b) ≤ n → at + length a ≤ n
 room-left a b at n h = omega (arith, length-append a b)
+
+-- One turn of a writer that puts a number's bytes from the last to the first: with j bytes left to
+-- write it is j + 1 before.
+drop-set : (l : List ℕ) (i b : ℕ) → i < length l → drop i (set l i b) ≡ b ∷ drop (suc i) l
+drop-set l i b h =
+    drop-cons (set l i b) i 0 (omega (arith, length-set l i b)) ∙ ap₂ (λ x t. x ∷ t) (get_or-set_same l i b 0 h) (drop-set-lt (suc i) l i b (omega arith))
+
+pub be-turn : (k j y at : ℕ) (buf : List ℕ) → k ≡ suc j → at + j < length buf → be j (y / 256) ++ drop (at + j) (set buf (at + j) (y % 256)) ≡ be k y ++ drop (at + k) buf
+unfolding be
+be-turn k j y at buf e h =
+    ap (λ l. be j (y / 256) ++ l) (drop-set buf (at + j) (y % 256) h)
+    ∙ sym (append_assoc (be j (y / 256)) (y % 256 ∷ []) (drop (suc (at + j)) buf))
+    ∙ ap₂ (λ n m. be n y ++ drop m buf) (sym e) (sym (ap (λ n. at + n) e ∙ add-suc at j))
+
+-- all of it is written: nothing is left before `at`
+pub be-put : (width x at : ℕ) (xs ys : List ℕ) → take at ys ≡ take at xs → drop at ys ≡ be width x ++ drop (at + width) xs → ys ≡ put (be width x) at xs
+unfolding put
+be-put width x at xs ys p q =
+    sym (take-append-drop at ys) ∙ ap₂ ◌++◌ p (q ∙ ap (λ n. be width x ++ drop (at + n) xs) (sym (length-be width x)))
+
+-- a copy of all of s
+pub paste-put : (d : List ℕ) (at : ℕ) (s : List ℕ) → paste d at s (length s) ≡ put s at d
+unfolding put
+paste-put d at s = ap (λ l. take at d ++ l ++ drop (at + length s) d) (take-length s) ∙ append_assoc (take at d) s (drop (at + length s) d)
 
 -- ---- a `Writer`, whose writers write one part after the other
 

@@ -1,11 +1,12 @@
--- Groups of fields that stand together in the bytes, and the records made of them and taken apart
--- into them.
+-- Groups of fields that stand together in the bytes, their blanks, and the records made of them and
+-- taken apart into them.
 -- They are no records of document 01 or of the Rust: they keep every form at five parts or fewer.
 -- The order of the fields is that of codec.rs.
 -- Assumes nothing.
-use Rattle.std.specs.Prelude.{ℕ, ◌≤◌, Bool, List, replicate}
+use Rattle.std.specs.Prelude.{ℕ, ◌≤◌, Bool, false, List, replicate}
+use Rattle.format.specs.Copy.{zeros}
 use Rattle.identity.specs.declared.identity.VoterSlotIdentity.{VoterSlotIdentity}
-use Rattle.records.specs.Blank.{blank_voter_slot_member, blank_voter_slot_record}
+use Rattle.records.specs.Blank.{blank_voter_slot_identity, blank_spiffe_id, blank_voter_slot_member, blank_voter_slot_record, blank_voter_configuration, blank_voter_replacement_result, blank_voter_snapshot_evidence}
 use Rattle.records.specs.declared.records.LostVoterAttestationV1.{LostVoterAttestationV1}
 use Rattle.records.specs.declared.records.VoterReplacementEvidence.{VoterReplacementEvidence}
 use Rattle.records.specs.declared.records.VoterReplacementRecord.{VoterReplacementRecord}
@@ -27,6 +28,52 @@ use Rattle.layout.specs.declared.parts.Times.{Times}
 use Rattle.layout.specs.declared.parts.Change.{Change}
 use Rattle.layout.specs.declared.parts.TableHead.{TableHead}
 
+-- ---- the blanks of the groups, all zero: each has `default` of its struct
+
+-- what follows an identity in a member
+unfoldable pub blank_binding : Binding
+blank_binding = record { key_digest = zeros 32; descriptor_digest = zeros 32; admission_generation = 0 }
+
+-- the front of a receipt
+unfoldable pub blank_result_head : ResultHead
+blank_result_head = record { request_id = zeros 16; request_digest = zeros 32; incarnation = 0; revision = 0 }
+
+-- a slot's member with its retired number
+unfoldable pub blank_slot_member : SlotMember
+blank_slot_member = record { member = blank_voter_slot_member; retired_through = 0 }
+
+-- the four groups of an attestation, and its times
+unfoldable pub blank_claims_request : ClaimsRequest
+blank_claims_request = record { request_id = zeros 16; request_digest = zeros 32 }
+
+unfoldable pub blank_claims_slot : ClaimsSlot
+blank_claims_slot =
+    record {
+      cluster_instance = zeros 32;
+      identity = blank_voter_slot_identity;
+      old_descriptor_digest = zeros 32;
+      candidate_key_digest = zeros 32;
+    }
+
+unfoldable pub blank_claims_names : ClaimsNames
+blank_claims_names =
+    record { admission_generation = 0; candidate_spiffe_id = blank_spiffe_id; controller_spiffe_id = blank_spiffe_id; signing_key_digest = zeros 32 }
+
+unfoldable pub blank_times : Times
+blank_times = record { observation_start_ms = 0; decision_ms = 0; issued_ms = 0; expires_ms = 0 }
+
+unfoldable pub blank_claims_end : ClaimsEnd
+blank_claims_end = record { reason = 0; policy_digest = zeros 32; times = blank_times; signature = zeros 64 }
+
+-- both configurations, and the phase
+unfoldable pub blank_change : Change
+blank_change = record { predecessor = blank_voter_configuration; successor = blank_voter_configuration; phase = 0 }
+
+-- a table before its count
+unfoldable pub blank_table_head : TableHead
+blank_table_head =
+    record { cluster_instance = zeros 32; manifest_digest = zeros 32; revision = 0; configuration_epoch = 0 }
+
 -- ---- the places that are filled in reading
 
 -- the nine places, all blank
@@ -36,9 +83,20 @@ blank_voter_slot_members = replicate 9 blank_voter_slot_member
 unfoldable pub blank_voter_slot_records : List VoterSlotRecord
 blank_voter_slot_records = replicate 9 blank_voter_slot_record
 
+-- an optional part that is absent
+abbrev pub absent_result : Bool × VoterReplacementResult
+absent_result = (false, blank_voter_replacement_result)
+
+abbrev pub absent_snapshot : Bool × VoterSnapshotEvidence
+absent_snapshot = (false, blank_voter_snapshot_evidence)
+
 -- what stands before a table's flag: magic and version, the head, the count and the slots
 abbrev pub TableFront : Type 0
 TableFront = ((Unit {0} × TableHead) × ℕ) × List VoterSlotRecord
+
+-- nothing was read
+abbrev pub blank_table_front : TableFront
+blank_table_front = (((tt, blank_table_head), 0), blank_voter_slot_records)
 
 -- ---- a record of its groups, and its groups
 

@@ -1,13 +1,14 @@
-// Groups of fields that stand together in the bytes and are no records of their own, and the
-// records made of them. The format has a form for each, so that none has more than five parts;
-// `ClaimsNames` and `Change` stand in the format alone, since their fields are read and written
-// where they stand. A field means what the field of that name means in its record (records.rt).
+// Groups of fields that stand together in the bytes and are no records of their own, the blank of
+// each, and the records made of them. The format has a form for each, so that none has more than five
+// parts; `ClaimsNames` and `Change` stand in the format alone, since their fields are read and
+// written where they stand. A field means what the field of that name means in its record
+// (records.rt).
 //
 // The original has no such groups. The two constants are those of
 // crates/opc-consensus/src/voter_slots/records.rs and codec.rs of openpacketcore-sdk, commit
 // 717de332e7, Apache-2.0 (see NOTICE). Changed: the version is a number of 64 bits.
 ghost use Rattle.std.specs.Prelude.{◌≡◌};
-ghost use Rattle.layout.specs.Parts.{member_of, result_of, evidence_of, early_cuts, late_cuts};
+ghost use Rattle.layout.specs.Parts.{blank_binding, blank_result_head, blank_slot_member, blank_claims_request, blank_claims_slot, blank_claims_names, blank_times, blank_claims_end, blank_change, blank_table_head, member_of, result_of, evidence_of, early_cuts, late_cuts};
 
 use identity::identity::*;
 use records::records::*;
@@ -110,6 +111,144 @@ pub struct TableHead {
     pub manifest_digest: [u8; 32],
     pub revision: u64,
     pub configuration_epoch: ConsensusConfigurationEpoch,
+}
+
+// The blank of each group, all zero. `Default` is not derived: the definition names the whole value,
+// where a derived one would say of an array only that each element is a default. No code here asks for
+// the blank of a whole group: they stay for callers in Rust, since what this layer has promised stays
+// promised.
+impl Default for Binding {
+    ghost is_default = { λ x. x ≡ blank_binding };
+
+    #[tactic(auto, unfolding(crate::specs::Parts::blank_binding, format::specs::Copy::zeros))]
+    fn default() -> Binding {
+        Binding {
+            key_digest: [0; 32],
+            descriptor_digest: [0; 32],
+            admission_generation: 0,
+        }
+    }
+}
+
+impl Default for ResultHead {
+    ghost is_default = { λ x. x ≡ blank_result_head };
+
+    #[tactic(auto, unfolding(crate::specs::Parts::blank_result_head, format::specs::Copy::zeros))]
+    fn default() -> ResultHead {
+        ResultHead {
+            request_id: [0; 16],
+            request_digest: [0; 32],
+            incarnation: 0,
+            revision: 0,
+        }
+    }
+}
+
+impl Default for SlotMember {
+    ghost is_default = { λ x. x ≡ blank_slot_member };
+
+    #[tactic(auto, unfolding(crate::specs::Parts::blank_slot_member))]
+    fn default() -> SlotMember {
+        SlotMember {
+            member: VoterSlotMember::default(),
+            retired_through: 0,
+        }
+    }
+}
+
+impl Default for ClaimsRequest {
+    ghost is_default = { λ x. x ≡ blank_claims_request };
+
+    #[tactic(auto, unfolding(crate::specs::Parts::blank_claims_request, format::specs::Copy::zeros))]
+    fn default() -> ClaimsRequest {
+        ClaimsRequest {
+            request_id: [0; 16],
+            request_digest: [0; 32],
+        }
+    }
+}
+
+impl Default for ClaimsSlot {
+    ghost is_default = { λ x. x ≡ blank_claims_slot };
+
+    #[tactic(auto, unfolding(crate::specs::Parts::blank_claims_slot, format::specs::Copy::zeros, records::specs::Blank::blank_voter_slot_identity))]
+    fn default() -> ClaimsSlot {
+        ClaimsSlot {
+            cluster_instance: [0; 32],
+            identity: VoterSlotIdentity::default(),
+            old_descriptor_digest: [0; 32],
+            candidate_key_digest: [0; 32],
+        }
+    }
+}
+
+impl Default for ClaimsNames {
+    ghost is_default = { λ x. x ≡ blank_claims_names };
+
+    #[tactic(auto, unfolding(crate::specs::Parts::blank_claims_names, format::specs::Copy::zeros))]
+    fn default() -> ClaimsNames {
+        ClaimsNames {
+            admission_generation: 0,
+            candidate_spiffe_id: SpiffeId::default(),
+            controller_spiffe_id: SpiffeId::default(),
+            signing_key_digest: [0; 32],
+        }
+    }
+}
+
+impl Default for ClaimsEnd {
+    ghost is_default = { λ x. x ≡ blank_claims_end };
+
+    #[tactic(auto, unfolding(crate::specs::Parts::blank_claims_end, format::specs::Copy::zeros))]
+    fn default() -> ClaimsEnd {
+        ClaimsEnd {
+            reason: 0,
+            policy_digest: [0; 32],
+            times: Times::default(),
+            signature: [0; 64],
+        }
+    }
+}
+
+impl Default for Times {
+    ghost is_default = { λ x. x ≡ blank_times };
+
+    #[tactic(auto, unfolding(crate::specs::Parts::blank_times))]
+    fn default() -> Times {
+        Times {
+            observation_start_ms: 0,
+            decision_ms: 0,
+            issued_ms: 0,
+            expires_ms: 0,
+        }
+    }
+}
+
+impl Default for Change {
+    ghost is_default = { λ x. x ≡ blank_change };
+
+    #[tactic(auto, unfolding(crate::specs::Parts::blank_change))]
+    fn default() -> Change {
+        Change {
+            predecessor: VoterConfiguration::default(),
+            successor: VoterConfiguration::default(),
+            phase: 0,
+        }
+    }
+}
+
+impl Default for TableHead {
+    ghost is_default = { λ x. x ≡ blank_table_head };
+
+    #[tactic(auto, unfolding(crate::specs::Parts::blank_table_head, format::specs::Copy::zeros))]
+    fn default() -> TableHead {
+        TableHead {
+            cluster_instance: [0; 32],
+            manifest_digest: [0; 32],
+            revision: 0,
+            configuration_epoch: 0,
+        }
+    }
 }
 
 // Three records are put together from their parts, here and in the two functions after it. Each has

@@ -1,10 +1,27 @@
-// The leaf of the writers: `Writer::bytes` of codec.rs.
+// The leaves of the writers: numbers of any width, and `Writer::bytes` of codec.rs.
 //
 // Ported from crates/opc-consensus/src/voter_slots/codec.rs of openpacketcore-sdk, commit
-// 717de332e7, Apache-2.0 (see NOTICE). Changed: a buffer is lent and has room; the function is
-// given the place to write at and gives the place after it.
+// 717de332e7, Apache-2.0 (see NOTICE). Changed: a buffer is lent and has room; each function
+// is given the place to write at and gives the place after it.
 ghost use Rattle.std.specs.Prelude.{◌+◌, ◌≤◌, length};
+ghost use Rattle.format.specs.Num.{uint};
 ghost use Rattle.format.specs.Put.{Put};
+
+// The width low bytes of the value, the highest first. No code here calls it, since the writers have
+// numbers of one, two and eight bytes: it stays for callers in Rust, since what this layer has
+// promised of every width stays promised.
+pub fn put_be(buffer: &mut [u8], at: usize, width: usize, value: u64) -> usize
+    requires { at + length ((uint width).enc value) ≤ length buffer.old }
+    ensures { Put ((uint width).enc value) at buffer.old buffer.new result }
+{
+    let end = at + width;
+    let mut rest = value;
+    for k in (0..width).rev() {
+        buffer[at + k] = (rest % 256) as u8;
+        rest /= 256;
+    }
+    end
+}
 
 // `bytes`. Buffer and place come one beside the other: `Writer`, which holds the two as one, is made of
 // this function.

@@ -3,10 +3,10 @@
 // Ported from crates/opc-consensus/src/voter_slots/codec.rs of openpacketcore-sdk, commit
 // 717de332e7, Apache-2.0 (see NOTICE). Changed: groups of fields that stand together have a reader
 // of their own (layout's parts.rt); lists fill a place of nine.
-ghost use Rattle.std.specs.Prelude.{◌≡◌, ◌≤◌, length, IfOk};
+ghost use Rattle.std.specs.Prelude.{◌≡◌, ◌≤◌, length, IfOk, OnErr};
 ghost use Rattle.format.specs.Through.{whole};
 ghost use Rattle.format.specs.Reads.{reads};
-ghost use Rattle.records.specs.Blank.{blank_lost_voter_attestation_v1, blank_voter_replacement_record};
+ghost use Rattle.records.specs.Blank.{blank_lost_voter_attestation_v1, blank_voter_replacement_record, blank_voter_slot_table};
 ghost use Rattle.layout.specs.Told.{told, told_at, told_whole, told_whole_at};
 ghost use Rattle.layout.specs.Layout.{binding, member, configuration, result_head, replacement_result, slot_member, slot, claims_request, claims_slot, claims_end, claims, attestation, snapshot, evidence, replacement, table_head, table};
 
@@ -109,9 +109,20 @@ impl<'a> Reader<'a> {
         })
     }
 
-    // The fields of an attestation, into a place that is blank; anything may come after them.
+    // The fields of an attestation; anything may come after them. An open request is read by
+    // `fill_attestation`, and no code here calls this: it stays for callers in Rust, who have no place
+    // to lend and are asked nothing.
+    pub fn attestation(&mut self) -> Result<LostVoterAttestationV1, Refusal>
+        ensures { told result self.new.bytes.now ≡ reads claims self.old.bytes.now }
+    {
+        let mut attestation = LostVoterAttestationV1::default();
+        self.fill_attestation(&mut attestation)?;
+        Ok(attestation)
+    }
+
+    // The same, into a place that is blank.
     #[tactic(auto, using(layout::specs::ReadingLaws::reads_claims, layout::specs::ReadingLaws::blank_candidate, layout::specs::ReadingLaws::blank_controller))]
-    fn attestation(&mut self, place: &mut LostVoterAttestationV1) -> Result<(), Refusal>
+    fn fill_attestation(&mut self, place: &mut LostVoterAttestationV1) -> Result<(), Refusal>
         requires { place.old ≡ blank_lost_voter_attestation_v1 }
         ensures { told_at result place.new self.new.bytes.now ≡ reads claims self.old.bytes.now }
     {
@@ -130,8 +141,8 @@ impl<'a> Reader<'a> {
         place.old_descriptor_digest = old_descriptor_digest;
         place.candidate_key_digest = candidate_key_digest;
         place.admission_generation = self.u64()?;
-        self.spiffe_id(&mut place.candidate_spiffe_id)?;
-        self.spiffe_id(&mut place.controller_spiffe_id)?;
+        self.fill_spiffe_id(&mut place.candidate_spiffe_id)?;
+        self.fill_spiffe_id(&mut place.controller_spiffe_id)?;
         let signing_key_digest = self.array()?;
         place.signing_key_digest = signing_key_digest;
         let end = self.claims_end()?;
@@ -188,14 +199,39 @@ impl<'a> Reader<'a> {
         })
     }
 
-    // The fields of a table; anything may come after them. The table is filled where it stands: a
-    // `Result` that has it would copy its 8 KB at each `?`.
-    #[tactic(auto, using(layout::specs::ReadingLaws::reads_table, format::specs::Reads::reads_opt, layout::specs::ReadingLaws::blank_slots, layout::specs::ReadingLaws::blank_replacement), unfolding(layout::specs::Layout::slots, layout::specs::Parts::blank_voter_slot_records))]
+    // The fields of a table; anything may come after them. A caller in Rust who has no place to lend has
+    // them from this; no code here calls it, since its 8 KB are copied once more.
+    pub fn read_table(&mut self) -> Result<VoterSlotTable, Refusal>
+        ensures form { told result self.new.bytes.now ≡ reads table self.old.bytes.now }
+        ensures small { IfOk result (λ table. table.count ≤ 9) }
+    {
+        let mut table = VoterSlotTable::default();
+        self.fill_table(&mut table)?;
+        Ok(table)
+    }
+
+    // The same, into a place whose content does not matter; it is blank after a refusal.
     pub fn table(&mut self, place: &mut VoterSlotTable) -> Result<(), Refusal>
         ensures form { told_at result place.new self.new.bytes.now ≡ reads table self.old.bytes.now }
         ensures small { IfOk result (λ nothing. place.new.count ≤ 9) }
+        ensures blank { OnErr result (place.new ≡ blank_voter_slot_table) }
     {
         *place = VoterSlotTable::default();
+        let answer = self.fill_table(place);
+        if answer.is_err() {
+            *place = VoterSlotTable::default();
+        }
+        answer
+    }
+
+    // The same, into a place that is blank. The table is filled where it stands: a `Result` that has it
+    // would copy its 8 KB at each `?`.
+    #[tactic(auto, using(layout::specs::ReadingLaws::reads_table, format::specs::Reads::reads_opt, layout::specs::ReadingLaws::blank_slots, layout::specs::ReadingLaws::blank_replacement), unfolding(layout::specs::Layout::slots, layout::specs::Parts::blank_voter_slot_records))]
+    fn fill_table(&mut self, place: &mut VoterSlotTable) -> Result<(), Refusal>
+        requires { place.old ≡ blank_voter_slot_table }
+        ensures form { told_at result place.new self.new.bytes.now ≡ reads table self.old.bytes.now }
+        ensures small { IfOk result (λ nothing. place.new.count ≤ 9) }
+    {
         self.magic_and_version()?;
         let head = self.table_head()?;
         let cluster_instance = head.cluster_instance;
@@ -296,7 +332,7 @@ pub fn fill_whole_attestation(
     ensures { told_whole_at result place.new (length bytes.now) ≡ whole attestation bytes.now }
 {
     let mut input = Reader::new(bytes);
-    input.attestation(place)?;
+    input.fill_attestation(place)?;
     input.finish()?;
     if !place.is_valid() {
         return Err(Refusal::InvalidRecord);

@@ -284,10 +284,19 @@ impl<'a> Reader<'a> {
         Ok(bytes.len())
     }
 
-    // `identity_string`, into a place that is blank: returned, its 2 KB would be copied at each
-    // step.
+    // `identity_string`. The records are read by `fill_spiffe_id`, and no code here calls this: it
+    // stays for callers in Rust, who have no place to lend and are asked nothing.
+    pub fn spiffe_id(&mut self) -> Result<SpiffeId, Refusal>
+        ensures { told result self.new.bytes.now ≡ reads spiffe_id self.old.bytes.now }
+    {
+        let mut name = SpiffeId::default();
+        self.fill_spiffe_id(&mut name)?;
+        Ok(name)
+    }
+
+    // The same, into a place that is blank: returned, its 2 KB would be copied at each step.
     #[tactic(auto, using(format::specs::Reads::reads_via, layout::specs::ReadingLaws::blank_bytes), unfolding(layout::specs::Layout::spiffe_id))]
-    pub(crate) fn spiffe_id(&mut self, place: &mut SpiffeId) -> Result<(), Refusal>
+    pub(crate) fn fill_spiffe_id(&mut self, place: &mut SpiffeId) -> Result<(), Refusal>
         requires { place.old ≡ blank_spiffe_id }
         ensures { told_at result place.new self.new.bytes.now ≡ reads spiffe_id self.old.bytes.now }
     {
@@ -330,6 +339,15 @@ impl<'a> Reader<'a> {
             return Err(Refusal::FreshInstallationRequired);
         }
         Ok(())
+    }
+
+    // What is left: what stands after the parts that were read. How many bytes these took is what its
+    // length says. No code here calls it: it stays for callers in Rust, since the readers of this layer
+    // have always told where they stopped.
+    pub fn rest(self) -> &'a [u8]
+        ensures { result.now ≡ self.entry.bytes.now }
+    {
+        self.bytes
     }
 
     // `finish`: nothing is left over.
