@@ -16,6 +16,7 @@ use identity::answer::Refusal;
 use identity::identity::*;
 use identity::text::MAX_VOTER_SNAPSHOT_ID_BYTES;
 use layout::parts::member_of;
+use layout::put::copy_bytes;
 use reader::reader::Reader;
 use records::records::*;
 
@@ -77,7 +78,7 @@ fn any_snapshot_id(input: &mut Reader) -> Result<SnapshotId, Refusal>
     let len = id.len();
     let held = len.min(MAX_VOTER_SNAPSHOT_ID_BYTES);
     let mut bytes = [0; MAX_VOTER_SNAPSHOT_ID_BYTES];
-    bytes[..held].copy_from_slice(&id[..held]);
+    copy_bytes(&mut bytes[..held], &id[..held]);
     Ok(SnapshotId { len, bytes })
 }
 

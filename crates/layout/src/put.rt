@@ -3,7 +3,7 @@
 // Ported from crates/opc-consensus/src/voter_slots/codec.rs of openpacketcore-sdk, commit
 // 717de332e7, Apache-2.0 (see NOTICE). Changed: a buffer is lent and has room; each function
 // is given the place to write at and gives the place after it.
-ghost use Rattle.std.specs.Prelude.{◌+◌, ◌≤◌, length};
+ghost use Rattle.std.specs.Prelude.{◌+◌, ◌≤◌, ◌≡◌, length};
 ghost use Rattle.format.specs.Num.{uint};
 ghost use Rattle.format.specs.Put.{Put};
 
@@ -23,6 +23,17 @@ pub fn put_be(buffer: &mut [u8], at: usize, width: usize, value: u64) -> usize
     end
 }
 
+// The library's `copy_from_slice`, of bytes. That one calls `memmove`, which a program that links the
+// library for C would have to bring; of this loop the compiler makes copies of its own.
+pub fn copy_bytes(place: &mut [u8], bytes: &[u8])
+    requires { length place.old ≡ length bytes.now }
+    ensures { place.new ≡ bytes.now }
+{
+    for i in 0..bytes.len() {
+        place[i] = bytes[i];
+    }
+}
+
 // `bytes`. Buffer and place come one beside the other: `Writer`, which holds the two as one, is made of
 // this function.
 #[tactic(auto, using(format::specs::Put::copied_over))]
@@ -31,6 +42,6 @@ pub fn put_bytes(buffer: &mut [u8], at: usize, bytes: &[u8]) -> usize
     ensures { Put bytes.now at buffer.old buffer.new result }
 {
     let end = at + bytes.len();
-    buffer[at..end].copy_from_slice(bytes);
+    copy_bytes(&mut buffer[at..end], bytes);
     end
 }

@@ -23,6 +23,7 @@ use identity::answer::Refusal;
 use identity::identity::*;
 use identity::text::{MAX_VOTER_SNAPSHOT_ID_BYTES, is_utf8};
 use layout::parts::{ThreeCuts, Times, VERSION};
+use layout::put::copy_bytes;
 use records::blank::Blank;
 use records::records::*;
 use records::validation::is_valid_count;
@@ -280,7 +281,7 @@ impl<'a> Reader<'a> {
         if !is_utf8(bytes) {
             return Err(Refusal::InvalidRecord);
         }
-        place[..bytes.len()].copy_from_slice(bytes);
+        copy_bytes(&mut place[..bytes.len()], bytes);
         Ok(bytes.len())
     }
 

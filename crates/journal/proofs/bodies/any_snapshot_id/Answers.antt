@@ -8,4 +8,4 @@ pub returns : goal.returns
 unfolding snapshot_id_of
 returns c =
     let p = id_placed 256 c.in_ok-id.id.now c.min-held.result c.min-held.ensures in
-    search (rules, p, c.copy_from_slice.ensures.after)
+    search (rules, p, c.copy_bytes.ensures)
