@@ -381,17 +381,18 @@ fn has_few_members(table: &VoterSlotTable) -> bool
             | ((old <= MAX_FIXED_VOTER_SLOTS) & (new <= MAX_FIXED_VOTER_SLOTS)))
 }
 
-// The verdict. On a table not known to be valid a change still needs `confirm`. It is public and takes
-// the table by value, as before; what is judged is the table that is lent (`weigh_lent`).
+// The verdict. On a table not known to be valid a change still needs `confirm`. It takes the table by
+// value, for a caller that holds it so; what is judged is the table that is lent (`weigh_lent`).
 pub fn weigh(table: VoterSlotTable, observation: VoterObservation) -> Result<Observed, Refusal>
     ensures { verdict_of_observed result ≡ weighed table observation.entry.sets.now observation.entry.counts.now observation.entry.nodes.now observation.entry.cut }
 {
     weigh_lent(&table, observation)
 }
 
-// The same on a table that is lent.
+// The same on a table that is lent. A caller that judges one table many times lends it: by value, the
+// table is copied for each observation.
 #[tactic(auto, unfolding(crate::specs::Observation::representable_sets, crate::specs::ObserveSight::weighed))]
-fn weigh_lent(table: &VoterSlotTable, observation: VoterObservation) -> Result<Observed, Refusal>
+pub fn weigh_lent(table: &VoterSlotTable, observation: VoterObservation) -> Result<Observed, Refusal>
     ensures { verdict_of_observed result ≡ weighed table.now observation.entry.sets.now observation.entry.counts.now observation.entry.nodes.now observation.entry.cut }
 {
     let few = has_few_members(table);

@@ -1,16 +1,16 @@
 -- Laws of the sets and the nodes of an observation: one id more, one set more, what refuses the
 -- reading, and what the whole body asks.
 -- Assumes nothing.
-use Rattle.std.specs.Prelude.{ℕ, ◌+◌, ◌*◌, ◌≤◌, ◌<◌, ◌≡◌, Bool, length, take, drop, set, eqb, leb, Ok}
+use Rattle.std.specs.Prelude.{ℕ, zero, suc, ◌+◌, ◌*◌, ◌≤◌, ◌<◌, ◌≡◌, Bool, length, take, drop, set, eqb, leb, Ok}
 use native.Mathlib.Omega.{arith}
-use Rattle.std.proofs.Common.{add-one, ap₂, ◌∙◌, length-take-le, take-add, take-suc-set, leb-true, leb-false, length-set}
+use Rattle.std.proofs.Common.{add-one, drop-drop, ap₂, ◌∙◌, length-take-le, take-add, take-suc-set, leb-true, leb-false, length-set}
 use Rattle.std.proofs.Math.Path.{refl, sym, ap}
 use Rattle.std.proofs.Math.Bool.{true, false, cond}
 use mathlib.Core.List.{List, [], ◌∷◌, ◌++◌, append_assoc, append-nil, flatten, map-append}
 use Rattle.std.proofs.Math.ListN.{length-drop}
 use Rattle.std.proofs.lemmas.List.{drop-set-add, take-set-le}
 use Rattle.format.specs.Combinators.{Codec}
-use Rattle.format.specs.Res.{Res}
+use Rattle.format.specs.Res.{Res, malformed}
 use Rattle.format.specs.Res.Res.{ok, no}
 use Rattle.format.specs.List.{vec, vec-start}
 use Rattle.format.specs.Num.{uint, val}
@@ -96,9 +96,56 @@ pub set_read : (bs : List ℕ) → reads node_ids bs ≡ then_read (reads (uint 
 unfolding node_ids counted
 set_read bs = reads_two (uint 2) (vec (uint 8) 0) _ _ _ bs ∙ counted_by (λ n r. reads (vec (uint 8) 0 n) r) (reads (uint 2) bs)
 
+-- an id after those that were read
+abbrev next_id : Reading (List ℕ) → Reading (List ℕ)
+next_id x = then_read x (λ l rest. made_read (λ a. l ++ (a ∷ [])) (reads (uint 8) rest))
+
+-- so many ids are there: what they are, and what is left
+ids_there : (n : ℕ) (s : List ℕ) → 8 * n ≤ length s → (l : List ℕ) × (reads (vec (uint 8) 0 n) s ≡ Reading.read l (drop (8 * n) s))
+unfolding reads
+ids_there zero s h = ([], ap (left_of s) (vec-start (uint 8) 0 s))
+ids_there (suc n) s h =
+    let f = ids_there n s (omega arith) in
+    let r = drop (8 * n) s in
+    let q : 8 ≤ length r = omega (arith, length-drop (8 * n) s) in
+    let more = ap next_id f.1 in
+    let last = reads_uint 8 r ∙ ap (made_read (val 0)) (reads_raw 8 r q) in (
+      f.0 ++ (val 0 (take 8 r) ∷ []),
+      ap (λ k. reads (vec (uint 8) 0 k) s) (sym (add-one n))
+          ∙ reads_vec_more (uint 8) 0 n s
+          ∙ more
+          ∙ ap (made_read (λ a. f.0 ++ (a ∷ []))) last
+          ∙ ap (Reading.read (f.0 ++ (val 0 (take 8 r) ∷ []))) (drop-drop 8 (8 * n) s ∙ ap (λ k. drop k s) (omega arith)),
+    )
+
+-- there are fewer bytes than one more id takes
+few_more : (n : ℕ) (s : List ℕ) → length s < 8 * (n + 1) → (length s < 8 * n → reads (vec (uint 8) 0 n) s ≡ Reading.refused malformed)
+    → reads (vec (uint 8) 0 (n + 1)) s ≡ Reading.refused malformed
+few_more n s h fewer = by (leb (8 * n) (length s)) refl
+  where
+    by : (t : Bool) → leb (8 * n) (length s) ≡ t → reads (vec (uint 8) 0 (n + 1)) s ≡ Reading.refused malformed
+    by true p =
+        let f = ids_there n s (leb-true (8 * n) (length s) p) in
+        let r = drop (8 * n) s in
+        let q : length r < 8 = omega (arith, length-drop (8 * n) s) in
+        reads_vec_more (uint 8) 0 n s
+        ∙ ap next_id f.1
+        ∙ ap (made_read (λ a. f.0 ++ (a ∷ []))) (reads_uint 8 r ∙ ap (made_read (val 0)) (reads_raw_short 8 r q))
+    by false p = reads_vec_more (uint 8) 0 n s ∙ ap next_id (fewer (leb-false (8 * n) (length s) p))
+
+-- there are fewer bytes than so many ids take
+few_ids : (n : ℕ) (s : List ℕ) → length s < 8 * n → reads (vec (uint 8) 0 n) s ≡ Reading.refused malformed
+few_ids zero s h = absurd (omega arith)
+few_ids (suc n) s h =
+    ap (λ k. reads (vec (uint 8) 0 k) s) (sym (add-one n)) ∙ few_more n s (omega (arith, add-one n)) (λ p. few_ids n s p)
+
 module _ (bs : List ℕ) {count : ℕ} (s : List ℕ) (e : Reading.read count s ≡ reads (uint 2) bs) where
   after_count : reads node_ids bs ≡ reads (vec (uint 8) 0 count) s
   after_count = set_read bs ∙ ap (λ x. then_read x (λ n r. reads (vec (uint 8) 0 n) r)) (sym e)
+
+  -- fewer bytes than its ids take
+  pub set_short : length s < 8 * count → Reading.refused malformed ≡ reads node_ids bs
+  set_short h = sym (after_count ∙ few_ids count s h)
 
   -- too few ids
   pub set_refused : (from i k : ℕ) (rest old new : List ℕ) → LaidIds s rest from i old new → i < count → Reading.refused k ≡ reads (uint 8) rest

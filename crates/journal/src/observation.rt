@@ -85,13 +85,17 @@ fn lay_sets(
     Ok(held)
 }
 
-// One set: its ids, which are laid from a place on, and their count.
+// One set: its ids, which are laid from a place on, and their count. A set that has not all of its ids
+// is refused before the first is laid, so that a longer body takes no longer.
 #[tactic(auto, using(crate::specs::SetBodyLaws::ids_start, crate::specs::SetBodyLaws::ids_more, crate::specs::SetBodyLaws::set_refused, crate::specs::SetBodyLaws::set_laid))]
 fn lay_set(input: &mut Reader, ids: &mut [u64], from: usize) -> Result<usize, Refusal>
     requires { 8 * from + length input.old.bytes.now ≤ 8 * length ids.old }
     ensures { LaidSet result input.old.bytes.now input.new.bytes.now from ids.old ids.new }
 {
     let count = input.u16()? as usize;
+    if input.rest().len() < 8 * count {
+        return Err(Refusal::InvalidRecord);
+    }
     for i in 0..count {
         let id = input.u64()?;
         ids[from + i] = id;

@@ -6,7 +6,10 @@ ghost use Rattle.identity.specs.Answer.{Accepted};
 ghost use Rattle.records.specs.Validation.{validate};
 ghost use Rattle.control.specs.Control.{full};
 ghost use Rattle.journal.specs.Play.{Goes, PutTurn, Safe, longest_line, new_journal, opened_at, opened_to, play_of, played_to, ready_of, start_answer, start_place, turns_after};
-ghost use Rattle.journal.specs.Replay.{opening};
+ghost use Rattle.control.specs.ObserveSight.{verdict_of_observed};
+ghost use Rattle.journal.specs.declared.replay.Mark.TheVariants.{Ob};
+ghost use Rattle.journal.specs.Replay.{asking, opening};
+ghost use Rattle.journal.specs.Step.{numbered, observation_verdict};
 ghost use Rattle.journal.specs.RunHistory.{LineOfRun};
 
 use crate::line::{LONGEST_LINE, put_line};
@@ -151,6 +154,10 @@ fn play_on(from: Opened, input: &[u8], last: bool, out: &mut [u8]) -> Opened
     let mut room = IdRoom::<MOST_IDS>::new();
     let mut place = from.place;
     let mut t = from.table;
+    let mut kept = Kept {
+        table: t,
+        behind: false,
+    };
     while 0 < place.turns {
         let found = record_at(input, place.read, last);
         let body = &input[found.body..found.end];
@@ -158,7 +165,7 @@ fn play_on(from: Opened, input: &[u8], last: bool, out: &mut [u8]) -> Opened
             Mark::Mk => Called::Command(judge_marker_body(t, body)),
             Mark::Ad => Called::Command(judge_advance_body(t, body)),
             Mark::Bg => Called::Command(judge_begin_body(t, body)),
-            Mark::Ob => Called::Observation(judge_observation_body(t, body, &mut room)),
+            Mark::Ob => Called::Observation(judge_observed(t, &mut kept, body, &mut room)),
             Mark::Tb | Mark::Unknown => Called::Command(Err(Refusal::BadRecord)),
         };
         match called {
@@ -178,10 +185,40 @@ fn play_on(from: Opened, input: &[u8], last: bool, out: &mut [u8]) -> Opened
                 Ok(Observed::Keep) | Err(_) => {}
             },
         }
+        kept.behind = kept.behind | is_change(called);
         let answer = answer_of_called(called);
         place = put_turn(out, place, found, answer, t.revision);
     }
     with_table(place, t)
+}
+
+// A copy of the table that stands, which is lent to the judge of observations: so the table is copied
+// once after a change, and not for each observation. The table itself is not lent, since the other
+// judges and the makers would then be given copies of it.
+#[derive(Clone, Copy)]
+struct Kept {
+    table: VoterSlotTable,
+    // The table that stands has changed since.
+    behind: bool,
+}
+
+// The verdict of an OB's body at a table of which there is a copy, which is made anew where it is
+// behind.
+fn judge_observed(
+    table: VoterSlotTable,
+    kept: &mut Kept,
+    body: &[u8],
+    room: &mut IdRoom<MOST_IDS>,
+) -> Result<Observed, Refusal>
+    requires { (length body.now ≤ 65535) × (kept.old.behind ≡ false → kept.old.table ≡ table) }
+    ensures judged { numbered (verdict_of_observed result) ≡ observation_verdict table (asking Ob body.now) }
+    ensures copied { kept.new.table ≡ table }
+{
+    if kept.behind {
+        kept.table = table;
+        kept.behind = false;
+    }
+    judge_observation_lent(&kept.table, body, room)
 }
 
 // A place with the table that stands.

@@ -124,8 +124,7 @@ pub fn judge_begin_body(table: VoterSlotTable, body: &[u8]) -> Result<Judged, Re
 }
 
 // The verdict of an OB's body, whose ids and counts are read into the room that is lent: 33 where it is
-// not of its form, and else as the call.
-#[tactic(auto, unfolding(crate::specs::Step::observation_verdict))]
+// not of its form, and else as the call. It takes the table by value, for a caller that holds it so.
 pub fn judge_observation_body(
     table: VoterSlotTable,
     body: &[u8],
@@ -134,8 +133,21 @@ pub fn judge_observation_body(
     requires { length body.now ≤ 65535 }
     ensures { numbered (verdict_of_observed result) ≡ observation_verdict table (asking Ob body.now) }
 {
+    judge_observation_lent(&table, body, room)
+}
+
+// The same at a table that is lent, so that none is copied.
+#[tactic(auto, unfolding(crate::specs::Step::observation_verdict))]
+pub fn judge_observation_lent(
+    table: &VoterSlotTable,
+    body: &[u8],
+    room: &mut IdRoom<MOST_IDS>,
+) -> Result<Observed, Refusal>
+    requires { length body.now ≤ 65535 }
+    ensures { numbered (verdict_of_observed result) ≡ observation_verdict table.now (asking Ob body.now) }
+{
     let observation = room.read(body).ok_or(Refusal::BadRecord)?;
-    weigh(table, observation)
+    weigh_lent(table, observation)
 }
 
 // The table after the record. Where the table that stands is to be changed, its owner chooses the

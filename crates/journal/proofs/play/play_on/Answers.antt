@@ -5,15 +5,18 @@ use mathlib.Core.Path.{◌≡◌, refl, sym, ap, ◌∙◌, subst}
 use mathlib.Core.Bool.{Bool, true, false, false≢true}
 use mathlib.Core.Logic.◌⊎◌.{inl, inr}
 use lib.ListN.{length, length-take, length-drop}
-use Rattle.std.proofs.Common.{rules}
+use Rattle.std.proofs.Common.{rules, ℕ, List, ◌||◌}
+use Rattle.records.specs.declared.records.VoterSlotTable.{VoterSlotTable}
+use Rattle.journal.specs.declared.step.Called.{Called}
 use Rattle.control.specs.Verdicts.{step_made}
 use Rattle.control.specs.Judgement.Addition.{adds_learner, adds_joint, adds_uniform}
 use Rattle.control.specs.Judgement.Move.{records_snapshot, records_caught_up, continues, fences, finalizes}
+use Rattle.journal.specs.declared.play.Kept.{Kept}
 use Rattle.journal.specs.declared.play.Opened.{Opened}
 use Rattle.journal.specs.declared.replay.Mark.TheVariants.{Tb, Mk, Ad, Bg, Unknown}
 use Rattle.journal.specs.Play.{Goes, Safe, opened_at}
-use Rattle.journal.specs.Step.{Judges, Makes, made_by, made_by_command, made_by_observation}
-use Rattle.journal.proofs.StepLaws.{judges-bad, judges-command, judges-observation, makes, table-bad, unknown-bad}
+use Rattle.journal.specs.Step.{is_changing, Judges, Makes, made_by, made_by_command, made_by_observation}
+use Rattle.journal.proofs.StepLaws.{judges-bad, judges-command, judges-observation, makes, unchanged, table-bad, unknown-bad}
 use Rattle.journal.proofs.MakerLaws.{addition_makes, addition_room, begin_makes, begin_target, command_made, command_of, observation_made, observation_of, step_makes, step_room, step_target}
 use Rattle.journal.proofs.PlayLaws.{body_in, found, goes_none, goes_then, goes-turn, play-turn, put-less, safe-turn, valid-at}
 use Rattle.journal.proofs.play.play_on.Goals as goal
@@ -31,7 +34,7 @@ judged c =
       | in-Mk w ↦ judges-command t asks body c.match-found.called w.judge_marker_body.result Mk w.called-is w.in-Mk.is refl w.judge_marker_body.ensures
       | in-Ad w ↦ judges-command t asks body c.match-found.called w.judge_advance_body.result Ad w.called-is w.in-Ad.is refl w.judge_advance_body.ensures
       | in-Bg w ↦ judges-command t asks body c.match-found.called w.judge_begin_body.result Bg w.called-is w.in-Bg.is refl w.judge_begin_body.ensures
-      | in-Ob w ↦ judges-observation t asks body c.match-found.called w.judge_observation_body.result w.called-is w.in-Ob.is w.judge_observation_body.ensures
+      | in-Ob w ↦ judges-observation t asks body c.match-found.called w.judge_observed.result w.called-is w.in-Ob.is w.judge_observed.ensures.judged
       | in-Tb w ↦ elim w.in-Tb.is [
         | inl i ↦ judges-bad t asks body c.match-found.called Tb w.called-is i (table-bad body) refl
         | inr i ↦ judges-bad t asks body c.match-found.called Unknown w.called-is i (unknown-bad body) refl
@@ -63,42 +66,63 @@ made_as c =
       | in-Observation+in-Err-1 w ↦ w.t-is ∙ observation_made t body g w.in-Observation.is (search rules)
     ]
 
+-- the copy is the table, unless it is behind
+kept_as : (c : Joined-found) → c.match-found.kept.behind ≡ false → c.match-found.kept.table ≡ c.loop-place.t
+kept_as c =
+    let before = c.loop-place.invariant.1.1 in
+    let stays : c.match-found.kept ≡ c.loop-place.kept → c.match-found.kept.behind ≡ false → c.match-found.kept.table ≡ c.loop-place.t =
+    λ e k. ap (λ (x : Kept). x.table) e ∙ before (ap (λ (x : Kept). x.behind) (sym e) ∙ k) in
+    elim c.match-found.branch [
+      | in-Mk w ↦ stays w.kept-is
+      | in-Ad w ↦ stays w.kept-is
+      | in-Bg w ↦ stays w.kept-is
+      | in-Ob w ↦ λ k. ap (λ (x : Kept). x.table) w.kept-is ∙ w.judge_observed.ensures.copied
+      | in-Tb w ↦ stays w.kept-is
+    ]
+
+-- where nothing is made, the table stays, and so does its copy
+kept_then : (copy t : VoterSlotTable) (body : List ℕ) (called : Called) (behind changes : Bool) → changes ≡ is_changing called → (behind || changes) ≡ false → (behind ≡ false → copy ≡ t)
+    → (next : VoterSlotTable) → next ≡ made_by t body called → copy ≡ next
+kept_then copy t body called false false e k h next m = h refl ∙ unchanged t body called (sym e) ∙ sym m
+kept_then copy t body called false true e k h next m = absurd (false≢true (sym k))
+kept_then copy t body called true changes e k h next m = absurd (false≢true (sym k))
+
 pub loop-place-init : goal.loop-place-init
 loop-place-init c =
     let a = c.args in
     let safe : Safe a.input.now (length a.out.now) (opened_at a.from.place true a.from.table) =
     subst (λ (b : Bool). Safe a.input.now (length a.out.now) (opened_at a.from.place b a.from.table)) c.requires.1 c.requires.0 in
     let f = c.requires.0.lines_fit in
-    (goes_none a.input.now a.last (opened_at a.from.place true a.from.table) a.out.now (omega arith), safe)
+    (goes_none a.input.now a.last (opened_at a.from.place true a.from.table) a.out.now (omega arith), (safe, λ k. refl))
 
 pub record_at-found-requires : goal.record_at-found-requires
-record_at-found-requires c = c.loop-place.invariant.1.within
+record_at-found-requires c = c.loop-place.invariant.1.0.within
 
 pub slice_bounds-body-count : goal.slice_bounds-body-count
 slice_bounds-body-count c =
-    let h = found c.args.input.now c.args.last c.loop-place.place.read c.loop-place.invariant.1.within c.type_inv.input c.record_at-found.result c.record_at-found.ensures in omega arith
+    let h = found c.args.input.now c.args.last c.loop-place.place.read c.loop-place.invariant.1.0.within c.type_inv.input c.record_at-found.result c.record_at-found.ensures in omega arith
 
 pub slice_bounds-body-start : goal.slice_bounds-body-start
 slice_bounds-body-start c =
-    let h = found c.args.input.now c.args.last c.loop-place.place.read c.loop-place.invariant.1.within c.type_inv.input c.record_at-found.result c.record_at-found.ensures in omega arith
+    let h = found c.args.input.now c.args.last c.loop-place.place.read c.loop-place.invariant.1.0.within c.type_inv.input c.record_at-found.result c.record_at-found.ensures in omega arith
 
 pub slice_bounds-body-end : goal.slice_bounds-body-end
 slice_bounds-body-end c =
-    let h = found c.args.input.now c.args.last c.loop-place.place.read c.loop-place.invariant.1.within c.type_inv.input c.record_at-found.result c.record_at-found.ensures in omega arith
+    let h = found c.args.input.now c.args.last c.loop-place.place.read c.loop-place.invariant.1.0.within c.type_inv.input c.record_at-found.result c.record_at-found.ensures in omega arith
 
 pub judge_marker_body-requires : goal.judge_marker_body-requires
-judge_marker_body-requires c = valid-at c.loop-place.t (c.loop-place.invariant.1.valid (omega arith))
+judge_marker_body-requires c = valid-at c.loop-place.t (c.loop-place.invariant.1.0.valid (omega arith))
 
 pub judge_advance_body-requires : goal.judge_advance_body-requires
-judge_advance_body-requires c = valid-at c.loop-place.t (c.loop-place.invariant.1.valid (omega arith))
+judge_advance_body-requires c = valid-at c.loop-place.t (c.loop-place.invariant.1.0.valid (omega arith))
 
 pub judge_begin_body-requires : goal.judge_begin_body-requires
-judge_begin_body-requires c = valid-at c.loop-place.t (c.loop-place.invariant.1.valid (omega arith))
+judge_begin_body-requires c = valid-at c.loop-place.t (c.loop-place.invariant.1.0.valid (omega arith))
 
-pub judge_observation_body-requires : goal.judge_observation_body-requires
-judge_observation_body-requires c =
-    let h = found c.args.input.now c.args.last c.loop-place.place.read c.loop-place.invariant.1.within c.type_inv.input c.record_at-found.result c.record_at-found.ensures in
-    simp (length-take, length-drop) (omega arith)
+pub judge_observed-requires : goal.judge_observed-requires
+judge_observed-requires c =
+    let h = found c.args.input.now c.args.last c.loop-place.place.read c.loop-place.invariant.1.0.within c.type_inv.input c.record_at-found.result c.record_at-found.ensures in
+    (simp (length-take, length-drop) (omega arith), c.loop-place.invariant.1.1)
 
 pub snapshot_table-t-requires : goal.snapshot_table-t-requires
 snapshot_table-t-requires c =
@@ -148,7 +172,7 @@ uniform_table-t-requires c =
 pub put_turn-place-requires : goal.put_turn-place-requires
 put_turn-place-requires c =
     let l = c.loop-place in
-    (omega arith, (l.invariant.1.lines_fit, l.invariant.1.counts-fit))
+    (omega arith, (l.invariant.1.0.lines_fit, l.invariant.1.0.counts-fit))
 
 pub loop-place-smaller : goal.loop-place-smaller
 loop-place-smaller c = put-less c.put_turn-place.ensures (omega arith)
@@ -159,21 +183,24 @@ loop-place-preserved c =
     let o = opened_at l.place true l.t in
     let r = c.record_at-found.result in
     let input = c.args.input.now in
-    let h = found input c.args.last l.place.read l.invariant.1.within c.type_inv.input r c.record_at-found.ensures in
+    let h = found input c.args.last l.place.read l.invariant.1.0.within c.type_inv.input r c.record_at-found.ensures in
     let some : 0 < l.place.turns = omega arith in
     let table = c.match-called.t in
     let answer = c.answer_of_called-answer in
-    let m : Joined-called = record { before = c.before.before.before.before.before.before; type_inv = record { input = c.type_inv.input } } in
+    let m : Joined-called = record { before = c.before.before.before.before.before.before.before; type_inv = record { input = c.type_inv.input } } in
     let d : Joined-found = record { before = m.before.before; type_inv = record { input = c.type_inv.input } } in
-    let p = play-turn l.t (valid-at l.t (l.invariant.1.valid some)) r.asks (body_in input r) c.match-found.called (judged d)
+    let p = play-turn l.t (valid-at l.t (l.invariant.1.0.valid some)) r.asks (body_in input r) c.match-found.called (judged d)
     answer.result (search rules) table (made_as m) in
     let keeps : true ≡ false → (true ≡ false) × (table ≡ l.t) = λ k. absurd (false≢true (sym k)) in
     let q = c.put_turn-place.result in (
       goes_then l.invariant.0
-          (goes-turn input c.args.last o l.out l.invariant.1 some r h answer.result true table p.0 keeps
+          (goes-turn input c.args.last o l.out l.invariant.1.0 some r h answer.result true table p.0 keeps
           table.revision p.1.1 q _ c.put_turn-place.ensures),
-      safe-turn input c.args.last o l.out l.invariant.1 some r h answer.result true table p.0 keeps
-          table.revision p.1.1 q _ c.put_turn-place.ensures p.1.0,
+      (
+        safe-turn input c.args.last o l.out l.invariant.1.0 some r h answer.result true table p.0 keeps
+            table.revision p.1.1 q _ c.put_turn-place.ensures p.1.0,
+        λ k. kept_then c.match-found.kept.table l.t (body_in input r) c.match-found.called c.match-found.kept.behind c.is_change.result (search rules) k (kept_as d) table (made_as m),
+      ),
     )
 
 pub shape_of-out : goal.shape_of-out
