@@ -145,7 +145,7 @@ pub fn observe_bytes<const N: usize>(
     body: &[u8],
     out: &mut [u8],
 ) -> Result<VoterSlotsResult, Refusal>
-    requires { (N ≤ 8192) × (length body.now ≤ 8 * N) }
+    requires { length body.now ≤ 8 * N }
     ensures gives { (said result, out.new) ≡ asked_of (asking Ob body.now) table.now out.old }
     ensures good { IfOk result (λ r. r.answer ≡ 0) }
 {

@@ -168,7 +168,7 @@ fn observe_body<const N: usize>(
     table: &mut VoterSlotTable,
     body: &[u8],
 ) -> Result<VoterSlotsResult, Refusal>
-    requires { (N ≤ 8192) × (length body.now ≤ 8 * N) }
+    requires { length body.now ≤ 8 * N }
     ensures gives { (said result, table.new) ≡ asked_at (asking Ob body.now) table.old }
     ensures good { IfOk result (λ r. r.answer ≡ 0) }
 {
