@@ -6,9 +6,9 @@ use Prim.Native.Nat.{ℕ, zero, suc, ◌+◌, ◌-◌, ◌<◌, ◌≤◌}
 use Rattle.std.proofs.Math.Path.{refl, ap}
 use Rattle.std.proofs.Common.{sym, ap₂, ◌∙◌, add-one, arith, take-suc, take-suc-set, ltb-true, ltb-false, lt-ltb, le-ltb}
 use Rattle.std.specs.Bool.{then_some}
-use Rattle.std.specs.Option.{option_or}
+use Rattle.std.specs.Option.{option_or, unwrap_or}
 use Rattle.std.specs.Result.{result_and}
-use Rattle.std.specs.Prelude.{◌≡◌, Bool, Option, Some, None, Ok, Err, true, false, not, ◌&&◌, ◌||◌, List, map, ◌∷◌, ◌++◌, [], eqb, leb, ltb, get_or, length, set, take}
+use Rattle.std.specs.Prelude.{◌≡◌, Bool, Option, Some, None, is_some, Ok, Err, true, false, not, ◌&&◌, ◌||◌, List, map, ◌∷◌, ◌++◌, [], eqb, leb, ltb, get_or, length, set, take}
 use Rattle.std.proofs.Math.Bool.{cond}
 use Rattle.std.proofs.lemmas.Bool.{false≢true}
 use Rattle.std.proofs.lemmas.List.{map-append}
@@ -213,6 +213,26 @@ module _ (t : VoterSlotTable) (r : VoterReplacementRequest) (nine : length t.slo
       (λ i. cond (eqb t.revision r.expected_revision && (b i && (c i && d i)))
       (cond (leb 3 t.count) (cond (e i) Accepted InvalidLossEvidence) NoSurvivingQuorum) StaleIncarnation)
       ∙ (ap slot_by a ∙ slot-checked)
+
+  -- the same with a blank where none was found
+  pub slot-picked : (found : Bool) (x : Option VoterSlotMember) (blank : VoterSlotMember) (expected cluster attested newer : Bool) → found ≡ is_some x → x ≡ named_of t r.attestation.slot
+      → expected ≡ is_expected t r
+      → cluster ≡ eq_bytes r.attestation.cluster_instance t.cluster_instance → attested ≡ attested_member r (unwrap_or x blank) → newer ≡ newer_than r (unwrap_or x blank)
+      → cond (found && (eqb t.revision r.expected_revision && (expected && (cluster && attested))))
+      (cond (leb 3 t.count) (cond newer Accepted InvalidLossEvidence) NoSurvivingQuorum) StaleIncarnation
+      ≡ first_refusal (stale_check t r) (candidate_check t r)
+  slot-picked found None blank expected cluster attested newer f a b c d e =
+      ap
+      (λ (y : Bool). cond (y && (eqb t.revision r.expected_revision && (expected && (cluster && attested))))
+      (cond (leb 3 t.count) (cond newer Accepted InvalidLossEvidence) NoSurvivingQuorum) StaleIncarnation)
+      f
+      ∙ (ap slot_by a ∙ slot-checked)
+  slot-picked found (Some m) blank expected cluster attested newer f a b c d e =
+      ap
+      (λ (y : Bool). cond (y && (eqb t.revision r.expected_revision && (expected && (cluster && attested))))
+      (cond (leb 3 t.count) (cond newer Accepted InvalidLossEvidence) NoSurvivingQuorum) StaleIncarnation)
+      f
+      ∙ slot-judged m expected cluster attested newer a b c d e
 
 -- ---- a request that is known
 
