@@ -1,5 +1,7 @@
 -- The laws of the specs as the attributes of the calls cite them: all variables are shown, and a law
--- of two sides has on its left what the check is to replace.
+-- of two sides has on its left what the check is to replace. What is said of a verdict and of the
+-- answer and the table that it comes to (`added-told` to `added_left`, `told` to `command-room`) no
+-- attribute cites, and it stands.
 -- Assumes nothing.
 use mathlib.Core.Bool.{false, true}
 use mathlib.Core.Path.{◌≡◌, refl, sym, ap, ap₂, ◌∙◌}

@@ -101,7 +101,7 @@ module _ (t : VoterSlotTable) (p : VoterSlotRecord → Bool) where
 
 -- ---- the same of a place alone
 --
--- Nothing here cites these; docs named them, and they stand.
+-- No proof of code cites these, and they stand.
 
 -- whether a place was found, as what is read there
 pub by_place : (b : Bool) → cond b true false ≡ b
@@ -297,6 +297,8 @@ then-assoc a b c = go (is_accepted a) refl
     go false e = ap (λ (y : Bool). cond y c a) e
 
 -- ---- the members of the slots, one more a turn
+--
+-- No proof of code cites this, and it stands.
 
 pub members-more : (l : List VoterSlotMember) (s : List VoterSlotRecord) (i : ℕ) → i < length l → i < length s → take i l ≡ map (λ x. x.member) (take i s)
     → take (i + 1) (set l i (get_or s i no_slot_record).member) ≡ map (λ x. x.member) (take (i + 1) s)

@@ -1,5 +1,5 @@
 -- What the verdict on a Begin tells: what its maker asks for, and the answer and the table by the
--- number of the verdict.
+-- number of the verdict, by which no code goes.
 -- Laws for proofs of code; what is right is said in Control and Judgement.
 -- Assumes nothing.
 use Rattle.std.specs.Prelude.{◌<◌, ◌≤◌, ◌≡◌, Bool, true, false, cond}

@@ -217,7 +217,7 @@ module _ (t : VoterSlotTable) (c : VoterAdvance) (v : Verdict Move) (is : judge_
 
 -- ---- what the number of a verdict tells
 --
--- Nothing here cites these; docs named them, and they stand.
+-- No code goes by such a number; what these say of it stands.
 
 -- the move of a number
 abbrev move_at : ℕ → Move

@@ -3,6 +3,7 @@ use mathlib.Core.Path.{◌≡◌, ap, sym, ◌∙◌}
 use mathlib.Core.Bool.{false, true, cond, ◌&&◌}
 use native.Mathlib.Omega.{arith}
 use lib.Dec.{eqb, leb}
+use borrow.Author.Tests.{le-leb, lt-leb}
 use Rattle.identity.specs.Answer.{NoSurvivingQuorum, StaleIncarnation, Accepted, InvalidLossEvidence}
 use Rattle.records.proofs.Held.{held-lost-voter-attestation-v1, held-voter-slot-table}
 use Rattle.records.specs.Successor.{first_refusal}
@@ -30,15 +31,15 @@ returns-then-not-current c = sym (cond-false _ _ _ c.if-not-current.true) ∙ ju
 
 pub returns-then-not-enough : goal.returns-then-not-enough
 returns-then-not-enough c =
-    let few : leb 3 c.args.table.count ≡ false = grind arith in
+    let few : leb 3 c.args.table.count ≡ false = lt-leb 3 c.args.table.count (omega arith) in
     sym (cond-true _ _ _ c.if-not-current.false ∙ cond-false _ _ _ few) ∙ judged c.before.before.before.before.before
 
 pub returns-then-not-newer : goal.returns-then-not-newer
 returns-then-not-newer c =
-    let enough : leb 3 c.args.table.count ≡ true = grind arith in
+    let enough : leb 3 c.args.table.count ≡ true = le-leb 3 c.args.table.count (omega arith) in
     sym (cond-true _ _ _ c.if-not-current.false ∙ (cond-true _ _ _ enough ∙ cond-false _ _ _ c.if-not-newer.true)) ∙ judged c.before.before.before.before.before.before
 
 pub returns-else-not-newer : goal.returns-else-not-newer
 returns-else-not-newer c =
-    let enough : leb 3 c.args.table.count ≡ true = grind arith in
+    let enough : leb 3 c.args.table.count ≡ true = le-leb 3 c.args.table.count (omega arith) in
     sym (cond-true _ _ _ c.if-not-current.false ∙ (cond-true _ _ _ enough ∙ cond-true _ _ _ c.if-not-newer.false)) ∙ judged c.before.before.before.before.before.before
