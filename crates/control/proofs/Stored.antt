@@ -1,12 +1,15 @@
 -- The laws of the specs as the attributes of the calls cite them: all variables are shown, and a law
--- of two sides has on its left what the check is to replace.
+-- of two sides has on its left what the check is to replace. What is said of a verdict and of the
+-- answer and the table that it comes to (`added-told` to `added_left`, `told` to `command-room`) no
+-- attribute cites, and it stands.
 -- Assumes nothing.
 use mathlib.Core.Bool.{false, true}
-use mathlib.Core.Path.{◌≡◌, sym, ap, ◌∙◌}
-use Rattle.std.specs.Prelude.{Ok}
+use mathlib.Core.Path.{◌≡◌, refl, sym, ap, ap₂, ◌∙◌}
+use Rattle.std.specs.Prelude.{Result, Ok}
 use mathlib.Core.List.{List}
 use Prim.Native.Nat.{ℕ, ◌<◌, ◌≤◌}
-use Rattle.identity.specs.Answer.{Accepted, is_accepted}
+use Rattle.identity.specs.Answer.{Answer, Accepted, is_accepted}
+use Rattle.identity.specs.declared.answer.Refusal.{Refusal}
 use Rattle.records.specs.Validation.{validate}
 use Rattle.records.specs.declared.records.VoterSlotLogId.{VoterSlotLogId}
 use Rattle.records.specs.declared.records.VoterSlotTable.{VoterSlotTable}
@@ -16,15 +19,18 @@ use Rattle.control.specs.declared.control.VoterSlotControl.{VoterSlotControl}
 use Rattle.control.specs.ApplyLaws.{applied-advance, applied-begin, applied-marker}
 use Rattle.control.specs.BeginJudge.{begin_outcome}
 use Rattle.control.specs.BeginVerdictLaws.{begin-room}
-use Rattle.control.specs.Control.{apply_control, current_configuration, full, named_index}
-use Rattle.control.specs.Judgement.{added, carried, judge_advance, judge_begin, judge_marker}
+use Rattle.control.specs.Control.{apply_control, current_configuration, full, named_index, target_index}
+use Rattle.control.specs.Judgement.{Addition, Move, Verdict, added, carried, judge, judge_advance, judge_begin, judge_marker}
+use Rattle.control.specs.Judgement.Move.{begins, finalizes}
+use Rattle.control.specs.Judgement.Verdict.{moves}
 use Rattle.control.specs.Observation.{observe_membership}
-use Rattle.control.specs.ObserveLaws.{entry-room, observes-entry, observes-valid, weighed-room}
-use Rattle.control.specs.ObserveSight.{Room, entry_weighed, is_change, weighed}
-use Rattle.control.specs.VerdictLaws.{entry-passed, entry-refused, is_move, room_as, target-as}
-use Rattle.control.specs.Verdicts.{advance_in, advance_outcome, answer_of, applied_of, begin_in, checked_of, paired, verdict_of}
+use Rattle.control.specs.ObserveLaws.{added_none, entry-room, observes-entry, observes-valid, weighed-room}
+use Rattle.control.specs.ObserveSight.{Room, answer_of_observed, entry_weighed, is_change, verdict_of_observed, weighed}
+use Rattle.control.specs.VerdictLaws.{begin-begins, entry-passed, entry-refused, is_move, is_step, room_as, routed-to, step-advance, target-as}
+use Rattle.control.specs.Verdicts.{advance_in, advance_outcome, answer_of, applied_of, begin_in, checked_of, paired, route_of, verdict_of}
 use Rattle.control.specs.declared.judge.Judged.{Judged}
 use Rattle.control.specs.declared.judge.Judged.TheVariants.{Begin}
+use Rattle.control.specs.declared.observe.Observed.{Observed}
 
 -- ---- observations
 
@@ -41,6 +47,20 @@ weighed_room t ids counts nodes cut = weighed-room t ids counts nodes cut
 
 pub entry_room : (t : VoterSlotTable) (ids counts nodes : List ℕ) (cut : VoterSlotLogId) → is_change (entry_weighed t ids counts nodes cut) ≡ true → Room t
 entry_room t ids counts nodes cut = entry-room t ids counts nodes cut
+
+-- what was observed is what the verdict v says
+pub added-told : (r : Result Observed Refusal) (v : Verdict Addition) → verdict_of_observed r ≡ v → (o : Observed) → r ≡ Ok o → v ≡ verdict_of_observed (Ok o)
+added-told r v judged o is = sym judged ∙ ap verdict_of_observed is
+
+module _ (make : Addition → VoterSlotTable) (t : VoterSlotTable) (w v : Verdict Addition) (judged : w ≡ v) (answer : Answer) (answers : answer ≡ answer_of_observed w) where
+  -- the table that is made, with the answer
+  pub added_stored : (m : Addition) → v ≡ moves m → (n : VoterSlotTable) → n ≡ make m → paired answer n ≡ carried make t v
+  unfolding carried
+  added_stored m is n made = ap₂ paired (answers ∙ ap answer_of_observed (judged ∙ is)) made ∙ ap (carried make t) (sym is)
+
+  -- the table as it was, with the answer
+  pub added_left : (n : VoterSlotTable) → n ≡ t → is_change w ≡ false → paired answer n ≡ carried make t v
+  added_left n kept none = ap₂ paired answers kept ∙ (added_none make t w none ∙ ap (carried make t) judged)
 
 -- ---- commands: what a change finds
 
@@ -73,3 +93,36 @@ entry_refused t c cut h = sym (entry-refused t c cut h)
 
 pub entry_passed : (t : VoterSlotTable) (c : VoterSlotControl) (cut : VoterSlotLogId) → is_accepted (checked_of t c cut) ≡ true → apply_control t c cut ≡ applied_of t c cut
 entry_passed t c cut h = sym (entry-passed t c cut h)
+
+-- ---- the verdict w of the code's judge is v
+
+module _ (w v : Verdict Move) (judged : w ≡ v) (y : ℕ) (routed : y ≡ route_of w) where
+  -- by its number
+  pub told : (m : Move) → y ≡ route_of (moves m) → (route_of (moves m) ≡ 0 → ⊥) → v ≡ moves m
+  told m is some = sym judged ∙ routed-to w m (sym routed ∙ is) some
+
+module _ (make : Move → VoterSlotTable) (t : VoterSlotTable) (w v : Verdict Move) (judged : w ≡ v) (answer : Answer) (answers : answer ≡ answer_of w) where
+  -- the table that is made, with the answer
+  pub stored : (m : Move) → v ≡ moves m → (n : VoterSlotTable) → n ≡ make m → paired answer n ≡ carried make t v
+  unfolding carried
+  stored m is n made = ap₂ paired (answers ∙ ap answer_of (judged ∙ is)) made ∙ ap (carried make t) (sym is)
+
+  -- the table as it was, with the answer
+  pub left : (n : VoterSlotTable) → n ≡ t → paired (answer_of w) t ≡ carried make t w → paired answer n ≡ carried make t v
+  left n kept none = ap₂ paired answers kept ∙ (none ∙ ap (carried make t) judged)
+
+-- ---- what the maker of a command asks for
+
+module _ (t : VoterSlotTable) (c : VoterSlotControl) (cut : VoterSlotLogId) where
+  pub step_room : (m : Move) → is_step (moves m) ≡ true → judge t c cut ≡ moves m → t.revision ≡ full → ⊥
+  step_room m h is = room_as t (advance_in c cut) (moves m) (step-advance t c cut m h is) refl
+
+  pub finalize-room : validate t ≡ Accepted → judge t c cut ≡ moves finalizes → (t.revision ≡ full → ⊥) × ((t.count ≤ 9) × (target_index t < t.count))
+  finalize-room valid is = (
+    step_room finalizes refl is,
+    target-as t (advance_in c cut) (moves finalizes) (step-advance t c cut finalizes refl is) refl valid,
+  )
+
+  pub command-room : validate t ≡ Accepted → judge t c cut ≡ moves begins
+      → (t.revision ≡ full → ⊥) × (((current_configuration t).epoch ≡ full → ⊥) × ((t.count ≤ 9) × (named_index t c.request < t.count)))
+  command-room valid is = begin-room t (begin_in c cut) valid (ap is_move (begin-begins t c cut is))

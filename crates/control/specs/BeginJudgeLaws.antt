@@ -4,13 +4,14 @@
 -- Assumes nothing.
 use Prim.Native.Nat.{ℕ, zero, suc, ◌+◌, ◌-◌, ◌<◌, ◌≤◌}
 use Rattle.std.proofs.Math.Path.{refl, ap}
-use Rattle.std.proofs.Common.{sym, ap₂, ◌∙◌, arith, ltb-true, ltb-false, lt-ltb, le-ltb}
+use Rattle.std.proofs.Common.{sym, ap₂, ◌∙◌, add-one, arith, take-suc, take-suc-set, ltb-true, ltb-false, lt-ltb, le-ltb}
 use Rattle.std.specs.Bool.{then_some}
-use Rattle.std.specs.Option.{option_or}
+use Rattle.std.specs.Option.{option_or, unwrap_or}
 use Rattle.std.specs.Result.{result_and}
-use Rattle.std.specs.Prelude.{◌≡◌, Bool, Option, Some, None, Ok, Err, true, false, ◌&&◌, ◌||◌, List, [], eqb, leb, ltb, length}
+use Rattle.std.specs.Prelude.{◌≡◌, Bool, Option, Some, None, is_some, Ok, Err, true, false, not, ◌&&◌, ◌||◌, List, map, ◌∷◌, ◌++◌, [], eqb, leb, ltb, get_or, length, set, take}
 use Rattle.std.proofs.Math.Bool.{cond}
 use Rattle.std.proofs.lemmas.Bool.{false≢true}
+use Rattle.std.proofs.lemmas.List.{map-append}
 use Rattle.std.proofs.Math.Nat.{sub-zero}
 use Rattle.std.proofs.Math.ListN.{get_or-eq_default}
 use Rattle.identity.specs.Answer.{is_accepted, Answer, Accepted, InvalidLossEvidence, NoSurvivingQuorum, StaleIncarnation}
@@ -100,7 +101,7 @@ module _ (t : VoterSlotTable) (p : VoterSlotRecord → Bool) where
 
 -- ---- the same of a place alone
 --
--- Nothing here cites these; docs named them, and they stand.
+-- No proof of code cites these, and they stand.
 
 -- whether a place was found, as what is read there
 pub by_place : (b : Bool) → cond b true false ≡ b
@@ -111,6 +112,11 @@ by_place false = refl
 pub found-by : (one found : Bool) → (one || found) ≡ cond one true found
 found-by true found = refl
 found-by false found = refl
+
+pub kept_by : (one own same : Bool) → ((one && own) || (not one && same)) ≡ cond one own same
+kept_by true true same = refl
+kept_by true false same = refl
+kept_by false own same = refl
 
 module _ (t : VoterSlotTable) (p : VoterSlotRecord → Bool) where
   pub found_turn : (i : ℕ) (held found : Bool) → 0 < i → i ≤ 9 → held ≡ p (slot_at t (i - 1)) → found ≡ is_place t (place_from t p i)
@@ -174,11 +180,11 @@ module _ (t : VoterSlotTable) (r : VoterReplacementRequest) (nine : length t.slo
   picked false next = refl
 
   -- by the member of the slot
-  abbrev slot_by : Option VoterSlotMember → Answer
+  abbrev pub slot_by : Option VoterSlotMember → Answer
   slot_by None = StaleIncarnation
   slot_by (Some m) = cond (rest m) (fits m) StaleIncarnation
 
-  slot-checked : slot_by (named_of t r.attestation.slot) ≡ first_refusal (stale_check t r) (candidate_check t r)
+  pub slot-checked : slot_by (named_of t r.attestation.slot) ≡ first_refusal (stale_check t r) (candidate_check t r)
   unfolding is_current candidate_check
   slot-checked = go (ltb k t.count) (ltb k max_fixed_voter_slots) refl refl ∙ picked (ltb k t.count && rest m) (fits m)
     where
@@ -208,6 +214,26 @@ module _ (t : VoterSlotTable) (r : VoterReplacementRequest) (nine : length t.slo
       (cond (leb 3 t.count) (cond (e i) Accepted InvalidLossEvidence) NoSurvivingQuorum) StaleIncarnation)
       ∙ (ap slot_by a ∙ slot-checked)
 
+  -- the same with a blank where none was found
+  pub slot-picked : (found : Bool) (x : Option VoterSlotMember) (blank : VoterSlotMember) (expected cluster attested newer : Bool) → found ≡ is_some x → x ≡ named_of t r.attestation.slot
+      → expected ≡ is_expected t r
+      → cluster ≡ eq_bytes r.attestation.cluster_instance t.cluster_instance → attested ≡ attested_member r (unwrap_or x blank) → newer ≡ newer_than r (unwrap_or x blank)
+      → cond (found && (eqb t.revision r.expected_revision && (expected && (cluster && attested))))
+      (cond (leb 3 t.count) (cond newer Accepted InvalidLossEvidence) NoSurvivingQuorum) StaleIncarnation
+      ≡ first_refusal (stale_check t r) (candidate_check t r)
+  slot-picked found None blank expected cluster attested newer f a b c d e =
+      ap
+      (λ (y : Bool). cond (y && (eqb t.revision r.expected_revision && (expected && (cluster && attested))))
+      (cond (leb 3 t.count) (cond newer Accepted InvalidLossEvidence) NoSurvivingQuorum) StaleIncarnation)
+      f
+      ∙ (ap slot_by a ∙ slot-checked)
+  slot-picked found (Some m) blank expected cluster attested newer f a b c d e =
+      ap
+      (λ (y : Bool). cond (y && (eqb t.revision r.expected_revision && (expected && (cluster && attested))))
+      (cond (leb 3 t.count) (cond newer Accepted InvalidLossEvidence) NoSurvivingQuorum) StaleIncarnation)
+      f
+      ∙ slot-judged m expected cluster attested newer a b c d e
+
 -- ---- a request that is known
 
 eq_bytes-cond : (o : Bool) (a b d : List ℕ) → eq_bytes (cond o a b) d ≡ cond o (eq_bytes a d) (eq_bytes b d)
@@ -221,10 +247,10 @@ known_by again conflict fresh (Some true) = again
 known_by again conflict fresh (Some false) = conflict
 
 module _ {W : Type 0} (t : VoterSlotTable) (nine : length t.slots ≡ 9) (id digest : List ℕ) (again conflict fresh : W) where
-  abbrev by : Option Bool → W
+  abbrev pub by : Option Bool → W
   by = known_by again conflict fresh
 
-  known_picked : by (option_or (then_some (is_open_request t id) (eq_bytes t.replacement.attestation.request_digest digest)) (receipt_state t id digest))
+  pub known_picked : by (option_or (then_some (is_open_request t id) (eq_bytes t.replacement.attestation.request_digest digest)) (receipt_state t id digest))
       ≡ cond (is_known t id) (cond (eq_bytes (known_digest t id) digest) again conflict) fresh
   unfolding known_digest receipt_index
   known_picked =
@@ -269,3 +295,17 @@ then-assoc a b c = go (is_accepted a) refl
     go : (x : Bool) → is_accepted a ≡ x → first_refusal (cond x b a) c ≡ cond x (first_refusal b c) a
     go true e = refl
     go false e = ap (λ (y : Bool). cond y c a) e
+
+-- ---- the members of the slots, one more a turn
+--
+-- No proof of code cites this, and it stands.
+
+pub members-more : (l : List VoterSlotMember) (s : List VoterSlotRecord) (i : ℕ) → i < length l → i < length s → take i l ≡ map (λ x. x.member) (take i s)
+    → take (i + 1) (set l i (get_or s i no_slot_record).member) ≡ map (λ x. x.member) (take (i + 1) s)
+members-more l s i a b h =
+    let x = get_or s i no_slot_record in
+    let f : VoterSlotRecord → VoterSlotMember = λ x. x.member in
+    ap (λ (n : ℕ). take n (set l i x.member)) (add-one i)
+    ∙ (take-suc-set l i x.member a
+    ∙ (ap (λ (r : List VoterSlotMember). r ++ (x.member ∷ [])) h
+    ∙ sym (ap (λ (n : ℕ). map f (take n s)) (add-one i) ∙ (ap (map f) (take-suc s i no_slot_record b) ∙ map-append f (take i s) (x ∷ [])))))

@@ -1,10 +1,11 @@
 -- What the verdict on a Begin tells: what its maker asks for, and the answer and the table by the
--- number of the verdict.
+-- number of the verdict, by which no code goes.
 -- Laws for proofs of code; what is right is said in Control and Judgement.
 -- Assumes nothing.
 use Rattle.std.specs.Prelude.{◌<◌, ◌≤◌, ◌≡◌, Bool, true, false, cond}
 use Rattle.std.proofs.Math.Path.{refl}
 use Rattle.std.proofs.lemmas.Bool.{false≢true}
+use Rattle.std.proofs.Common.{arith}
 use Rattle.identity.specs.Answer.{is_accepted, Accepted, IdempotencyConflict, InvalidTransition}
 use Rattle.records.specs.declared.records.VoterSlotLogId.{VoterSlotLogId}
 use Rattle.records.specs.declared.records.VoterSlotTable.{VoterSlotTable}
@@ -19,11 +20,15 @@ use Rattle.control.specs.declared.control.VoterSlotControl.{VoterSlotControl}
 use Rattle.control.specs.Control.{begin_check, current_configuration, full, is_known, known_digest, named_index, request_check}
 use Rattle.control.specs.Judgement.{Move, Verdict, begin_test, carried, judge_begin, judge_repeated, made}
 use Rattle.control.specs.Judgement.Verdict.{refused, kept, moves}
-use Rattle.control.specs.Judgement.Move.{begins}
-use Rattle.control.specs.Verdicts.{begin_in}
-use Rattle.control.specs.VerdictLaws.{is_move}
+use Rattle.control.specs.Judgement.Move.{begins, records_snapshot, records_caught_up, continues, fences, finalizes}
+use Rattle.control.specs.Verdicts.{answer_of, begin_in, paired, route_of}
+use Rattle.control.specs.VerdictLaws.{is_move, routed-to}
 use Rattle.control.specs.BeginCheckLaws.{starts}
 use Rattle.control.specs.BeginJudge.{begin_made, begin_outcome}
+
+-- the number of a verdict that makes a table
+pub begin-told : (v : Verdict Move) → route_of v ≡ 6 → v ≡ moves begins
+begin-told v e = routed-to v begins e (λ z. absurd (omega arith))
 
 module _ (t : VoterSlotTable) (b : VoterBegin) where
   -- where a table is made, the tests were passed
@@ -52,6 +57,18 @@ module _ (t : VoterSlotTable) (b : VoterBegin) where
   begin-room valid h =
       let s = starts t b.request b.cut (begin-passed h) in
       (s.revision-room, (s.epoch-room, (representable-count t (valid-parts t valid).0, s.index)))
+
+  -- by any other number the table is kept
+  pub begin-kept : (v : Verdict Move) → (route_of v ≡ 6 → ⊥) → paired (answer_of v) t ≡ carried (begin_made t b) t v
+  unfolding carried begin_made
+  begin-kept (refused answer) n = refl
+  begin-kept kept n = refl
+  begin-kept (moves begins) n = absurd (n refl)
+  begin-kept (moves records_snapshot) n = refl
+  begin-kept (moves records_caught_up) n = refl
+  begin-kept (moves continues) n = refl
+  begin-kept (moves fences) n = refl
+  begin-kept (moves finalizes) n = refl
 
 -- what a Begin of a command makes is that
 pub begin-made : (t : VoterSlotTable) (c : VoterSlotControl) (cut : VoterSlotLogId)

@@ -3,7 +3,7 @@
 -- `observes-as` and `observes-valid` say so of the whole call; `weighed-room` is what a maker asks
 -- for.
 -- Assumes nothing.
-use Rattle.std.specs.Prelude.{ℕ, ◌≡◌, Bool, not, ◌&&◌, ◌||◌, List, ◌∷◌, [], leb, length}
+use Rattle.std.specs.Prelude.{ℕ, ◌≤◌, ◌≡◌, Bool, not, ◌&&◌, ◌||◌, List, ◌∷◌, [], leb, length}
 use Rattle.std.proofs.Math.Path.{refl, sym, ap}
 use Rattle.std.proofs.Common.{◌∙◌}
 use Rattle.std.proofs.Math.Bool.{true, false, cond}
@@ -17,7 +17,7 @@ use Rattle.records.specs.declared.records.VoterSlotLogId.{VoterSlotLogId}
 use Rattle.records.specs.declared.records.VoterSlotTable.{VoterSlotTable}
 use Rattle.records.specs.Representable.{representable, representable_replacement}
 use Rattle.records.specs.RepresentableParts.{configuration-is, replacement-is, table_is}
-use Rattle.records.specs.TestLaws.{and_both, cond-false, cond-true, says}
+use Rattle.records.specs.TestLaws.{and_both, cond-false, cond-true, says, then-says}
 use Rattle.records.specs.Blank.{blank_voter_replacement_record}
 use Rattle.records.specs.Equality.{same_voter_replacement_record}
 use Rattle.records.specs.declared.records.VoterReplacementRecord.{VoterReplacementRecord}
@@ -30,7 +30,7 @@ use Rattle.control.specs.Judgement.Addition.{adds_joint, adds_learner, adds_unif
 use Rattle.control.specs.Judgement.Verdict.{refused, kept, moves}
 use Rattle.control.specs.Observation.{Sight, all_rising, eq_ids, eq_sets, is_held_node_id, is_rising, member_ids, observe_membership, representable_sets, see, split_sets, total}
 use Rattle.control.specs.Observation.Sight.{new_joint, new_learner, new_uniform, nothing_new, strange}
-use Rattle.control.specs.ObserveSight.{Room, Supplied, confirmed, entry_weighed, few_members, is_change, judge_closed, judge_known, judge_seen, judge_sets, weighed}
+use Rattle.control.specs.ObserveSight.{Room, Supplied, answer_of_observed, confirmed, entry_weighed, few_members, is_change, judge_closed, judge_known, judge_seen, judge_sets, weighed}
 use Rattle.control.specs.SettleLaws.{observes}
 
 -- ---- validity, where something is new
@@ -189,6 +189,16 @@ module _ (t : VoterSlotTable) (ids counts nodes : List ℕ) (cut : VoterSlotLogI
 
 -- ---- what the code's tests tell
 
+pub few-count : (t : VoterSlotTable) → few_members t ≡ true → t.count ≤ 9
+few-count t h = leb-true t.count 9 (and_left (leb t.count 9) _ h)
+
+pub few-open : (t : VoterSlotTable) → few_members t ≡ true → t.has_replacement ≡ true → (t.replacement.predecessor.count ≤ 9) × (t.replacement.successor.count ≤ 9)
+few-open t h e =
+    let old = t.replacement.predecessor.count in
+    let new = t.replacement.successor.count in
+    let both = then-says t.has_replacement (leb old 9 && leb new 9) (and_right (leb t.count 9) _ h) e in
+    (leb-true old 9 (and_left (leb old 9) (leb new 9) both), leb-true new 9 (and_right (leb old 9) (leb new 9) both))
+
 module _ (t : VoterSlotTable) (ids counts nodes : List ℕ) where
   abbrev fits : Bool
   fits = few_members t && representable_sets ids counts nodes
@@ -233,3 +243,23 @@ module _ (t : VoterSlotTable) (ids counts nodes : List ℕ) where
   weighed-passed cut h k =
       cond-true fits (cond rises (judge_sets t (split_sets ids counts) nodes cut) (refused NotRising)) (refused Unrepresentable) h
       ∙ cond-true rises (judge_sets t (split_sets ids counts) nodes cut) (refused NotRising) k
+
+-- nothing is made, or something is
+pub confirmed-none : (v : Bool) (x : Verdict Addition) → is_change x ≡ false → x ≡ confirmed v x
+unfolding confirmed
+confirmed-none v (refused answer) h = refl
+confirmed-none v kept h = refl
+confirmed-none v (moves m) h = absurd (false≢true (sym h))
+
+pub confirmed-some : (v : Bool) (x : Verdict Addition) → is_change x ≡ true → cond v x (refused InvalidTransition) ≡ confirmed v x
+unfolding confirmed
+confirmed-some v (refused answer) h = absurd (false≢true h)
+confirmed-some v kept h = absurd (false≢true h)
+confirmed-some v (moves m) h = refl
+
+pub added_none : (make : Addition → VoterSlotTable) (t : VoterSlotTable) (v : Verdict Addition)
+    → is_change v ≡ false → ◌≡◌ {A = Answer × VoterSlotTable} (answer_of_observed v, t) (carried make t v)
+unfolding carried
+added_none make t (refused answer) h = refl
+added_none make t kept h = refl
+added_none make t (moves m) h = absurd (false≢true (sym h))

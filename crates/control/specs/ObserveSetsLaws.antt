@@ -2,10 +2,10 @@
 -- (`drop`).
 -- Each name here is a step of a proof; what is right is said in Observation.
 -- Assumes nothing.
-use Rattle.std.specs.Prelude.{Some, ℕ, zero, suc, ◌+◌, ◌-◌, ◌<◌, ◌≤◌, refl, ◌≡◌, Bool, true, false, cond, not, ◌&&◌, ◌||◌, List, ◌∷◌, [], ◌++◌, eqb, ltb, length, take, drop, get_or, set}
-use Rattle.std.proofs.Common.{sym, ap, ◌∙◌, add-one, arith, take-suc-set, eqb-true, eq-eqb, ne_eqb}
+use Rattle.std.specs.Prelude.{Some, ℕ, zero, suc, ◌+◌, ◌-◌, ◌<◌, ◌≤◌, refl, ◌≡◌, Bool, true, false, cond, not, ◌&&◌, ◌||◌, List, ◌∷◌, [], ◌++◌, eqb, leb, ltb, length, take, drop, get_or, set}
+use Rattle.std.proofs.Common.{sym, ap, ◌∙◌, add-one, arith, take-suc, take-suc-set, eqb-true, eq-eqb, ne_eqb, leb-true, leb-false}
 use Rattle.std.specs.List.{list_any}
-use Rattle.std.proofs.Math.Bool.{or_assoc, and_assoc, and-true}
+use Rattle.std.proofs.Math.Bool.{or_assoc, or-false, and_assoc, and-true}
 use Rattle.std.proofs.Math.Seq.{drop-cons}
 use Rattle.std.proofs.lemmas.Bool.{eqb-false}
 use Rattle.records.specs.declared.records.VoterConfiguration.{VoterConfiguration}
@@ -27,12 +27,25 @@ total_end [] (suc i) h = refl
 total_end (x ∷ l) zero h = absurd (omega arith)
 total_end (x ∷ l) (suc i) h = total_end l i (omega arith)
 
+-- what is left of a length is nothing where the counts add up to it
+pub left-none : (a b left : ℕ) → a + left ≡ b → eqb left 0 ≡ eqb a b
+left-none a b left h = by (eqb a b) refl
+  where
+    by : (d : Bool) → eqb a b ≡ d → eqb left 0 ≡ d
+    by true e = let k = eqb-true a b e in eq-eqb left 0 (omega arith)
+    by false e = let k = eqb-false a b e in ne_eqb left 0 (λ z. k (omega arith))
+
 -- ---- what a list holds
 
 pub contains-append : (x : ℕ) (a b : List ℕ) → contains x (a ++ b) ≡ (contains x a || contains x b)
 unfolding contains
 contains-append x [] b = refl
 contains-append x (y ∷ a) b = ap (λ (t : Bool). eqb x y || t) (contains-append x a b) ∙ sym (or_assoc (eqb x y) (contains x a) (contains x b))
+
+pub contains-more : (x : ℕ) (l : List ℕ) (i : ℕ) → i < length l → contains x (take (i + 1) l) ≡ (contains x (take i l) || eqb x (get_or l i 0))
+unfolding contains
+contains-more x l i h =
+    rw (add-one, take-suc l i 0 h) (contains-append x (take i l) (get_or l i 0 ∷ []) ∙ ap (λ (t : Bool). contains x (take i l) || t) (or-false (eqb x (get_or l i 0))))
 
 eqb-swap : (x y : ℕ) → eqb x y ≡ eqb y x
 eqb-swap x y = by (eqb y x) refl
@@ -118,6 +131,13 @@ least_end old (x ∷ l) zero least h = absurd (omega arith)
 least_end old (x ∷ l) (suc i) least h = least_end old l i least (omega arith)
 
 -- ---- lengths
+
+pub one_more : (n m : ℕ) → m < n → eqb (n - m) 1 ≡ leb n (m + 1)
+one_more n m h = by (leb n (m + 1)) refl
+  where
+    by : (d : Bool) → leb n (m + 1) ≡ d → eqb (n - m) 1 ≡ d
+    by true e = let k = leb-true n (m + 1) e in eq-eqb (n - m) 1 (omega arith)
+    by false e = let k = leb-false n (m + 1) e in ne_eqb (n - m) 1 (λ z. omega arith)
 
 -- the first of two counts
 pub first_count : (ids counts : List ℕ) → total counts ≤ length ids → 0 < length counts → get_or counts 0 0 ≤ length ids

@@ -204,6 +204,10 @@ count_fits : (t : VoterSlotTable) → validate t ≡ Accepted → t.count ≤ 9
 count_fits t valid = representable-count t (valid-parts t valid).0
 
 module _ (t : VoterSlotTable) (c : VoterAdvance) (v : Verdict Move) (is : judge_of t c ≡ v) where
+  -- the answer and the table
+  pub carried-as : carried (step_made t c.step c.cut) t v ≡ advance_outcome t c
+  carried-as = ap (carried (step_made t c.step c.cut) t) (sym is)
+
   -- where something is made: there is room, and the slot being replaced is there
   pub room_as : is_move v ≡ true → t.revision ≡ full → ⊥
   room_as h = has_room t _ _ c.step c.cut (ap is_move is ∙ h)
@@ -213,7 +217,7 @@ module _ (t : VoterSlotTable) (c : VoterAdvance) (v : Verdict Move) (is : judge_
 
 -- ---- what the number of a verdict tells
 --
--- Nothing here cites these; docs named them, and they stand.
+-- No code goes by such a number; what these say of it stands.
 
 -- the move of a number
 abbrev move_at : ℕ → Move
@@ -247,6 +251,20 @@ routed-none t s cut (moves records_caught_up) a b c d e = absurd (b refl)
 routed-none t s cut (moves continues) a b c d e = absurd (c refl)
 routed-none t s cut (moves fences) a b c d e = absurd (d refl)
 routed-none t s cut (moves finalizes) a b c d e = absurd (e refl)
+
+-- the same of a command of any kind
+pub command-none : (t : VoterSlotTable) (c : VoterSlotControl) (cut : VoterSlotLogId) (v : Verdict Move)
+    → (route_of v ≡ 1 → ⊥) → (route_of v ≡ 2 → ⊥) → (route_of v ≡ 3 → ⊥) → (route_of v ≡ 4 → ⊥) → (route_of v ≡ 5 → ⊥) → (route_of v ≡ 6 → ⊥)
+    → paired (answer_of v) t ≡ carried (made t c cut) t v
+unfolding carried made
+command-none t c cut (refused answer) a b d e f g = refl
+command-none t c cut kept a b d e f g = refl
+command-none t c cut (moves begins) a b d e f g = absurd (g refl)
+command-none t c cut (moves records_snapshot) a b d e f g = absurd (a refl)
+command-none t c cut (moves records_caught_up) a b d e f g = absurd (b refl)
+command-none t c cut (moves continues) a b d e f g = absurd (d refl)
+command-none t c cut (moves fences) a b d e f g = absurd (e refl)
+command-none t c cut (moves finalizes) a b d e f g = absurd (f refl)
 
 -- ---- the entry point: its tests, and then the verdict
 

@@ -41,8 +41,8 @@ answer_of (refused answer) = answer
 answer_of kept = Accepted
 answer_of (moves m) = Accepted
 
--- Nothing cites this but two laws of VerdictLaws; docs named it, and it stands: which table is made, as a number,
--- 0 for none
+-- No code goes by this, and it stands with its laws (VerdictLaws, BeginVerdictLaws): which table is made, as a
+-- number, 0 for none
 abbrev pub route_of : Verdict Move → ℕ
 route_of (refused answer) = 0
 route_of kept = 0

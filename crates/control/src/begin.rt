@@ -76,8 +76,10 @@ fn judge_known_request(
 {
     let id = request.attestation.request_id;
     let digest = request.attestation.request_digest;
-    let same_id = table.replacement.attestation.request_id == id;
-    let own = table.replacement.attestation.request_digest == digest;
+    let open_id = table.replacement.attestation.request_id;
+    let same_id = open_id == id;
+    let open_digest = table.replacement.attestation.request_digest;
+    let own = open_digest == digest;
     let receipt = find_receipt(table, id, digest);
     let open = table.has_replacement & same_id;
     match open.then_some(own).or(receipt) {

@@ -8,9 +8,9 @@
 // another question each, a judge makes all its tests before it picks the first refusal: a call
 // after many early returns counts as cold to the compiler, which then copies the table for it.
 //
-// A judge is given the table by value, and takes a field out by a `let` before it compares it: a
-// field that is compared where it lies must lie in memory, so that the table is copied, and the thin
-// call of an Advance takes two to five times as long.
+// A judge is given the table by value, and takes an array or a record out by a `let` before it
+// compares it, as in begin.rt and request.rt: one that is compared where it lies must lie in memory,
+// so that the table is copied, and the thin call of an Advance takes two to five times as long.
 ghost use Rattle.std.specs.Prelude.{◌≡◌, cond, false, not, ◌||◌};
 ghost use Rattle.records.specs.Evidence.{follows, in_order};
 ghost use Rattle.records.specs.With.{present};

@@ -95,24 +95,25 @@ fn has_digest(slot: VoterSlotRecord, digest: [u8; 32]) -> bool
 }
 
 // The request was made for this table, 13; there are three slots, 16; and its candidate is newer
-// than the slot's member, 12.
+// than the slot's member, 12. Where there is no such slot a blank is looked at, so that here too all
+// tests are made before the first refusal is picked.
 pub fn slot_check(table: VoterSlotTable, request: VoterReplacementRequest) -> Answer
     ensures { result ≡ first_refusal (stale_check table request) (candidate_check table request) }
 {
+    let named = named_member(table, request.attestation.slot);
+    let member = named.unwrap_or(VoterSlotMember::default());
     let expected = is_expected(table, request);
     let cluster = table.cluster_instance;
     let attested_cluster = request.attestation.cluster_instance;
     let same_cluster = attested_cluster == cluster;
-    let Some(member) = named_member(table, request.attestation.slot) else {
-        return Err(Refusal::StaleIncarnation);
-    };
     let attested = is_attested(member, request);
     let newer = is_newer(member, request);
-    let current = (table.revision == request.expected_revision)
-        & (expected & (same_cluster & attested));
+    let current = named.is_some()
+        & ((table.revision == request.expected_revision) & (expected & (same_cluster & attested)));
+    let enough = MIN_REPLACEMENT_SLOTS <= table.count;
     if !current {
         Err(Refusal::StaleIncarnation)
-    } else if table.count < MIN_REPLACEMENT_SLOTS {
+    } else if !enough {
         Err(Refusal::NoSurvivingQuorum)
     } else if !newer {
         Err(Refusal::InvalidLossEvidence)
