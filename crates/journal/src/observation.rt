@@ -37,30 +37,45 @@ impl<const N: usize> IdRoom<N> {
         }
     }
 
-    // Reads a body into the room; none: it is not of the form, to its last byte. There is room for all
-    // that it can hold, so that no test for it is needed: an id takes eight bytes of the body. That it
-    // has this room is a clause, since the room is made before a body is looked at.
-    #[tactic(auto, using(crate::specs::SetBodyLaws::observation_cutless, crate::specs::SetBodyLaws::observation_countless, crate::specs::SetBodyLaws::observation_setless, crate::specs::SetBodyLaws::observation_nodeless, crate::specs::SetBodyLaws::observation_end), unfolding(format::specs::Num::pick))]
+    // Reads a body into the room; none: it is not of the form, to its last byte. That the room is large
+    // enough is a clause, since it is made before a body is looked at.
     pub fn read<'a>(&'a mut self, body: &[u8]) -> Option<VoterObservation<'a>>
         requires { length body.now ≤ 8 * N }
         ensures gives { observation_asking result ≡ asking Ob body.now }
         ensures few { IfSome result (λ o. (8 * (length o.sets.now + length o.nodes.now) ≤ length body.now) × (length o.counts.now ≤ 255)) }
     {
-        let mut input = Reader::new(body);
-        let cut = input.log_id().ok()?;
-        let sets = input.u8().ok()? as usize;
-        let held = lay_sets(&mut input, sets, &mut self.ids, &mut self.counts).ok()?;
-        let nodes = lay_set(&mut input, &mut self.ids, held).ok()?;
-        input.finish().ok()?;
-        let room: &'a IdRoom<N> = self;
-        let (front, nodes_on) = room.ids.split_at(held);
-        Some(VoterObservation {
-            sets: front,
-            counts: &room.counts[..sets],
-            nodes: &nodes_on[..nodes],
-            cut,
-        })
+        let ids = &mut self.ids;
+        let counts = &mut self.counts;
+        read_observation(body, ids, counts)
     }
+}
+
+// Reads a body into places that are lent: the ids of the sets and after them the nodes, and the count
+// of each set. There is room for all that it can hold, so that no test for it is needed: an id takes
+// eight bytes of the body.
+#[tactic(auto, using(crate::specs::SetBodyLaws::observation_cutless, crate::specs::SetBodyLaws::observation_countless, crate::specs::SetBodyLaws::observation_setless, crate::specs::SetBodyLaws::observation_nodeless, crate::specs::SetBodyLaws::observation_end), unfolding(format::specs::Num::pick))]
+pub fn read_observation<'a>(
+    body: &[u8],
+    ids: &'a mut [ConsensusNodeId],
+    counts: &'a mut [usize],
+) -> Option<VoterObservation<'a>>
+    requires { (length body.now ≤ 8 * length ids.old) × (255 ≤ length counts.old) }
+    ensures gives { observation_asking result ≡ asking Ob body.now }
+    ensures few { IfSome result (λ o. (8 * (length o.sets.now + length o.nodes.now) ≤ length body.now) × (length o.counts.now ≤ 255)) }
+{
+    let mut input = Reader::new(body);
+    let cut = input.log_id().ok()?;
+    let sets = input.u8().ok()? as usize;
+    let held = lay_sets(&mut input, sets, ids, counts).ok()?;
+    let nodes = lay_set(&mut input, ids, held).ok()?;
+    input.finish().ok()?;
+    let (front, nodes_on) = ids.split_at(held);
+    Some(VoterObservation {
+        sets: front,
+        counts: &counts[..sets],
+        nodes: &nodes_on[..nodes],
+        cut,
+    })
 }
 
 // So many sets: their ids one after another, the count of each, and how many ids they have

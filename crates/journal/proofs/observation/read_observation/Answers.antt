@@ -1,4 +1,4 @@
--- `journal::observation::IdRoom::read` meets its contract. Assumes nothing.
+-- `journal::observation::read_observation` meets its contract. Assumes nothing.
 use Rattle.std.specs.Prelude.{◌≡◌, true, false, length, eqb, Ok}
 use Rattle.std.proofs.Common.{arith, length-take-le, rules, sym}
 use Rattle.format.specs.Num.{pick, uint}
@@ -6,30 +6,31 @@ use Rattle.format.specs.Reads.{Reading, reads}
 use Rattle.layout.specs.Layout.{log_id}
 use Rattle.journal.specs.SetBody.{LaidSet, SetsSo}
 use Rattle.journal.specs.SetBodyLaws.{held_within, observation_end, reads_on}
-use Rattle.journal.proofs.observation.IdRoom.read.Goals as goal
+use Rattle.journal.proofs.observation.read_observation.Goals as goal
 
 pub lay_sets-requires : goal.lay_sets-requires
-lay_sets-requires g c =
+lay_sets-requires c =
     let h : Reading.read c.in_ok-cut.cut c.log_id.new.self.bytes.now ≡ reads log_id c.args.body.now = search rules in
     let e : Reading.read c.in_ok-sets.field-0 c.u8.new.self.bytes.now ≡ reads (uint 1) c.log_id.new.self.bytes.now = search rules in
     (omega arith, omega (arith, c.requires, reads_on _ _ _ h, reads_on _ _ _ e))
 
 pub lay_set-requires : goal.lay_set-requires
-lay_set-requires g c =
+lay_set-requires c =
     let h : Reading.read c.in_ok-cut.cut c.log_id.new.self.bytes.now ≡ reads log_id c.args.body.now = search rules in
     let e : Reading.read c.in_ok-sets.field-0 c.u8.new.self.bytes.now ≡ reads (uint 1) c.log_id.new.self.bytes.now = search rules in
     let so : SetsSo c.u8.new.self.bytes.now c.lay_sets.new.input.bytes.now c.in_ok-sets.field-0 c.in_ok-held.held c.lay_sets.new.ids c.lay_sets.new.counts = search rules in
     omega (arith, c.requires, held_within _ _ h _ e _ _ _ so)
 
 pub split_at-requires : goal.split_at-requires
-split_at-requires g c =
+split_at-requires c =
     let h : Reading.read c.in_ok-cut.cut c.log_id.new.self.bytes.now ≡ reads log_id c.args.body.now = search rules in
     let e : Reading.read c.in_ok-sets.field-0 c.u8.new.self.bytes.now ≡ reads (uint 1) c.log_id.new.self.bytes.now = search rules in
     let so : SetsSo c.u8.new.self.bytes.now c.lay_sets.new.input.bytes.now c.in_ok-sets.field-0 c.in_ok-held.held c.lay_sets.new.ids c.lay_sets.new.counts = search rules in
-    omega (arith, c.requires, held_within _ _ h _ e _ _ _ so)
+    let l : LaidSet (Ok c.in_ok-nodes.nodes) c.lay_sets.new.input.bytes.now c.lay_set.new.input.bytes.now c.in_ok-held.held c.lay_sets.new.ids c.lay_set.new.ids = search rules in
+    omega (arith, c.requires, held_within _ _ h _ e _ _ _ so, l.few)
 
 pub slice_bounds-result-end-2 : goal.slice_bounds-result-end-2
-slice_bounds-result-end-2 g c =
+slice_bounds-result-end-2 c =
     let h : Reading.read c.in_ok-cut.cut c.log_id.new.self.bytes.now ≡ reads log_id c.args.body.now = search rules in
     let e : Reading.read c.in_ok-sets.field-0 c.u8.new.self.bytes.now ≡ reads (uint 1) c.log_id.new.self.bytes.now = search rules in
     let so : SetsSo c.u8.new.self.bytes.now c.lay_sets.new.input.bytes.now c.in_ok-sets.field-0 c.in_ok-held.held c.lay_sets.new.ids c.lay_sets.new.counts = search rules in
@@ -38,7 +39,7 @@ slice_bounds-result-end-2 g c =
 
 pub returns-in_err-ok : goal.returns-in_err-ok
 unfolding pick
-returns-in_err-ok g c =
+returns-in_err-ok c =
     let h : Reading.read c.in_ok-cut.cut c.log_id.new.self.bytes.now ≡ reads log_id c.args.body.now = search rules in
     let e : Reading.read c.in_ok-sets.field-0 c.u8.new.self.bytes.now ≡ reads (uint 1) c.log_id.new.self.bytes.now = search rules in
     let so : SetsSo c.u8.new.self.bytes.now c.lay_sets.new.input.bytes.now c.in_ok-sets.field-0 c.in_ok-held.held c.lay_sets.new.ids c.lay_sets.new.counts = search rules in
@@ -52,7 +53,7 @@ returns-in_err-ok g c =
 
 pub returns : goal.returns
 unfolding pick
-returns g c =
+returns c =
     let h : Reading.read c.in_ok-cut.cut c.log_id.new.self.bytes.now ≡ reads log_id c.args.body.now = search rules in
     let e : Reading.read c.in_ok-sets.field-0 c.u8.new.self.bytes.now ≡ reads (uint 1) c.log_id.new.self.bytes.now = search rules in
     let so : SetsSo c.u8.new.self.bytes.now c.lay_sets.new.input.bytes.now c.in_ok-sets.field-0 c.in_ok-held.held c.lay_sets.new.ids c.lay_sets.new.counts = search rules in
