@@ -159,8 +159,7 @@ fn play_on(from: Opened, input: &[u8], last: bool, out: &mut [u8]) -> Opened
             Mark::Ad => Called::Command(judge_advance_body(t, body)),
             Mark::Bg => Called::Command(judge_begin_body(t, body)),
             Mark::Ob => Called::Observation(judge_observation_body(t, body, &mut room)),
-            // A second TB and an unknown mark have an arm each: what one of them says is not said of the
-            // other.
+            // Each has its arm: what is said of a second TB is not said of an unknown mark.
             Mark::Tb => Called::Command(Err(Refusal::BadRecord)),
             Mark::Unknown => Called::Command(Err(Refusal::BadRecord)),
         };
