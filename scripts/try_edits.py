@@ -43,14 +43,24 @@ REFUSED = ('fact', 'shape and fact')
 
 def users(source, crate, before):
     """The functions of a crate that name the constant that a text ends in, directly or through
-    constants made of it."""
-    names = set(re.findall(r'\bconst (\w+)', before)[-1:])
+    constants made of it; or, where it ends in the cases of an enum, those that are given such a case
+    and cast it to its number."""
+    kind, name = (re.findall(r'\b(const|enum) (\w+)', before) or [('', '')])[-1]
+    if kind == 'enum':
+        kinds = {name} | {alias for alias, value in source.aliases.items() if name in re.findall(r'\w+', value)}
+        return [f for f in source.functions if f.crate == crate and casts(f) and any(kinds & set(re.findall(r'\w+', given)) for _, given in f.parameters)]
+    names = {name}
     while True:
         more = {name for name, value in source.values.items() if names & set(re.findall(r'\w+', value))}
         if more <= names:
             break
         names |= more
     return [f for f in source.functions if f.crate == crate and any(f.tokens[i].text in names for i in range(*f.body))]
+
+
+def casts(f):
+    """Whether a function has a cast."""
+    return any(f.tokens[i].text == 'as' for i in range(*f.body))
 
 
 def functions_of(source, edit):

@@ -1,16 +1,16 @@
 -- What reading a body leaves, part after part, and what each body asks by it; and an id in its
 -- place. For the readers of bodies.
 -- Assumes nothing.
-use Rattle.std.specs.Prelude.{ℕ, ◌+◌, ◌-◌, ◌≤◌, ◌≡◌, refl, Bool, true, false, cond, List, ◌++◌, length, take, drop, replicate, eqb, leb, min}
-use Rattle.std.proofs.Common.{arith, sym, ap, ◌∙◌, eqb-true, leb-true, leb-false, append-nil, take_at, take_all}
+use Rattle.std.specs.Prelude.{ℕ, ◌+◌, ◌-◌, ◌≤◌, ◌≡◌, refl, Bool, true, false, cond, List, ◌++◌, length, take, drop, replicate, eqb, leb, ltb, min, ◌<◌}
+use Rattle.std.proofs.Common.{arith, sym, ap, ◌∙◌, eqb-true, leb-true, leb-false, le-leb, ltb-true, ltb-false, append-nil, take_at, take_all}
 use Rattle.std.proofs.lemmas.List.{length-replicate, replicate-append-replicate, take-append-le}
 use Rattle.std.proofs.Math.Seq.{take-append-add}
 use Rattle.format.specs.Copy.{drop-replicate}
-use Rattle.format.specs.Res.{malformed}
+use Rattle.format.specs.Res.{Res, malformed, too_large}
 use Rattle.format.specs.Res.Res.{ok, no}
-use Rattle.format.specs.Combinators.{Codec, always}
+use Rattle.format.specs.Combinators.{Codec, Bytes, always, check, checked-ok, checked-no, dec_map, dec_seq, dep, map-ok, map-no, mapped, via}
 use Rattle.format.specs.List.{either}
-use Rattle.format.specs.Num.{raw, pick}
+use Rattle.format.specs.Num.{uint, raw, pick}
 use Rattle.format.specs.Reads.{Reading, reads, then_read, made_read, reads_two, reads_three, reads_four}
 use Rattle.format.specs.ReadsMore.{ended_read, reads_whole}
 use Rattle.format.specs.Through.{whole}
@@ -18,7 +18,7 @@ use Rattle.records.specs.Blank.{blank_snapshot_id, blank_voter_slot_log_id, blan
 use Rattle.records.specs.declared.records.SnapshotId.{SnapshotId}
 use Rattle.records.specs.declared.records.VoterSlotLogId.{VoterSlotLogId}
 use Rattle.records.specs.declared.records.VoterSnapshotEvidence.{VoterSnapshotEvidence}
-use Rattle.layout.specs.Layout.{choice, log_id}
+use Rattle.layout.specs.Layout.{sized, choice, log_id}
 use Rattle.control.specs.Control.{record_snapshot_kind, record_caught_up_kind, finalize_kind}
 use Rattle.control.specs.declared.control.VoterReplacementStep.{VoterReplacementStep}
 use Rattle.journal.specs.declared.bodies.MarkerBody.{MarkerBody}
@@ -29,7 +29,41 @@ use Rattle.journal.specs.Replay.{Asking, asking, formed, marker_asked, snapshot_
 use Rattle.journal.specs.Replay.Asked.{command}
 use Rattle.journal.specs.Replay.Asking.{bad, asks}
 
+-- ---- a form and what is made of its value
+
+module _ {A B : Type 0} (C : Codec A) (f : A → B) (bs : List ℕ) where
+  pub map-within : {b : B} {n : ℕ} → dec_map C.dec f bs ≡ ok b n → n ≤ length bs
+  map-within e = C.within bs (mapped C.dec f bs e).1
+
+-- ---- bytes with their size before them: a size of two bytes never passes 65,535
+
+bound-same : (bs : List ℕ) → Bytes bs → (r : Res ℕ) → (uint 2).dec bs ≡ r → (check (uint 2) (λ n. pick (leb n 65535) 0 too_large)).dec bs ≡ r
+unfolding pick uint
+bound-same bs z (ok n k) e =
+    let h : n < 65536 = (uint 2).good bs z e in
+    checked-ok (uint 2) (λ n. pick (leb n 65535) 0 too_large) bs e (rw (le-leb n 65535 (omega arith)))
+bound-same bs z (no k) e = checked-no (uint 2) (λ n. pick (leb n 65535) 0 too_large) bs e
+
+sized-any : (bs : List ℕ) → Bytes bs → sized_bytes.dec bs ≡ dec_map (sized 65535).dec (λ p. p.1) bs
+unfolding sized sized_bytes via dep dec_seq dec_map
+sized-any bs z = rw (bound-same bs z ((uint 2).dec bs) refl)
+
+module _ (bs : List ℕ) (z : Bytes bs) where
+  pub any-ok : {p : ℕ × List ℕ} {n : ℕ} → (sized 65535).dec bs ≡ ok p n → sized_bytes.dec bs ≡ ok p.1 n
+  any-ok e = sized-any bs z ∙ map-ok (sized 65535).dec (λ p. p.1) bs e
+
+  pub any-no : {k : ℕ} → (sized 65535).dec bs ≡ no k → sized_bytes.dec bs ≡ no k
+  any-no e = sized-any bs z ∙ map-no (sized 65535).dec (λ p. p.1) bs e
+
 -- ---- an id in its place: as many of its bytes as have one, and zeros after them
+
+-- that is never more than either
+pub at_most : (size n : ℕ) → (cond (ltb n size) n size ≤ n) × (cond (ltb n size) n size ≤ size)
+at_most size n = by (ltb n size) refl
+  where
+    by : (t : Bool) → ltb n size ≡ t → (cond t n size ≤ n) × (cond t n size ≤ size)
+    by true e = let k = ltb-true n size e in (omega arith, omega arith)
+    by false e = let k = ltb-false n size e in (omega arith, omega arith)
 
 zeros_after : (n k : ℕ) → n ≤ k → take {A = ℕ} (k - n) (replicate k 0) ≡ drop n (replicate k 0)
 zeros_after n k h =

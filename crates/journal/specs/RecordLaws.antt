@@ -1,6 +1,7 @@
--- The record at a place: the ways that reading it goes.
+-- The record at a place: the ways that reading it goes. And what a number that was read, or
+-- refused, says of the bytes.
 -- Assumes nothing.
-use Rattle.std.specs.Prelude.{ℕ, zero, suc, ◌+◌, ◌-◌, ◌≤◌, ◌<◌, ◌≡◌, refl, Bool, not, ◌&&◌, List, [], ◌∷◌, length, take, drop, eqb, leb, ltb}
+use Rattle.std.specs.Prelude.{ℕ, zero, suc, ◌+◌, ◌-◌, ◌≤◌, ◌<◌, ◌≡◌, refl, Bool, not, ◌&&◌, List, [], ◌∷◌, length, get_or, take, drop, eqb, leb, ltb}
 use native.Mathlib.Omega.{arith}
 use borrow.Author.Tests.{ne_eqb}
 use Rattle.std.proofs.Common.{sym, ◌∙◌, lt-ltb, le-leb, leb-true, leb-false, length-take-le}
@@ -8,16 +9,33 @@ use Rattle.std.proofs.Math.Path.{ap, ap₂}
 use Rattle.std.proofs.Math.Bool.{true, false, and-false}
 use Rattle.std.proofs.Math.ListN.{length-drop}
 use Rattle.std.proofs.lemmas.Bool.{lt-leb}
-use Rattle.format.specs.Res.Res.{no}
-use Rattle.format.specs.Combinators.{rest}
-use Rattle.format.specs.Num.{raw}
+use Rattle.format.specs.Res.{no_ok}
+use Rattle.format.specs.Res.Res.{ok, no}
+use Rattle.format.specs.Combinators.{held, via, mapped, rest}
+use Rattle.format.specs.Num.{uint, raw, raw-is, val}
 use Rattle.format.specs.Reads.{Reading, left_of, reads, reads_raw, reads_raw_short}
 use Rattle.journal.specs.declared.record.Record.{Record}
 use Rattle.journal.specs.declared.replay.Mark.{Mark}
 use Rattle.journal.specs.declared.replay.Mark.TheVariants.{Unknown}
 use Rattle.journal.specs.Play.{cut_short, is_broken, record_at, record_by}
 use Rattle.journal.specs.Records.{sized_bytes, frame, is_known_mark, mark_of}
-use Rattle.journal.specs.ReplayLaws.{head_mark, head_size, frame-cut, frame-got, frame-short, frame-sizeless, frame-unknown, sized-cut, sized-ok, sized-short}
+use Rattle.journal.specs.ReplayLaws.{head_mark, head_size, frame-cut, frame-got, frame-short, frame-sizeless, frame-unknown, number_ok, sized-cut, sized-ok, sized-short}
+
+-- ---- a number of so many bytes
+
+pub number_is : (k : ℕ) (bs : List ℕ) {x n : ℕ} → (uint k).dec bs ≡ ok x n → (k ≤ length bs) × (val 0 (take k bs) ≡ x) × (k ≡ n)
+unfolding uint held via raw
+number_is k bs e =
+    let (l, e₁, e₂) = mapped _ (val 0) bs e in
+    let (h, t, q) = raw-is k bs e₁ in
+    (h, ap (val 0) t ∙ e₂, q)
+
+number_by : (k : ℕ) (bs : List ℕ) {r : ℕ} (t : Bool) → leb k (length bs) ≡ t → (uint k).dec bs ≡ no r → length bs < k
+number_by k bs true q e = absurd (no_ok (sym e ∙ number_ok k bs (leb-true k (length bs) q)))
+number_by k bs false q e = leb-false k (length bs) q
+
+pub number-not : (k : ℕ) (bs : List ℕ) {r : ℕ} → (uint k).dec bs ≡ no r → length bs < k
+number-not k bs e = number_by k bs (leb k (length bs)) refl e
 
 -- ---- so many bytes that were read, or refused
 
@@ -53,6 +71,12 @@ module _ (n : ℕ) (bs : List ℕ) where
 some : (n : ℕ) → not (eqb n 0) ≡ ltb 0 n
 some zero = refl
 some (suc n) = ap not (ne_eqb (suc n) 0 (λ e. omega arith)) ∙ sym (lt-ltb 0 (suc n) (omega arith))
+
+-- the mark by its two bytes
+pub mark-at : (l : List ℕ) → 2 ≤ length l → mark_of (get_or l 0 0 ∷ (get_or l 1 0 ∷ [])) ≡ head_mark l
+mark-at [] h = absurd (omega arith)
+mark-at (a ∷ []) h = absurd (omega arith)
+mark-at (a ∷ b ∷ l) h = refl
 
 -- a mark that is cut short is unknown
 mark-none : (l : List ℕ) → length l < 2 → Unknown ≡ head_mark l

@@ -37,19 +37,22 @@ impl<const N: usize> IdRoom<N> {
         }
     }
 
-    // Reads a body into the room. That it has this room is a clause, since the room is made before a body
-    // is looked at.
+    // Reads a body into the room; none: it is not of the form, to its last byte. That the room is large
+    // enough is a clause, since it is made before a body is looked at.
     pub fn read<'a>(&'a mut self, body: &[u8]) -> Option<VoterObservation<'a>>
         requires { length body.now ≤ 8 * N }
         ensures gives { observation_asking result ≡ asking Ob body.now }
         ensures few { IfSome result (λ o. (8 * (length o.sets.now + length o.nodes.now) ≤ length body.now) × (length o.counts.now ≤ 255)) }
     {
-        read_observation(body, &mut self.ids, &mut self.counts)
+        let ids = &mut self.ids;
+        let counts = &mut self.counts;
+        read_observation(body, ids, counts)
     }
 }
 
-// Reads a body into the lent arrays; none: it is not of the form, to its last byte. They have room for
-// all that it can hold, so that no test for it is needed: an id takes eight bytes of the body.
+// Reads a body into places that are lent: the ids of the sets and after them the nodes, and the count
+// of each set. There is room for all that it can hold, so that no test for it is needed: an id takes
+// eight bytes of the body.
 #[tactic(auto, using(crate::specs::SetBodyLaws::observation_cutless, crate::specs::SetBodyLaws::observation_countless, crate::specs::SetBodyLaws::observation_setless, crate::specs::SetBodyLaws::observation_nodeless, crate::specs::SetBodyLaws::observation_end), unfolding(format::specs::Num::pick))]
 pub fn read_observation<'a>(
     body: &[u8],
@@ -66,12 +69,10 @@ pub fn read_observation<'a>(
     let held = lay_sets(&mut input, sets, ids, counts).ok()?;
     let nodes = lay_set(&mut input, ids, held).ok()?;
     input.finish().ok()?;
-    let all: &'a [ConsensusNodeId] = ids;
-    let counted: &'a [usize] = counts;
-    let (front, nodes_on) = all.split_at(held);
+    let (front, nodes_on) = ids.split_at(held);
     Some(VoterObservation {
         sets: front,
-        counts: &counted[..sets],
+        counts: &counts[..sets],
         nodes: &nodes_on[..nodes],
         cut,
     })

@@ -166,7 +166,9 @@ fn play_on(from: Opened, input: &[u8], last: bool, out: &mut [u8]) -> Opened
             Mark::Ad => Called::Command(judge_advance_body(t, body)),
             Mark::Bg => Called::Command(judge_begin_body(t, body)),
             Mark::Ob => Called::Observation(judge_observed(t, &mut kept, body, &mut room)),
-            Mark::Tb | Mark::Unknown => Called::Command(Err(Refusal::BadRecord)),
+            // Each has its arm: what is said of a second TB is not said of an unknown mark.
+            Mark::Tb => Called::Command(Err(Refusal::BadRecord)),
+            Mark::Unknown => Called::Command(Err(Refusal::BadRecord)),
         };
         match called {
             Called::Command(judged) => match judged {

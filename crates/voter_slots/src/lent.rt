@@ -44,6 +44,7 @@ pub fn read_over(table: &mut VoterSlotTable, bytes: &[u8]) -> Result<VoterSlotsR
 }
 
 // Writes the table that is lent: its validity is asked first.
+#[tactic(auto, using(codec::specs::EntryLaws::encode_refuses), unfolding(crate::specs::Export::written_by))]
 pub fn write_lent(table: VoterSlotTable, out: &mut [u8]) -> Result<VoterSlotsResult, Refusal>
     ensures gives { (said result, out.new) ≡ table_write_of table out.old }
     ensures good { IfOk result (λ r. r.answer ≡ 0) }

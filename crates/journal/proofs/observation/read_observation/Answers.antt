@@ -26,7 +26,8 @@ split_at-requires c =
     let h : Reading.read c.in_ok-cut.cut c.log_id.new.self.bytes.now ≡ reads log_id c.args.body.now = search rules in
     let e : Reading.read c.in_ok-sets.field-0 c.u8.new.self.bytes.now ≡ reads (uint 1) c.log_id.new.self.bytes.now = search rules in
     let so : SetsSo c.u8.new.self.bytes.now c.lay_sets.new.input.bytes.now c.in_ok-sets.field-0 c.in_ok-held.held c.lay_sets.new.ids c.lay_sets.new.counts = search rules in
-    omega (arith, c.requires, held_within _ _ h _ e _ _ _ so)
+    let l : LaidSet (Ok c.in_ok-nodes.nodes) c.lay_sets.new.input.bytes.now c.lay_set.new.input.bytes.now c.in_ok-held.held c.lay_sets.new.ids c.lay_set.new.ids = search rules in
+    omega (arith, c.requires, held_within _ _ h _ e _ _ _ so, l.few)
 
 pub slice_bounds-result-end-2 : goal.slice_bounds-result-end-2
 slice_bounds-result-end-2 c =

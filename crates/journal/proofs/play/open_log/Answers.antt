@@ -2,6 +2,8 @@
 use native.Mathlib.Omega.{arith}
 use mathlib.Core.Path.{◌≡◌, sym, ◌∙◌, subst}
 use mathlib.Core.Bool.{Bool, false}
+use Rattle.std.specs.Prelude.{cond, is_ok}
+use Rattle.std.proofs.Common.{rules}
 use lib.ListN.{length}
 use Rattle.identity.specs.Answer.{number_of}
 use Rattle.journal.specs.Replay.{step}
@@ -46,30 +48,38 @@ loop-place-smaller c =
     let left = turn-left c.loop-place.place.turns c.loop-place.stands c.loop-place-test.true in
     put-less c.put_turn-place.ensures left.0
 
+-- what stands is not named by its step here, so that whatever the code stores there is asked for the
+-- fact
 pub loop-place-preserved : goal.loop-place-preserved
 loop-place-preserved c =
-    let input = c.args.input.now in
-    let last = c.args.last in
+    let a = c.args in
+    let input = a.input.now in
+    let last = a.last in
     let l = c.loop-place in
     let o = opened_at l.place l.stands l.table in
     let r = c.record_at-found.result in
     let h = found input last l.place.read l.invariant.1.within c.type_inv.input r c.record_at-found.ensures in
     let left = turn-left l.place.turns l.stands c.loop-place-test.true in
+    let opened = c.open_record-opened.result in
     let answer = c.and-answer.result in
-    let stands = c.is_ok-stands.result in
     let table = c.unwrap_or-table.result in
-    let j = brought l.table c.open_record-opened.result c.open_record-opened.ensures.1 c.and-answer.ensures c.is_ok-stands.ensures.value c.unwrap_or-table.ensures in
+    let q = c.put_turn-place.result in
+    let out = c.put_turn-place.new.out in
+    let turned : (stands : Bool) → stands ≡ is_ok opened → c.revision_of-revision.result ≡ cond stands table.revision 0
+    → Goes input last (opened_at a.from.place false a.from.table) a.out.now (opened_at q stands table) out × Safe input (length out) (opened_at q stands table) =
+    λ stands e f.
+    let j = brought l.table opened c.open_record-opened.ensures.1 c.and-answer.ensures e c.unwrap_or-table.ensures in
     let steps : step (standing_in o) (framed r.asks (body_in input r)) ≡ (number_of answer, standing stands table) =
     opens o r.asks (body_in input r) left.1 ∙ (sym c.open_record-opened.ensures.0 ∙ sym j.0) in
     let keeps : stands ≡ false → (l.stands ≡ false) × (table ≡ l.table) = λ k. (left.1, j.1.1.0 k) in
-    let revision-is = c.revision_of-revision.ensures ∙ j.1.1.1 in
-    let q = c.put_turn-place.result in (
+    let revision-is = f ∙ j.1.1.1 in (
       goes_then l.invariant.0
           (goes-turn input last o l.out l.invariant.1 left.0 r h answer stands table steps keeps
           c.revision_of-revision.result revision-is q _ c.put_turn-place.ensures),
       safe-turn input last o l.out l.invariant.1 left.0 r h answer stands table steps keeps
           c.revision_of-revision.result revision-is q _ c.put_turn-place.ensures j.1.0,
-    )
+    ) in
+    turned _ (search rules) c.revision_of-revision.ensures
 
 pub shape_of-out : goal.shape_of-out
 shape_of-out c =

@@ -3,7 +3,6 @@ use Prim.Native.Nat.{◌<◌}
 use native.Mathlib.Omega.{arith}
 use mathlib.Core.Path.{◌≡◌, refl, sym, ap, ◌∙◌, subst}
 use mathlib.Core.Bool.{Bool, true, false, false≢true}
-use mathlib.Core.Logic.◌⊎◌.{inl, inr}
 use lib.ListN.{length, length-take, length-drop}
 use Rattle.std.proofs.Common.{rules, ℕ, List, ◌||◌}
 use Rattle.records.specs.declared.records.VoterSlotTable.{VoterSlotTable}
@@ -20,7 +19,7 @@ use Rattle.journal.proofs.StepLaws.{judges-bad, judges-command, judges-observati
 use Rattle.journal.proofs.MakerLaws.{addition_makes, addition_room, begin_makes, begin_target, command_made, command_of, observation_made, observation_of, step_makes, step_room, step_target}
 use Rattle.journal.proofs.PlayLaws.{body_in, found, goes_none, goes_then, goes-turn, play-turn, put-less, safe-turn, valid-at}
 use Rattle.journal.proofs.play.play_on.Goals as goal
-use Rattle.journal.proofs.play.play_on.Goals.{Joined-found, Joined-called, in-Mk, in-Ad, in-Bg, in-Ob, in-Tb, in-Command+in-Ok-RecordSnapshot, in-Command+in-Ok-RecordCaughtUp, in-Command+in-Ok-Continue, in-Command+in-Ok-Fence, in-Command+in-Ok-Finalize, in-Command+in-Ok-Begin, in-Command+in-Ok+in-Keep-1, in-Command+in-Err-1, in-Observation+in-Ok-AddLearner, in-Observation+in-Ok-AddJoint, in-Observation+in-Ok-AddUniform, in-Observation+in-Ok+in-Keep-1, in-Observation+in-Err-1}
+use Rattle.journal.proofs.play.play_on.Goals.{Joined-found, Joined-called, in-Mk, in-Ad, in-Bg, in-Ob, in-Tb, in-Unknown, in-Command+in-Ok-RecordSnapshot, in-Command+in-Ok-RecordCaughtUp, in-Command+in-Ok-Continue, in-Command+in-Ok-Fence, in-Command+in-Ok-Finalize, in-Command+in-Ok-Begin, in-Command+in-Ok+in-Keep-1, in-Command+in-Err-1, in-Observation+in-Ok-AddLearner, in-Observation+in-Ok-AddJoint, in-Observation+in-Ok-AddUniform, in-Observation+in-Ok+in-Keep-1, in-Observation+in-Err-1}
 
 -- ---- what was judged of the record, and the table that is made
 
@@ -35,10 +34,8 @@ judged c =
       | in-Ad w ↦ judges-command t asks body c.match-found.called w.judge_advance_body.result Ad w.called-is w.in-Ad.is refl w.judge_advance_body.ensures
       | in-Bg w ↦ judges-command t asks body c.match-found.called w.judge_begin_body.result Bg w.called-is w.in-Bg.is refl w.judge_begin_body.ensures
       | in-Ob w ↦ judges-observation t asks body c.match-found.called w.judge_observed.result w.called-is w.in-Ob.is w.judge_observed.ensures.judged
-      | in-Tb w ↦ elim w.in-Tb.is [
-        | inl i ↦ judges-bad t asks body c.match-found.called Tb w.called-is i (table-bad body) refl
-        | inr i ↦ judges-bad t asks body c.match-found.called Unknown w.called-is i (unknown-bad body) refl
-      ]
+      | in-Tb w ↦ judges-bad t asks body c.match-found.called Tb w.called-is w.in-Tb.is (table-bad body) refl
+      | in-Unknown w ↦ judges-bad t asks body c.match-found.called Unknown w.called-is w.in-Unknown.is (unknown-bad body) refl
     ]
 
 makes-at : (c : Joined-found) → Makes c.loop-place.t (body_in c.args.input.now c.record_at-found.result) c.match-found.called
@@ -78,6 +75,7 @@ kept_as c =
       | in-Bg w ↦ stays w.kept-is
       | in-Ob w ↦ λ k. ap (λ (x : Kept). x.table) w.kept-is ∙ w.judge_observed.ensures.copied
       | in-Tb w ↦ stays w.kept-is
+      | in-Unknown w ↦ stays w.kept-is
     ]
 
 -- where nothing is made, the table stays, and so does its copy
