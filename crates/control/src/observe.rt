@@ -392,7 +392,10 @@ pub fn weigh(table: VoterSlotTable, observation: VoterObservation) -> Result<Obs
 // The same on a table that is lent. A caller that judges one table many times lends it: by value, the
 // table is copied for each observation.
 #[tactic(auto, unfolding(crate::specs::Observation::representable_sets, crate::specs::ObserveSight::weighed))]
-pub fn weigh_lent(table: &VoterSlotTable, observation: VoterObservation) -> Result<Observed, Refusal>
+pub fn weigh_lent(
+    table: &VoterSlotTable,
+    observation: VoterObservation,
+) -> Result<Observed, Refusal>
     ensures { verdict_of_observed result ≡ weighed table.now observation.entry.sets.now observation.entry.counts.now observation.entry.nodes.now observation.entry.cut }
 {
     let few = has_few_members(table);
