@@ -272,11 +272,12 @@ fn members_of(
 ) -> [VoterSlotMember; MAX_FIXED_VOTER_SLOTS]
     ensures { result ≡ map (λ s. s.member) slots }
 {
-    slots.map(
-        |slot|
-            ensures { result ≡ slot.member }
-        { slot.member },
-    )
+    let mut members = [VoterSlotMember::default(); MAX_FIXED_VOTER_SLOTS];
+    for i in 0..MAX_FIXED_VOTER_SLOTS {
+        let slot = slots[i];
+        members[i] = slot.member;
+    }
+    members
 }
 
 // The evidence of a request that has just begun.
