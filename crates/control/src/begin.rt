@@ -266,7 +266,8 @@ fn current_configuration(table: VoterSlotTable) -> VoterConfiguration
     }
 }
 
-// The members of the slots, place by place.
+// The members of the slots, place by place. A loop and no `map`: that takes each slot, of 200 bytes, out
+// of an iterator by value.
 fn members_of(
     slots: [VoterSlotRecord; MAX_FIXED_VOTER_SLOTS],
 ) -> [VoterSlotMember; MAX_FIXED_VOTER_SLOTS]

@@ -121,7 +121,8 @@ fn is_receipt_of(slot: VoterSlotRecord, id: ConsensusRequestId, digest: [u8; 32]
     ((slot.has_last_result & same_id) & same_digest) & (slot.last_result.kind == COMPLETED)
 }
 
-// The open request is the one that the command names, and the cut lies after its beginning.
+// The open request is the one that the command names, and the cut lies after its beginning. It is given
+// the four parts of an Advance, and not the Advance, whose parts are then copied once more.
 #[tactic(auto, unfolding(crate::specs::Judgement::judge_open))]
 fn judge_open(
     table: VoterSlotTable,

@@ -524,7 +524,8 @@ fn with_phase(table: VoterSlotTable, at: usize, phase: u8) -> VoterSlotTable
 // The membership with the learner.
 //
 // This maker and the two after it are public, and each has a clause with no case in it. One maker that
-// is given what was observed would have a case for `Keep`, at which no maker is called.
+// is given what was observed would have a case for `Keep`, at which no maker is called. None goes by
+// `carry_out`: a table by value that is lent there is copied, and the replay makes its tables by these.
 pub fn learner_table(table: VoterSlotTable, cut: VoterSlotLogId) -> VoterSlotTable
     requires { Room table }
     ensures { result ≡ added table cut adds_learner }
