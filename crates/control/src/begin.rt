@@ -266,17 +266,19 @@ fn current_configuration(table: VoterSlotTable) -> VoterConfiguration
     }
 }
 
-// The members of the slots, place by place.
+// The members of the slots, place by place. A loop and no `map`: that takes each slot, of 200 bytes, out
+// of an iterator by value.
 fn members_of(
     slots: [VoterSlotRecord; MAX_FIXED_VOTER_SLOTS],
 ) -> [VoterSlotMember; MAX_FIXED_VOTER_SLOTS]
     ensures { result ≡ map (λ s. s.member) slots }
 {
-    slots.map(
-        |slot|
-            ensures { result ≡ slot.member }
-        { slot.member },
-    )
+    let mut members = [VoterSlotMember::default(); MAX_FIXED_VOTER_SLOTS];
+    for i in 0..MAX_FIXED_VOTER_SLOTS {
+        let slot = slots[i];
+        members[i] = slot.member;
+    }
+    members
 }
 
 // The evidence of a request that has just begun.

@@ -77,16 +77,18 @@ pub fn judge_marker(
 pub fn judge_advance(table: VoterSlotTable, advance: VoterAdvance) -> Result<Judged, Refusal>
     ensures { verdict_of result ≡ judge_advance table advance.request_id advance.request_digest advance.step advance.cut }
 {
+    let request_id = advance.request_id;
+    let request_digest = advance.request_digest;
+    let step = advance.step;
+    let cut = advance.cut;
     if table.revision == u64::MAX {
         return Err(Refusal::RevisionExhausted);
     }
     if table.has_replacement {
-        return judge_open(table, advance);
+        return judge_open(table, request_id, request_digest, step, cut);
     }
-    let request_id = advance.request_id;
-    let request_digest = advance.request_digest;
     let completed = is_completed(table, request_id, request_digest);
-    if (advance.step.kind == FINALIZE) & completed {
+    if (step.kind == FINALIZE) & completed {
         Ok(Judged::Keep)
     } else {
         Err(Refusal::StaleIncarnation)
@@ -119,15 +121,18 @@ fn is_receipt_of(slot: VoterSlotRecord, id: ConsensusRequestId, digest: [u8; 32]
     ((slot.has_last_result & same_id) & same_digest) & (slot.last_result.kind == COMPLETED)
 }
 
-// The open request is the one that the command names, and the cut lies after its beginning.
+// The open request is the one that the command names, and the cut lies after its beginning. It is given
+// the four parts of an Advance, and not the Advance, whose parts are then copied once more.
 #[tactic(auto, unfolding(crate::specs::Judgement::judge_open))]
-fn judge_open(table: VoterSlotTable, advance: VoterAdvance) -> Result<Judged, Refusal>
-    ensures { verdict_of result ≡ judge_open table advance.request_id advance.request_digest advance.step advance.cut }
+fn judge_open(
+    table: VoterSlotTable,
+    request_id: ConsensusRequestId,
+    request_digest: [u8; 32],
+    step: VoterReplacementStep,
+    cut: VoterSlotLogId,
+) -> Result<Judged, Refusal>
+    ensures { verdict_of result ≡ judge_open table request_id request_digest step cut }
 {
-    let request_id = advance.request_id;
-    let request_digest = advance.request_digest;
-    let step = advance.step;
-    let cut = advance.cut;
     let open_id = table.replacement.attestation.request_id;
     let open_digest = table.replacement.attestation.request_digest;
     let id = open_id == request_id;

@@ -7,6 +7,7 @@
 ghost use Rattle.std.specs.Prelude.{Ok, ◌+◌, ◌<◌, ◌≤◌, ◌≡◌, cond, eqb, false, true, set};
 ghost use Rattle.std.specs.List.{position};
 ghost use Rattle.identity.specs.Answer.{Accepted, InvalidTransition, is_accepted};
+ghost use Rattle.records.specs.Records.{slot_at};
 ghost use Rattle.records.specs.Successor.{slot_index};
 ghost use Rattle.records.specs.Validation.{target_phase, validate, validity};
 ghost use Rattle.records.specs.With.{in_phase, operation_with, present, table_with};
@@ -482,37 +483,98 @@ fn carry_out(table: &mut VoterSlotTable, observed: Observed, cut: VoterSlotLogId
     }
 }
 
+// ---- the next table, of a table by value
+//
+// All nine places are passed, and the place is compared in each turn: such a loop is written out by
+// the compiler, with a constant index in each turn. An index that is no constant has the table
+// copied.
+
+// `slot_index`, with the places passed from the last to the first.
+fn slot_place(table: VoterSlotTable, slot: SlotId) -> usize
+    requires { table.count ≤ 9 }
+    ensures { result ≡ slot_index table slot }
+{
+    let mut at: usize = MAX_FIXED_VOTER_SLOTS;
+    let mut i: usize = MAX_FIXED_VOTER_SLOTS;
+    while 0 < i {
+        i -= 1;
+        if (table.count <= i) | (table.slots[i].member.identity.slot == slot) {
+            at = i;
+        }
+    }
+    at
+}
+
+// The table with the phase of the slot at a place.
+fn with_phase(table: VoterSlotTable, at: usize, phase: u8) -> VoterSlotTable
+    requires { at < 9 }
+    ensures { result ≡ table_with table table.revision table.configuration_epoch (set table.slots at (in_phase (slot_at table at) phase)) table.has_replacement table.replacement }
+{
+    let mut next = table;
+    let mut i: usize = 0;
+    while i < MAX_FIXED_VOTER_SLOTS {
+        if i == at {
+            next.slots[i].phase = phase;
+        }
+        i += 1;
+    }
+    next
+}
+
 // The membership with the learner.
 //
 // This maker and the two after it are public, and each has a clause with no case in it. One maker that
-// is given what was observed would have a case for `Keep`, at which no maker is called.
-#[tactic(auto, unfolding(crate::specs::Judgement::carried))]
-pub fn learner_table(mut table: VoterSlotTable, cut: VoterSlotLogId) -> VoterSlotTable
+// is given what was observed would have a case for `Keep`, at which no maker is called. None goes by
+// `carry_out`: a table by value that is lent there is copied, and the replay makes its tables by these.
+pub fn learner_table(table: VoterSlotTable, cut: VoterSlotLogId) -> VoterSlotTable
     requires { Room table }
     ensures { result ≡ added table cut adds_learner }
 {
-    carry_out(&mut table, Observed::AddLearner, cut);
-    table
+    let mut next = table;
+    let slot = table.replacement.attestation.slot;
+    let at = slot_place(table, slot);
+    next.replacement.evidence.learner.is_some = true;
+    next.replacement.evidence.learner.cut.term = cut.term;
+    next.replacement.evidence.learner.cut.index = cut.index;
+    next.replacement.phase = LEARNER_ADDED;
+    next.has_replacement = true;
+    next.revision = table.revision + 1;
+    with_phase(next, at, CATCHING_UP)
 }
 
 // The joint membership.
-#[tactic(auto, unfolding(crate::specs::Judgement::carried))]
-pub fn joint_table(mut table: VoterSlotTable, cut: VoterSlotLogId) -> VoterSlotTable
+pub fn joint_table(table: VoterSlotTable, cut: VoterSlotLogId) -> VoterSlotTable
     requires { Room table }
     ensures { result ≡ added table cut adds_joint }
 {
-    carry_out(&mut table, Observed::AddJoint, cut);
-    table
+    let mut next = table;
+    let slot = table.replacement.attestation.slot;
+    let at = slot_place(table, slot);
+    next.replacement.evidence.joint.is_some = true;
+    next.replacement.evidence.joint.cut.term = cut.term;
+    next.replacement.evidence.joint.cut.index = cut.index;
+    next.replacement.phase = JOINT;
+    next.has_replacement = true;
+    next.revision = table.revision + 1;
+    with_phase(next, at, VOTING)
 }
 
 // The successor's membership.
-#[tactic(auto, unfolding(crate::specs::Judgement::carried))]
-pub fn uniform_table(mut table: VoterSlotTable, cut: VoterSlotLogId) -> VoterSlotTable
+pub fn uniform_table(table: VoterSlotTable, cut: VoterSlotLogId) -> VoterSlotTable
     requires { Room table }
     ensures { result ≡ added table cut adds_uniform }
 {
-    carry_out(&mut table, Observed::AddUniform, cut);
-    table
+    let mut next = table;
+    let slot = table.replacement.attestation.slot;
+    let at = slot_place(table, slot);
+    next.replacement.evidence.uniform.is_some = true;
+    next.replacement.evidence.uniform.cut.term = cut.term;
+    next.replacement.evidence.uniform.cut.index = cut.index;
+    next.replacement.phase = UNIFORM;
+    next.configuration_epoch = table.replacement.successor.epoch;
+    next.has_replacement = true;
+    next.revision = table.revision + 1;
+    with_phase(next, at, VOTING)
 }
 
 // ---- the calls

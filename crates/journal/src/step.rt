@@ -53,7 +53,8 @@ pub fn is_change(called: Called) -> bool
 }
 
 // What a call on a valid table asks before it is judged: 30, and 25 for a zero in the cut. It was
-// judged in any case: after an early return the compiler would copy the table for its judge.
+// judged before these are asked: between them and the judge there would be an early return, after
+// which the compiler copies the table for its judge.
 fn check_call(
     fits: bool,
     cut: VoterSlotLogId,

@@ -1,17 +1,26 @@
--- `control::begin::members_of` meets its contract: each element is what the closure gives of the slot. Assumes nothing.
-use mathlib.Core.Path.{sym, ◌∙◌}
+-- `control::begin::members_of` meets its contract: the members so far are those of the slots passed. Assumes nothing.
+use mathlib.Core.Path.{◌≡◌, refl, sym, ap, ◌∙◌}
+use mathlib.Core.List.{map}
 use native.Mathlib.Omega.{arith}
-use Rattle.std.specs.Prelude.{map}
-use Rattle.std.proofs.lemmas.List.{ext_get_or, get_or-map, length-map}
+use lib.ListN.{get_or, length-set}
+use lib.Seq.{take_all}
 use Rattle.records.specs.Records.{no_slot_record}
 use Rattle.records.specs.declared.records.VoterSlotRecord.{VoterSlotRecord}
+use Rattle.control.specs.BeginJudgeLaws.{members-more}
 use Rattle.control.proofs.begin.members_of.Goals as goal
+
+pub loop-i-init : goal.loop-i-init
+loop-i-init c = (refl, refl)
+
+pub loop-i-preserved : goal.loop-i-preserved
+loop-i-preserved c =
+    let h = c.loop-i.invariant in
+    let nine = c.well_formed.0.1.0.1 in
+    (length-set c.loop-i.members c.loop-i.i (get_or c.args.slots c.loop-i.i no_slot_record).member ∙ h.0, members-more c.loop-i.members c.args.slots c.loop-i.i (omega (arith, h.0)) (omega (arith, nine)) h.1)
 
 pub returns : goal.returns
 returns c =
+    let h = c.loop-i.invariant in
     let nine = c.well_formed.0.1.0.1 in
-    let same = c.map.ensures.items in
-    ext_get_or no_slot_record.member c.map.result (map (λ s. s.member) c.args.slots) (omega (arith, same.long, length-map c.args.slots (λ (s : VoterSlotRecord). s.member), nine))
-    (λ i l.
-    (same.at i no_slot_record no_slot_record.member (omega (arith, l, same.long))).2.met
-    ∙ sym (get_or-map (λ (s : VoterSlotRecord). s.member) c.args.slots i no_slot_record no_slot_record.member (omega (arith, l, same.long, nine))))
+    let e : c.loop-i.i ≡ 9 = omega arith in
+    sym (take_all c.loop-i.i c.loop-i.members (omega (arith, h.0))) ∙ (h.1 ∙ ap (map (λ (s : VoterSlotRecord). s.member)) (take_all c.loop-i.i c.args.slots (omega (arith, nine))))
