@@ -8,7 +8,7 @@ use identity::answer::Answer;
 use questions::question::Question;
 use questions::reply::{Reply, number};
 use raw::fields::Fields;
-use raw::table::{TABLE_SIZE, last_table, raw_checksum};
+use raw::table::{TABLE_SIZE, fill_last_table, last_table, raw_checksum};
 use raw_calls::record::*;
 use records::records::VoterSlotTable;
 
@@ -38,7 +38,8 @@ pub fn reply_to(question: Question, body: &[u8]) -> Option<Reply> {
 // The body is a node id and one raw table.
 fn retired(mut fields: Fields) -> Option<Reply> {
     let node = fields.u64()?;
-    let table = last_table(fields)?;
+    let mut table = VoterSlotTable::default();
+    fill_last_table(&mut table, fields)?;
     Some(is_retired(table, node).into())
 }
 

@@ -3,7 +3,8 @@ use codec::codec::*;
 use questions::reply::Reply;
 use raw::crc::crc32;
 use raw::fields::Fields;
-use raw::table::{TABLE_SIZE, last_table, raw_checksum};
+use raw::table::{TABLE_SIZE, fill_last_table, raw_checksum};
+use records::records::VoterSlotTable;
 
 // The bytes of the largest table (`ends`).
 const LARGEST_TABLE: usize = 8072;
@@ -49,7 +50,8 @@ pub fn read_attestation(body: &[u8]) -> Reply {
 pub fn write_table(body: &[u8]) -> Option<Reply> {
     let mut fields = Fields::of(body);
     let length = fields.u32()? as usize;
-    let table = last_table(fields)?;
+    let mut table = VoterSlotTable::default();
+    fill_last_table(&mut table, fields)?;
     let mut buffer = [0; LONGEST_BUFFER];
     let buffer = buffer.get_mut(..length)?;
     let count = match encode_voter_slot_table(buffer, table) {

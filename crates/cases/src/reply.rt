@@ -6,7 +6,8 @@ use identity::text::*;
 use questions::question::Question;
 use questions::reply::Reply;
 use raw::fields::Fields;
-use raw::table::{last_table, sparse_table};
+use raw::table::{fill_last_table, fill_table};
+use records::records::VoterSlotTable;
 use records::successor::validate_successor_of;
 use records::validation::validate_table;
 
@@ -33,14 +34,18 @@ pub fn reply_to(question: Question, body: &[u8]) -> Option<Reply> {
 
 // The answer of the test for validity. The body is one raw table.
 fn validity(body: &[u8]) -> Option<Reply> {
-    Some(validate_table(last_table(Fields::of(body))?).into())
+    let mut table = VoterSlotTable::default();
+    fill_last_table(&mut table, Fields::of(body))?;
+    Some(validate_table(table).into())
 }
 
 // The answer of the successor check. The body is the new raw table and the old one.
 fn successor(body: &[u8]) -> Option<Reply> {
     let mut fields = Fields::of(body);
-    let new = sparse_table(&mut fields)?;
-    let old = last_table(fields)?;
+    let mut new = VoterSlotTable::default();
+    let mut old = VoterSlotTable::default();
+    fill_table(&mut new, &mut fields)?;
+    fill_last_table(&mut old, fields)?;
     Some(validate_successor_of(new, old).into())
 }
 

@@ -12,9 +12,9 @@ pub const TABLE_SIZE: usize = 8062;
 
 // The table that the next pieces of a body make.
 pub fn sparse_table(fields: &mut Fields) -> Option<VoterSlotTable> {
-    let mut raw = [0; TABLE_SIZE];
-    lay_pieces(&mut raw, fields)?;
-    table_in(&raw)
+    let mut table = VoterSlotTable::default();
+    fill_table(&mut table, fields)?;
+    Some(table)
 }
 
 // The table that the pieces of a body make, where nothing comes after them.
@@ -22,6 +22,19 @@ pub fn last_table(mut fields: Fields) -> Option<VoterSlotTable> {
     let table = sparse_table(&mut fields)?;
     fields.end()?;
     Some(table)
+}
+
+// The same two in a place that is lent, of which every field is filled: a function pays for the size of
+// each table that it returns.
+pub fn fill_table(table: &mut VoterSlotTable, fields: &mut Fields) -> Option<()> {
+    let mut raw = [0; TABLE_SIZE];
+    lay_pieces(&mut raw, fields)?;
+    table.fill(&mut Fields::of(&raw))
+}
+
+pub fn fill_last_table(table: &mut VoterSlotTable, mut fields: Fields) -> Option<()> {
+    fill_table(table, &mut fields)?;
+    fields.end()
 }
 
 // Lays the next pieces of a body over what is lent.

@@ -139,13 +139,13 @@ pub fn apply_bytes(
     finish(table, before, body, judge_body(before, asks, body), out)
 }
 
-// An observation, with room for so many ids.
+// An observation, with room for so many ids: any number below 2^59, of which a type can have an array.
 pub fn observe_bytes<const N: usize>(
     table: &[u8],
     body: &[u8],
     out: &mut [u8],
 ) -> Result<VoterSlotsResult, Refusal>
-    requires { length body.now ≤ 8 * N }
+    requires { (N ≤ 576460752303423487) × (length body.now ≤ 8 * N) }
     ensures gives { (said result, out.new) ≡ asked_of (asking Ob body.now) table.now out.old }
     ensures good { IfOk result (λ r. r.answer ≡ 0) }
 {

@@ -169,7 +169,7 @@ fn observe_body<const N: usize>(
     table: &mut VoterSlotTable,
     body: &[u8],
 ) -> Result<VoterSlotsResult, Refusal>
-    requires { length body.now ≤ 8 * N }
+    requires { (N ≤ 576460752303423487) × (length body.now ≤ 8 * N) }
     ensures gives { (said result, table.new) ≡ asked_at (asking Ob body.now) table.old }
     ensures good { IfOk result (λ r. r.answer ≡ 0) }
 {
