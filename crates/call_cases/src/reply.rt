@@ -8,7 +8,7 @@ use identity::answer::Answer;
 use questions::question::Question;
 use questions::reply::{Reply, number};
 use raw::fields::Fields;
-use raw::table::{TABLE_SIZE, fill_last_table, last_table, raw_checksum};
+use raw::table::{TABLE_SIZE, fill_last_table, last_table, raw_place_checksum};
 use raw_calls::record::*;
 use records::records::VoterSlotTable;
 
@@ -90,6 +90,6 @@ fn observe(body: &[u8], table: VoterSlotTable) -> Option<Reply> {
 
 // The answer, and of the table its revision and the checksum of its raw form.
 fn given_back(answer: Answer, table: VoterSlotTable) -> Reply {
-    let checksum = raw_checksum(&table, &mut [0; TABLE_SIZE]);
+    let checksum = raw_place_checksum(&table, &mut [0; TABLE_SIZE]);
     Reply::Triple(number(answer), table.revision, checksum)
 }

@@ -3,7 +3,7 @@ use codec::codec::*;
 use questions::reply::Reply;
 use raw::crc::crc32;
 use raw::fields::Fields;
-use raw::table::{TABLE_SIZE, fill_last_table, raw_checksum};
+use raw::table::{TABLE_SIZE, fill_last_table, raw_place_checksum};
 use records::records::VoterSlotTable;
 
 // The bytes of the largest table (`ends`).
@@ -32,7 +32,7 @@ pub fn read_table(body: &[u8]) -> Option<Reply> {
         table.revision,
         count as u64,
         u64::from(checksum),
-        raw_checksum(&again.table, &mut [0; TABLE_SIZE]),
+        raw_place_checksum(&again.table, &mut [0; TABLE_SIZE]),
     ))
 }
 
@@ -42,7 +42,7 @@ pub fn read_attestation(body: &[u8]) -> Reply {
     if decoded.answer.is_err() {
         return decoded.answer.into();
     }
-    let checksum = raw_checksum(&decoded.attestation, &mut [0; ATTESTATION_SIZE]);
+    let checksum = raw_place_checksum(&decoded.attestation, &mut [0; ATTESTATION_SIZE]);
     Reply::Pair(0, checksum)
 }
 

@@ -1,348 +1,300 @@
-// The raw form of oracle/FORMAT.md, record by record: the fields in the order of the struct, each at
-// its full width. Each record has its `impl` by hand, field by field: `rt verdict` refuses one that a
-// macro or a derive of this repository writes.
+// The raw form of oracle/FORMAT.md by value: what reads itself from the fields of a body, whether it
+// has a default or none. The programs fill a value where it lies (`RawPlace`), and no code here calls
+// this but the records' own: it stays for callers in Rust, whose types read themselves by it.
 use crate::fields::Fields;
+use crate::place::RawPlace;
 use crate::room::Room;
 use identity::identity::VoterSlotIdentity;
 use records::records::*;
 
-// What has a raw form: filled from the fields of a body, and written the same way. It is none where
-// they are not of the form. A value is filled where it lies: an `Option` with a table in it would be
-// copied at each `?`.
+// What has a raw form: read from the fields of a body, none where they are not of the form, and
+// written the same way.
 pub trait Raw: Sized {
-    fn fill(&mut self, fields: &mut Fields) -> Option<()>;
+    fn read(fields: &mut Fields) -> Option<Self>;
 
     fn write(&self, room: &mut Room);
-
-    // The same by value, for the small ones.
-    fn read(fields: &mut Fields) -> Option<Self>
-    where
-        Self: Default + Drop,
-    {
-        let mut value = Self::default();
-        value.fill(fields)?;
-        Some(value)
-    }
 }
 
-// There is an `impl` for each type of number, since the library has no trait of all of them.
-impl Raw for u8 {
-    fn fill(&mut self, fields: &mut Fields) -> Option<()> {
-        *self = fields.u8()?;
-        Some(())
+// One place after another. There is a first one: no array of these records is empty. The array is
+// filled by hand, since a closure that the library makes one by cannot pass on the `?` of a field.
+impl<T: Raw + Copy, const N: usize> Raw for [T; N] {
+    fn read(fields: &mut Fields) -> Option<[T; N]> {
+        let mut places = [T::read(fields)?; N];
+        for place in places.iter_mut().skip(1) {
+            *place = T::read(fields)?;
+        }
+        Some(places)
     }
 
     fn write(&self, room: &mut Room) {
-        room.bytes(&[*self]);
+        for place in self {
+            Raw::write(place, room);
+        }
+    }
+}
+
+// Each of the others is filled where it lies. There is an `impl` for each, since one for all that is a
+// `RawPlace` would stand in the way of that of an array.
+impl Raw for u8 {
+    fn read(fields: &mut Fields) -> Option<u8> {
+        RawPlace::read(fields)
+    }
+
+    fn write(&self, room: &mut Room) {
+        RawPlace::write(self, room);
     }
 }
 
 impl Raw for u16 {
-    fn fill(&mut self, fields: &mut Fields) -> Option<()> {
-        *self = fields.u16()?;
-        Some(())
+    fn read(fields: &mut Fields) -> Option<u16> {
+        RawPlace::read(fields)
     }
 
     fn write(&self, room: &mut Room) {
-        room.bytes(&self.to_be_bytes());
+        RawPlace::write(self, room);
     }
 }
 
 impl Raw for u64 {
-    fn fill(&mut self, fields: &mut Fields) -> Option<()> {
-        *self = fields.u64()?;
-        Some(())
+    fn read(fields: &mut Fields) -> Option<u64> {
+        RawPlace::read(fields)
     }
 
     fn write(&self, room: &mut Room) {
-        room.bytes(&self.to_be_bytes());
+        RawPlace::write(self, room);
     }
 }
 
 impl Raw for bool {
-    fn fill(&mut self, fields: &mut Fields) -> Option<()> {
-        *self = fields.flag()?;
-        Some(())
+    fn read(fields: &mut Fields) -> Option<bool> {
+        RawPlace::read(fields)
     }
 
     fn write(&self, room: &mut Room) {
-        u8::from(*self).write(room);
-    }
-}
-
-// One place after another. Bytes are filled by `bytes` of the fields, all at once.
-impl<T: Raw, const N: usize> Raw for [T; N] {
-    fn fill(&mut self, fields: &mut Fields) -> Option<()> {
-        for place in self {
-            place.fill(fields)?;
-        }
-        Some(())
-    }
-
-    fn write(&self, room: &mut Room) {
-        for place in self {
-            place.write(room);
-        }
+        RawPlace::write(self, room);
     }
 }
 
 impl Raw for VoterSlotTable {
-    fn fill(&mut self, fields: &mut Fields) -> Option<()> {
-        fields.bytes(&mut self.cluster_instance)?;
-        fields.bytes(&mut self.manifest_digest)?;
-        self.revision.fill(fields)?;
-        self.configuration_epoch.fill(fields)?;
-        self.slots.fill(fields)?;
-        self.count = usize::from(fields.u8()?);
-        self.has_replacement.fill(fields)?;
-        self.replacement.fill(fields)
+    fn read(fields: &mut Fields) -> Option<VoterSlotTable> {
+        RawPlace::read(fields)
     }
 
     fn write(&self, room: &mut Room) {
-        self.cluster_instance.write(room);
-        self.manifest_digest.write(room);
-        self.revision.write(room);
-        self.configuration_epoch.write(room);
-        self.slots.write(room);
-        room.count(self.count);
-        self.has_replacement.write(room);
-        self.replacement.write(room);
+        RawPlace::write(self, room);
     }
 }
 
 impl Raw for VoterSlotRecord {
-    fn fill(&mut self, fields: &mut Fields) -> Option<()> {
-        self.member.fill(fields)?;
-        self.retired_through.fill(fields)?;
-        self.phase.fill(fields)?;
-        self.has_last_result.fill(fields)?;
-        self.last_result.fill(fields)
+    fn read(fields: &mut Fields) -> Option<VoterSlotRecord> {
+        RawPlace::read(fields)
     }
 
     fn write(&self, room: &mut Room) {
-        self.member.write(room);
-        self.retired_through.write(room);
-        self.phase.write(room);
-        self.has_last_result.write(room);
-        self.last_result.write(room);
+        RawPlace::write(self, room);
     }
 }
 
 impl Raw for VoterSlotMember {
-    fn fill(&mut self, fields: &mut Fields) -> Option<()> {
-        self.identity.fill(fields)?;
-        fields.bytes(&mut self.key_digest)?;
-        fields.bytes(&mut self.descriptor_digest)?;
-        self.admission_generation.fill(fields)
+    fn read(fields: &mut Fields) -> Option<VoterSlotMember> {
+        RawPlace::read(fields)
     }
 
     fn write(&self, room: &mut Room) {
-        self.identity.write(room);
-        self.key_digest.write(room);
-        self.descriptor_digest.write(room);
-        self.admission_generation.write(room);
+        RawPlace::write(self, room);
     }
 }
 
 impl Raw for VoterSlotIdentity {
-    fn fill(&mut self, fields: &mut Fields) -> Option<()> {
-        self.slot.fill(fields)?;
-        self.incarnation.fill(fields)
+    fn read(fields: &mut Fields) -> Option<VoterSlotIdentity> {
+        RawPlace::read(fields)
     }
 
     fn write(&self, room: &mut Room) {
-        self.slot.write(room);
-        self.incarnation.write(room);
+        RawPlace::write(self, room);
     }
 }
 
 impl Raw for VoterReplacementResult {
-    fn fill(&mut self, fields: &mut Fields) -> Option<()> {
-        fields.bytes(&mut self.request_id)?;
-        fields.bytes(&mut self.request_digest)?;
-        self.incarnation.fill(fields)?;
-        self.revision.fill(fields)?;
-        self.configuration_epoch.fill(fields)?;
-        self.kind.fill(fields)?;
-        self.terminal.fill(fields)
+    fn read(fields: &mut Fields) -> Option<VoterReplacementResult> {
+        RawPlace::read(fields)
     }
 
     fn write(&self, room: &mut Room) {
-        self.request_id.write(room);
-        self.request_digest.write(room);
-        self.incarnation.write(room);
-        self.revision.write(room);
-        self.configuration_epoch.write(room);
-        self.kind.write(room);
-        self.terminal.write(room);
+        RawPlace::write(self, room);
     }
 }
 
 impl Raw for VoterReplacementRecord {
-    fn fill(&mut self, fields: &mut Fields) -> Option<()> {
-        self.expected_revision.fill(fields)?;
-        self.attestation.fill(fields)?;
-        self.predecessor.fill(fields)?;
-        self.successor.fill(fields)?;
-        self.phase.fill(fields)?;
-        self.evidence.fill(fields)
+    fn read(fields: &mut Fields) -> Option<VoterReplacementRecord> {
+        RawPlace::read(fields)
     }
 
     fn write(&self, room: &mut Room) {
-        self.expected_revision.write(room);
-        self.attestation.write(room);
-        self.predecessor.write(room);
-        self.successor.write(room);
-        self.phase.write(room);
-        self.evidence.write(room);
+        RawPlace::write(self, room);
     }
 }
 
 impl Raw for LostVoterAttestationV1 {
-    fn fill(&mut self, fields: &mut Fields) -> Option<()> {
-        fields.bytes(&mut self.request_id)?;
-        fields.bytes(&mut self.request_digest)?;
-        fields.bytes(&mut self.cluster_instance)?;
-        self.slot.fill(fields)?;
-        self.expected_incarnation.fill(fields)?;
-        fields.bytes(&mut self.old_descriptor_digest)?;
-        fields.bytes(&mut self.candidate_key_digest)?;
-        self.admission_generation.fill(fields)?;
-        self.candidate_spiffe_id.fill(fields)?;
-        self.controller_spiffe_id.fill(fields)?;
-        fields.bytes(&mut self.signing_key_digest)?;
-        self.reason.fill(fields)?;
-        fields.bytes(&mut self.policy_digest)?;
-        self.observation_start_ms.fill(fields)?;
-        self.decision_ms.fill(fields)?;
-        self.issued_ms.fill(fields)?;
-        self.expires_ms.fill(fields)?;
-        fields.bytes(&mut self.signature)
+    fn read(fields: &mut Fields) -> Option<LostVoterAttestationV1> {
+        RawPlace::read(fields)
     }
 
     fn write(&self, room: &mut Room) {
-        self.request_id.write(room);
-        self.request_digest.write(room);
-        self.cluster_instance.write(room);
-        self.slot.write(room);
-        self.expected_incarnation.write(room);
-        self.old_descriptor_digest.write(room);
-        self.candidate_key_digest.write(room);
-        self.admission_generation.write(room);
-        self.candidate_spiffe_id.write(room);
-        self.controller_spiffe_id.write(room);
-        self.signing_key_digest.write(room);
-        self.reason.write(room);
-        self.policy_digest.write(room);
-        self.observation_start_ms.write(room);
-        self.decision_ms.write(room);
-        self.issued_ms.write(room);
-        self.expires_ms.write(room);
-        self.signature.write(room);
+        RawPlace::write(self, room);
     }
 }
 
 impl Raw for VoterConfiguration {
-    fn fill(&mut self, fields: &mut Fields) -> Option<()> {
-        self.epoch.fill(fields)?;
-        self.members.fill(fields)?;
-        self.count = usize::from(fields.u8()?);
-        Some(())
+    fn read(fields: &mut Fields) -> Option<VoterConfiguration> {
+        RawPlace::read(fields)
     }
 
     fn write(&self, room: &mut Room) {
-        self.epoch.write(room);
-        self.members.write(room);
-        room.count(self.count);
+        RawPlace::write(self, room);
     }
 }
 
 impl Raw for VoterReplacementEvidence {
-    fn fill(&mut self, fields: &mut Fields) -> Option<()> {
-        self.prepare.fill(fields)?;
-        self.has_snapshot.fill(fields)?;
-        self.snapshot.fill(fields)?;
-        self.learner.fill(fields)?;
-        self.caught_up.fill(fields)?;
-        self.continuation.fill(fields)?;
-        self.fence.fill(fields)?;
-        self.joint.fill(fields)?;
-        self.uniform.fill(fields)
+    fn read(fields: &mut Fields) -> Option<VoterReplacementEvidence> {
+        RawPlace::read(fields)
     }
 
     fn write(&self, room: &mut Room) {
-        self.prepare.write(room);
-        self.has_snapshot.write(room);
-        self.snapshot.write(room);
-        self.learner.write(room);
-        self.caught_up.write(room);
-        self.continuation.write(room);
-        self.fence.write(room);
-        self.joint.write(room);
-        self.uniform.write(room);
+        RawPlace::write(self, room);
     }
 }
 
 impl Raw for VoterSnapshotEvidence {
-    fn fill(&mut self, fields: &mut Fields) -> Option<()> {
-        self.cut.fill(fields)?;
-        self.snapshot_id.fill(fields)?;
-        fields.bytes(&mut self.digest)
+    fn read(fields: &mut Fields) -> Option<VoterSnapshotEvidence> {
+        RawPlace::read(fields)
     }
 
     fn write(&self, room: &mut Room) {
-        self.cut.write(room);
-        self.snapshot_id.write(room);
-        self.digest.write(room);
+        RawPlace::write(self, room);
     }
 }
 
-// A length, which may be more than its place holds, and the place.
 impl Raw for SnapshotId {
-    fn fill(&mut self, fields: &mut Fields) -> Option<()> {
-        self.len = usize::from(fields.u16()?);
-        fields.bytes(&mut self.bytes)
+    fn read(fields: &mut Fields) -> Option<SnapshotId> {
+        RawPlace::read(fields)
     }
 
     fn write(&self, room: &mut Room) {
-        room.length(self.len);
-        self.bytes.write(room);
+        RawPlace::write(self, room);
     }
 }
 
-// A name is read and written as the id of a snapshot is: its length may be more than its place holds.
 impl Raw for SpiffeId {
-    fn fill(&mut self, fields: &mut Fields) -> Option<()> {
-        self.len = usize::from(fields.u16()?);
-        fields.bytes(&mut self.bytes)
+    fn read(fields: &mut Fields) -> Option<SpiffeId> {
+        RawPlace::read(fields)
     }
 
     fn write(&self, room: &mut Room) {
-        room.length(self.len);
-        self.bytes.write(room);
+        RawPlace::write(self, room);
     }
 }
 
 impl Raw for OptionalLogId {
-    fn fill(&mut self, fields: &mut Fields) -> Option<()> {
-        self.is_some.fill(fields)?;
-        self.cut.fill(fields)
+    fn read(fields: &mut Fields) -> Option<OptionalLogId> {
+        RawPlace::read(fields)
     }
 
     fn write(&self, room: &mut Room) {
-        self.is_some.write(room);
-        self.cut.write(room);
+        RawPlace::write(self, room);
     }
 }
 
 impl Raw for VoterSlotLogId {
-    fn fill(&mut self, fields: &mut Fields) -> Option<()> {
-        self.term.fill(fields)?;
-        self.index.fill(fields)
+    fn read(fields: &mut Fields) -> Option<VoterSlotLogId> {
+        RawPlace::read(fields)
     }
 
     fn write(&self, room: &mut Room) {
-        self.term.write(room);
-        self.index.write(room);
+        RawPlace::write(self, room);
+    }
+}
+
+#[cfg(test)]
+mod tests {
+    use super::*;
+    use crate::crc::crc32;
+    use crate::table::{TABLE_SIZE, raw_checksum};
+
+    // A caller's own type, which reads and writes itself and has no default.
+    #[derive(Clone, Copy, Drop)]
+    struct Digits {
+        first: u8,
+        second: u16,
+    }
+
+    impl Raw for Digits {
+        fn read(fields: &mut Fields) -> Option<Digits> {
+            Some(Digits {
+                first: Raw::read(fields)?,
+                second: Raw::read(fields)?,
+            })
+        }
+
+        fn write(&self, room: &mut Room) {
+            Raw::write(&self.first, room);
+            Raw::write(&self.second, room);
+        }
+    }
+
+    // Whether so many bytes, each a 1, are read to their end and written again, and one less is none.
+    fn takes<T: Raw + Drop>(size: usize) -> bool {
+        let ones = [1; TABLE_SIZE];
+        let Some(body) = ones.get(..size) else {
+            return false;
+        };
+        let Some(short) = body.split_last() else {
+            return false;
+        };
+        let mut fields = Fields::of(body);
+        let Some(value) = T::read(&mut fields) else {
+            return false;
+        };
+        let none = T::read(&mut Fields::of(short.1)).is_none();
+        let mut again = [0; TABLE_SIZE];
+        let Some(place) = again.get_mut(..size) else {
+            return false;
+        };
+        let same = raw_checksum(&value, place) == u64::from(crc32(body));
+        none & fields.end().is_some() & same
+    }
+
+    // The sizes are those of oracle/FORMAT.md.
+    #[test]
+    fn each_is_read_by_value_and_written_again(rt: HostRuntime) {
+        assert!(rt; takes::<u8>(1));
+        assert!(rt; takes::<u16>(2));
+        assert!(rt; takes::<u64>(8));
+        assert!(rt; takes::<bool>(1));
+        assert!(rt; takes::<[u8; 32]>(32));
+        assert!(rt; takes::<VoterSlotLogId>(16));
+        assert!(rt; takes::<OptionalLogId>(17));
+        assert!(rt; takes::<SnapshotId>(258));
+        assert!(rt; takes::<SpiffeId>(2050));
+        assert!(rt; takes::<VoterSnapshotEvidence>(306));
+        assert!(rt; takes::<VoterReplacementEvidence>(425));
+        assert!(rt; takes::<VoterConfiguration>(747));
+        assert!(rt; takes::<LostVoterAttestationV1>(4423));
+        assert!(rt; takes::<VoterReplacementRecord>(6351));
+        assert!(rt; takes::<VoterReplacementResult>(89));
+        assert!(rt; takes::<VoterSlotIdentity>(10));
+        assert!(rt; takes::<VoterSlotMember>(82));
+        assert!(rt; takes::<VoterSlotRecord>(181));
+        assert!(rt; takes::<VoterSlotTable>(8062));
+    }
+
+    // The checksum of these nine digits is the check value that CRC-32 is published with.
+    #[test]
+    fn a_caller_s_type_is_read_by_value(rt: HostRuntime) {
+        let digits = <[Digits; 3]>::read(&mut Fields::of(b"123456789")).unwrap_or([Digits {
+            first: 0,
+            second: 0,
+        }; 3]);
+        assert_eq!(rt; raw_checksum(&digits, &mut [0; 9]), 0xCBF43926);
     }
 }

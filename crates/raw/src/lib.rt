@@ -5,5 +5,6 @@
 pub mod crc;
 pub mod fields;
 pub mod form;
+pub mod place;
 pub mod room;
 pub mod table;

@@ -4,6 +4,7 @@
 use crate::crc::crc32;
 use crate::fields::Fields;
 use crate::form::Raw;
+use crate::place::RawPlace;
 use crate::room::Room;
 use records::records::VoterSlotTable;
 
@@ -62,18 +63,24 @@ fn lay_piece(raw: &mut [u8; TABLE_SIZE], free: usize, fields: &mut Fields) -> Op
 
 // The table that the bytes stand for: none where a flag is neither 0 nor 1, also in absent parts.
 pub fn table_in(raw: &[u8; TABLE_SIZE]) -> Option<VoterSlotTable> {
-    Raw::read(&mut Fields::of(raw))
+    RawPlace::read(&mut Fields::of(raw))
 }
 
 // The table that the bytes stand for, whatever they are: a flag that is not 1 is a no. All fields are
 // there, since the bytes are as many as those of the raw form.
 pub fn table_of(raw: &[u8; TABLE_SIZE]) -> VoterSlotTable {
-    Raw::read(&mut Fields::of_any(raw)).unwrap_or_default()
+    RawPlace::read(&mut Fields::of_any(raw)).unwrap_or_default()
 }
 
 // The checksum of a value's raw form, which is laid to the start of `raw`: it stands for the value in
-// a reply.
+// a reply. No code here calls it: it stays for callers in Rust, whose types write themselves.
 pub fn raw_checksum<T: Raw>(value: &T, raw: &mut [u8]) -> u64 {
+    value.write(&mut Room::of(raw));
+    u64::from(crc32(raw))
+}
+
+// The same of a value that is filled where it lies, for the programs.
+pub fn raw_place_checksum<T: RawPlace>(value: &T, raw: &mut [u8]) -> u64 {
     value.write(&mut Room::of(raw));
     u64::from(crc32(raw))
 }

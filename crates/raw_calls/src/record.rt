@@ -13,7 +13,7 @@ use control::sets::VoterObservation;
 use identity::identity::ConsensusIdentity;
 use identity::text::MAX_VOTER_SNAPSHOT_ID_BYTES;
 use raw::fields::Fields;
-use raw::form::Raw;
+use raw::place::RawPlace;
 use records::records::*;
 
 // A Marker: cut 16, request_id 16, request_digest 32.
@@ -27,7 +27,7 @@ pub fn marker_in(body: &[u8]) -> Option<VoterCommand> {
 // The front of a command that names its request.
 fn named(kind: u8, fields: &mut Fields) -> Option<VoterCommand> {
     Some(VoterCommand {
-        cut: Raw::read(fields)?,
+        cut: RawPlace::read(fields)?,
         control: VoterSlotControl {
             kind,
             request: VoterReplacementRequest::default(),
@@ -54,7 +54,7 @@ fn step(fields: &mut Fields) -> Option<VoterReplacementStep> {
     step.kind = kind;
     match kind {
         RECORD_SNAPSHOT => step.snapshot = snapshot(fields)?,
-        RECORD_CAUGHT_UP => step.caught_up = Raw::read(fields)?,
+        RECORD_CAUGHT_UP => step.caught_up = RawPlace::read(fields)?,
         _ if kind <= FINALIZE => {}
         _ => return None,
     }
@@ -64,7 +64,7 @@ fn step(fields: &mut Fields) -> Option<VoterReplacementStep> {
 // A snapshot: cut 16, the id with its size of 2 before it, digest 32.
 fn snapshot(fields: &mut Fields) -> Option<VoterSnapshotEvidence> {
     Some(VoterSnapshotEvidence {
-        cut: Raw::read(fields)?,
+        cut: RawPlace::read(fields)?,
         snapshot_id: snapshot_id(fields)?,
         digest: fields.array()?,
     })
@@ -97,10 +97,10 @@ pub struct Begin<'a> {
 pub fn begin_in(body: &[u8]) -> Option<Begin<'_>> {
     let mut fields = Fields::of(body);
     let begin = Begin {
-        cut: Raw::read(&mut fields)?,
+        cut: RawPlace::read(&mut fields)?,
         expected_revision: fields.u64()?,
         expected_configuration: configuration(&mut fields)?,
-        candidate: Raw::read(&mut fields)?,
+        candidate: RawPlace::read(&mut fields)?,
         attestation: sized(&mut fields)?,
         supplied_request_digest: fields.array()?,
         supplied_configuration_id: fields.array()?,
@@ -156,7 +156,7 @@ pub fn observation_in<'a>(
     body: &[u8],
 ) -> Option<VoterObservation<'a>> {
     let mut fields = Fields::of(body);
-    let cut = Raw::read(&mut fields)?;
+    let cut = RawPlace::read(&mut fields)?;
     let sets = usize::from(fields.u8()?);
     let counts = counts.get_mut(..sets)?;
     let in_sets = lay_sets(ids, counts, &mut fields)?;
