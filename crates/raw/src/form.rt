@@ -1,6 +1,6 @@
 // The raw form of oracle/FORMAT.md by value: what reads itself from the fields of a body, whether it
-// has a default or none. The programs fill a value where it lies (`RawPlace`), and no code here calls
-// this but the records' own: it stays for callers in Rust, whose types read themselves by it.
+// has a default or none. The programs fill a value where it lies (`RawPlace`), and only the tests go
+// by this: it stays for callers in Rust, who have types of their own.
 use crate::fields::Fields;
 use crate::place::RawPlace;
 use crate::room::Room;
@@ -242,25 +242,29 @@ mod tests {
         }
     }
 
-    // Whether so many bytes, each a 1, are read to their end and written again, and one less is none.
+    // Whether so many bytes are read to their end and written again, with nothing after them, and one
+    // less is none. Each byte is 0 or 1, as a flag is, and two fields one beside the other differ.
     fn takes<T: Raw + Drop>(size: usize) -> bool {
-        let ones = [1; TABLE_SIZE];
-        let Some(body) = ones.get(..size) else {
+        let mut bytes = [0; TABLE_SIZE + 1];
+        for (i, byte) in bytes.iter_mut().enumerate().take(size) {
+            *byte = u8::from(i % 3 != 1);
+        }
+        let (Some(body), Some(longer)) = (bytes.get(..size), bytes.get(..=size)) else {
             return false;
         };
-        let Some(short) = body.split_last() else {
+        let Some((_, short)) = body.split_last() else {
             return false;
         };
         let mut fields = Fields::of(body);
         let Some(value) = T::read(&mut fields) else {
             return false;
         };
-        let none = T::read(&mut Fields::of(short.1)).is_none();
-        let mut again = [0; TABLE_SIZE];
-        let Some(place) = again.get_mut(..size) else {
+        let none = T::read(&mut Fields::of(short)).is_none();
+        let mut again = [0; TABLE_SIZE + 1];
+        let Some(place) = again.get_mut(..=size) else {
             return false;
         };
-        let same = raw_checksum(&value, place) == u64::from(crc32(body));
+        let same = raw_checksum(&value, place) == u64::from(crc32(longer));
         none & fields.end().is_some() & same
     }
 

@@ -2,7 +2,7 @@
 // its full width. Each record has its `impl` by hand, field by field: `rt verdict` refuses one that a
 // macro or a derive of this repository writes.
 //
-// What a type that is no record of the port has to have for the raw form is `Raw` (form.rt).
+// A caller's own type may be `Raw` in place of this (form.rt): it needs no default for that.
 use crate::fields::Fields;
 use crate::room::Room;
 use identity::identity::VoterSlotIdentity;

@@ -75,7 +75,7 @@ pub fn table_of(raw: &[u8; TABLE_SIZE]) -> VoterSlotTable {
 // The checksum of a value's raw form, which is laid to the start of `raw`: it stands for the value in
 // a reply. No code here calls it: it stays for callers in Rust, whose types write themselves.
 pub fn raw_checksum<T: Raw>(value: &T, raw: &mut [u8]) -> u64 {
-    value.write(&mut Room::of(raw));
+    Raw::write(value, &mut Room::of(raw));
     u64::from(crc32(raw))
 }
 
