@@ -33,7 +33,7 @@ impl<T: Raw + Copy, const N: usize> Raw for [T; N] {
     }
 }
 
-// Each of the others is filled where it lies. There is an `impl` for each, since one for all that is a
+// Each of the others is filled where it lies. There is an `impl` for each, since one for every
 // `RawPlace` would stand in the way of that of an array.
 impl Raw for u8 {
     fn read(fields: &mut Fields) -> Option<u8> {
@@ -243,11 +243,12 @@ mod tests {
     }
 
     // Whether so many bytes are read to their end and written again, with nothing after them, and one
-    // less is none. Each byte is 0 or 1, as a flag is, and two fields one beside the other differ.
+    // less is none. Each of them is 0 or 1, as a flag is, and fields side by side differ. A 2, which no
+    // field writes, stands after them.
     fn takes<T: Raw + Drop>(size: usize) -> bool {
-        let mut bytes = [0; TABLE_SIZE + 1];
+        let mut bytes = [2; TABLE_SIZE + 1];
         for (i, byte) in bytes.iter_mut().enumerate().take(size) {
-            *byte = u8::from(i % 3 != 1);
+            *byte = u8::from(i % 13 < 7);
         }
         let (Some(body), Some(longer)) = (bytes.get(..size), bytes.get(..=size)) else {
             return false;
@@ -260,7 +261,7 @@ mod tests {
             return false;
         };
         let none = T::read(&mut Fields::of(short)).is_none();
-        let mut again = [0; TABLE_SIZE + 1];
+        let mut again = [2; TABLE_SIZE + 1];
         let Some(place) = again.get_mut(..=size) else {
             return false;
         };

@@ -73,7 +73,7 @@ pub fn table_of(raw: &[u8; TABLE_SIZE]) -> VoterSlotTable {
 }
 
 // The checksum of a value's raw form, which is laid to the start of `raw`: it stands for the value in
-// a reply. No code here calls it: it stays for callers in Rust, whose types write themselves.
+// a reply. Only the tests call it: it stays for callers in Rust, who have types of their own.
 pub fn raw_checksum<T: Raw>(value: &T, raw: &mut [u8]) -> u64 {
     Raw::write(value, &mut Room::of(raw));
     u64::from(crc32(raw))
