@@ -61,8 +61,10 @@ class Edit:
                 kinds.add('definition')
             else:
                 # A contract that is repeated in the new text, with code after it, is an edit of the
-                # code.
-                kinds.add('contract' if re.search(r'ensures( \w+)? \{', old) and not new.startswith(old) else 'code')
+                # code. A method that a trait declares has a contract alone.
+                changed = re.search(r'ensures( \w+)? \{', old) and not new.startswith(old)
+                planted = old.endswith(';') and new.startswith(old[:-1] + ' ensures')
+                kinds.add('contract' if changed or planted else 'code')
         if len(kinds) != 1:
             raise BadEdit(f'{self.path}: it changes {" and ".join(sorted(kinds)) or "nothing but imports"}, and not one kind of thing')
         return kinds.pop()

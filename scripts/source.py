@@ -115,6 +115,9 @@ class Source:
                 owner = None
             if word == '#':
                 i = closing(tokens, i + 1) + 1
+            elif word == 'mod' and tokens[i + 2].text == '{':
+                # the tests of the file, which the check leaves out
+                i = closing(tokens, i + 2) + 1
             elif word in ('ghost', 'use', 'mod'):
                 i = self.imports(crate, tokens, i, scope)
             elif word in ('const', 'type'):
@@ -221,7 +224,8 @@ class Source:
         if tokens[at].text == '->':
             first = at + 1
             while tokens[at].text not in ('requires', 'ensures', 'ghost', '{', ';'):
-                at += 1
+                # the `;` of an array, `[T; N]`, is no end
+                at = (closing(tokens, at) if tokens[at].text == '[' else at) + 1
             result = self.type_text(tokens, first, at)
         clauses = set()
         while tokens[at].text != '{':

@@ -44,8 +44,12 @@ REFUSED = ('fact', 'shape and fact')
 def users(source, crate, before):
     """The functions of a crate that name the constant that a text ends in, directly or through
     constants made of it; or, where it ends in the cases of an enum, those that are given such a case
-    and cast it to its number."""
-    kind, name = (re.findall(r'\b(const|enum) (\w+)', before) or [('', '')])[-1]
+    and cast it to its number; or, where it ends in a method that a trait declares, those of the
+    types."""
+    kind, name = (re.findall(r'\b(const|enum|trait) (\w+)', before) or [('', '')])[-1]
+    if kind == 'trait':
+        method = re.findall(r'\bfn (\w+)', before)[-1]
+        return [f for f, full in source.of_traits.items() if f.crate == crate and full.endswith(f'{name}::{method}')]
     if kind == 'enum':
         kinds = {name} | {alias for alias, value in source.aliases.items() if name in re.findall(r'\w+', value)}
         return [f for f in source.functions if f.crate == crate and casts(f) and any(kinds & set(re.findall(r'\w+', given)) for _, given in f.parameters)]
